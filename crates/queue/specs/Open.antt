@@ -1,0 +1,40 @@
+-- "Opening: 4 to 8 as above, 11 load depth, 12 store depth, 13 memory length, 14 some group has more loads or stores than
+-- its depth." "Both series begin at the first serial."
+use Prim.Native.Nat.{ℕ}
+use mathlib.Core.Bool.{Bool, _&&_}
+use mathlib.Core.List.{List, []}
+use lib.Dec.{leb, eqb}
+use lib.ListN.{length}
+use Rattle.table.specs.Basics.{all}
+use Rattle.table.specs.Group.{GroupPairs}
+use Rattle.table.specs.Table.{tableFault}
+use Rattle.queue.specs.Refusal.{badLoadDepth, badStoreDepth, badMemoryLength, groupTooLarge}
+use Rattle.queue.specs.Ruled.{Ruled, accept, need}
+use Rattle.queue.specs.Contents.{Contents}
+use Rattle.queue.specs.Sound.{depthRight, memoryRight}
+
+abbrev pub groupFits : ℕ → ℕ → GroupPairs → Bool
+groupFits loadDepth storeDepth g = leb (length (g .loads)) loadDepth && leb (length (g .stores)) storeDepth
+
+-- the queue that an accepted opening gives: no entry yet
+abbrev pub opened : List GroupPairs → ℕ → ℕ → ℕ → ℕ → Contents
+opened groups loadDepth storeDepth first words = record {
+  groups = groups;
+  memoryLength = words;
+  loadDepth = loadDepth;
+  nextLoad = first;
+  loads = [];
+  storeDepth = storeDepth;
+  nextStore = first;
+  stores = [];
+}
+
+-- open groups (load depth) (store depth) (first serial) (memory length)
+unfoldable pub openQueue : List GroupPairs → ℕ → ℕ → ℕ → ℕ → Ruled Contents
+openQueue groups loadDepth storeDepth first words =
+    need (eqb (tableFault groups) 0) (tableFault groups)
+    (need (depthRight loadDepth) badLoadDepth
+    (need (depthRight storeDepth) badStoreDepth
+    (need (memoryRight words) badMemoryLength
+    (need (all (groupFits loadDepth storeDepth) groups) groupTooLarge
+    (accept (opened groups loadDepth storeDepth first words))))))

@@ -1,0 +1,36 @@
+-- "Take gives the value of the port's oldest untaken load." "Take: 22; 33 no untaken load of the port is queued; 34 the
+-- oldest is not served."
+use Prim.Native.Nat.{ℕ}
+use mathlib.Core.Bool.{Bool, true, not, _&&_}
+use mathlib.Core.List.{List}
+use mathlib.Core.Option.{Option}
+use lib.Dec.{eqb}
+use Rattle.table.specs.Basics.{any, nth}
+use Rattle.queue.specs.Refusal.{unsound, noPort, noneUntaken, notServed}
+use Rattle.queue.specs.Ruled.{Ruled, accept, need, have}
+use Rattle.queue.specs.Contents.{Load, Contents, withLoads, updateAt, firstPlace}
+use Rattle.queue.specs.Sound.{sound}
+use Rattle.queue.specs.Arguments.{isLoadPort}
+use Rattle.queue.specs.Write.{settle}
+
+-- what an accepted take gives
+pub record Taken : Type 0 where
+  pub value : ℕ
+  pub queue : Contents
+
+abbrev pub untaken : ℕ → Load → Bool
+untaken port l = eqb (l .port) port && not (l .taken)
+
+abbrev pub loadTaken : Load → Load
+loadTaken l = record { port = l .port; address = l .address; value = l .value; taken = true; before = l .before }
+
+unfoldable pub take : Contents → ℕ → Ruled Taken
+take q port =
+    need (sound q) unsound
+    (need (any (isLoadPort port) (q .groups)) noPort
+    (have (nth (q .loads) (firstPlace (untaken port) (q .loads))) noneUntaken λ l.
+    have (l .value) notServed λ v.
+    accept (record {
+      value = v;
+      queue = settle (withLoads q (updateAt loadTaken (firstPlace (untaken port) (q .loads)) (q .loads)));
+    })))

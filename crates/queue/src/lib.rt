@@ -1,0 +1,57 @@
+// The group-allocated load-store queue: its record, and every call on it.
+// A call is handed the queue by value and gives back the queue that follows.
+use table::Table;
+
+// A load that was activated. The address means something only where `addressed`, the value only where `served`.
+pub struct LoadEntry {
+    pub port: u8,
+    // how many queued stores come before it
+    pub before: u8,
+    pub addressed: bool,
+    pub served: bool,
+    pub taken: bool,
+    pub address: u16,
+    pub value: u32,
+}
+
+// A store that was activated. The address means something only where `addressed`, the word only where `filled`.
+pub struct StoreEntry {
+    pub port: u8,
+    // how many queued loads come before it
+    pub before: u8,
+    pub addressed: bool,
+    pub filled: bool,
+    pub written: bool,
+    pub address: u16,
+    pub word: u32,
+}
+
+// The load side: its depth, the next serial, and the entries from the oldest. Places beyond the count mean nothing.
+pub struct Loads {
+    pub depth: u8,
+    pub count: u8,
+    pub next: u32,
+    pub entries: [LoadEntry; 64],
+}
+
+// The store side, likewise.
+pub struct Stores {
+    pub depth: u8,
+    pub count: u8,
+    pub next: u32,
+    pub entries: [StoreEntry; 64],
+}
+
+// A queue: its table, the memory length that it was opened for, and both sides.
+pub struct Queue {
+    pub table: Table,
+    pub words: u16,
+    pub loads: Loads,
+    pub stores: Stores,
+}
+
+// Loads served, and loads forwarded.
+pub struct Counts {
+    pub loads: u32,
+    pub forwarded: u32,
+}

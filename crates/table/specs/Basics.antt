@@ -1,0 +1,67 @@
+-- Words that the definitions are written with. Every one of them computes on closed arguments.
+use Prim.Native.Nat.{ℕ, zero, suc, _-_}
+use mathlib.Core.Bool.{Bool, true, false, _&&_, _||_}
+use mathlib.Core.List.{List, [], _∷_, _++_}
+use mathlib.Core.Option.{Option, none, some}
+use lib.Dec.{eqb, leb}
+use lib.ListN.{length, take, replicate}
+
+-- a where the test holds, else b
+abbrev pub pick : {A : Type 0} → Bool → A → A → A
+pick true a b = a
+pick false a b = b
+
+-- does some element pass; does every element pass
+abbrev pub any : {A : Type 0} → (A → Bool) → List A → Bool
+any p [] = false
+any p (x ∷ xs) = p x || any p xs
+
+abbrev pub all : {A : Type 0} → (A → Bool) → List A → Bool
+all p [] = true
+all p (x ∷ xs) = p x && all p xs
+
+-- how many elements pass
+abbrev pub count : {A : Type 0} → (A → Bool) → List A → ℕ
+count p [] = 0
+count p (x ∷ xs) = pick (p x) (suc (count p xs)) (count p xs)
+
+-- the elements that pass, in order
+abbrev pub filter : {A : Type 0} → (A → Bool) → List A → List A
+filter p [] = []
+filter p (x ∷ xs) = pick (p x) (x ∷ filter p xs) (filter p xs)
+
+-- the elements at the front that pass; the list from the first that does not
+abbrev pub takeWhile : {A : Type 0} → (A → Bool) → List A → List A
+takeWhile p [] = []
+takeWhile p (x ∷ xs) = pick (p x) (x ∷ takeWhile p xs) []
+
+abbrev pub dropWhile : {A : Type 0} → (A → Bool) → List A → List A
+dropWhile p [] = []
+dropWhile p (x ∷ xs) = pick (p x) (dropWhile p xs) (x ∷ xs)
+
+-- the element at a place, or none past the end
+abbrev pub nth : {A : Type 0} → List A → ℕ → Option A
+nth [] n = none
+nth (x ∷ xs) zero = some x
+nth (x ∷ xs) (suc n) = nth xs n
+
+-- is the number in the list
+abbrev pub member : ℕ → List ℕ → Bool
+member n = any (eqb n)
+
+-- is the number from lo to hi
+abbrev pub within : ℕ → ℕ → ℕ → Bool
+within lo hi n = leb lo n && leb n hi
+
+-- What an array and a count of it hold: its first `n` places. Places beyond the count mean nothing,
+-- and a count beyond the array counts blanks, so that the list is always as long as the count.
+abbrev pub held : {A : Type 0} → A → ℕ → List A → List A
+held blank n l = take n l ++ replicate (n - length l) blank
+
+-- the refusal number where the test fails, else what follows; 0 is "right"
+abbrev pub check : Bool → ℕ → ℕ → ℕ
+check test number rest = pick test rest number
+
+-- the first refusal of two: the second only where the first is 0
+abbrev pub orElse : ℕ → ℕ → ℕ
+orElse n rest = pick (eqb n 0) rest n

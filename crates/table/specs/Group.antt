@@ -1,0 +1,44 @@
+-- A group's accesses and their program order. Document 01, "Bytes and tables".
+use Prim.Native.Nat.{ℕ, zero, suc}
+use mathlib.Core.Bool.{Bool}
+use mathlib.Core.List.{List, [], _∷_, _++_, map}
+use lib.Dec.{leb}
+use Rattle.table.specs.declared.Pair.{Pair}
+use Rattle.table.specs.declared.Pairs.{Pairs}
+use Rattle.table.specs.declared.Group.{Group}
+use Rattle.table.specs.Basics.{held, takeWhile, dropWhile}
+
+-- A group as it is meant: its loads and its stores, as many as its counts say.
+pub record GroupPairs : Type 0 where
+  pub loads : List Pair
+  pub stores : List Pair
+
+abbrev pub blankPair : Pair
+blankPair = record { offset = 0; port = 0 }
+
+abbrev pub listOf : Pairs → List Pair
+listOf ps = held blankPair (ps .count) (ps .places)
+
+abbrev pub pairsOf : Group → GroupPairs
+pairsOf g = record { loads = listOf (g .loads); stores = listOf (g .stores) }
+
+-- An access: a load or a store, of a port.
+pub data Access : Type 0 where
+  load : ℕ → Access
+  store : ℕ → Access
+
+-- "Load i is before store j when its offset is at most j."
+abbrev pub beforeStore : ℕ → Pair → Bool
+beforeStore j l = leb (l .offset) j
+
+abbrev pub asLoad : Pair → Access
+asLoad p = load (p .port)
+
+-- The accesses from store j on, where `loads` are the loads that no earlier store has passed.
+abbrev pub orderFrom : ℕ → List Pair → List Pair → List Access
+orderFrom j loads [] = map asLoad loads
+orderFrom j loads (s ∷ ss) = map asLoad (takeWhile (beforeStore j) loads) ++ store (s .port) ∷ orderFrom (suc j) (dropWhile (beforeStore j) loads) ss
+
+-- The program order of a group's accesses: "the load offsets fix the order".
+abbrev pub order : GroupPairs → List Access
+order g = orderFrom 0 (g .loads) (g .stores)

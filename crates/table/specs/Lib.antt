@@ -1,5 +1,9 @@
 -- What the crate's contracts mean, in the order of document 01.
 pub mod Basics
 pub mod Refusal
+pub mod Number
+pub mod Splice
 pub mod Group
 pub mod Table
+pub mod TableBytes
+pub mod Event

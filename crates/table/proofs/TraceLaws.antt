@@ -1,0 +1,17 @@
+-- Laws of reading events at a place.
+use Prim.Native.Nat.{ℕ, suc, _≤_, _<_}
+use mathlib.Core.Path.{_≡_, refl, sym, ap, _∙_}
+use mathlib.Core.List.{List, [], _∷_}
+use lib.ListN.{length, getD, drop, drop-of-length-le}
+use lib.Seq.{drop-cons}
+use Rattle.table.specs.declared.EventRead.{EventRead}
+use Rattle.table.specs.declared.EventRead.the-variants.{End}
+use Rattle.table.specs.Event.{eventAnswer, eventIn, eventAt, readEvent}
+
+pub event-at-end : (s : List ℕ) (place : ℕ) → length s ≤ place → eventAt s place ≡ End
+unfolding eventAt
+event-at-end s place h = rw (drop-of-length-le s h)
+
+pub event-at-inside : (s : List ℕ) (place : ℕ) → place < length s → eventAt s place ≡ eventAnswer s (readEvent (drop place s))
+unfolding eventAt
+event-at-inside s place h = rw (drop-cons s place 0 h)

@@ -1,0 +1,39 @@
+-- The length is known before the first byte is written, so a refusal leaves the buffer as it was.
+use Prim.Native.Nat.{_≤_, _<_}
+use mathlib.Core.Path.{_≡_, refl, ap}
+use native.Mathlib.Omega.{arith}
+use lib.ListN.{length}
+use borrow.Author.Needs.{needs}
+use Rattle.table.specs.declared.Written.the-variants.{Bytes}
+use Rattle.table.specs.Number.{numberBytes}
+use Rattle.table.proofs.SpliceLaws.{wrote-short, wrote-fits}
+use Rattle.table.proofs.number.write_number.Statement.{statement}
+use Rattle.table.proofs.number.write_number.Tie as tie
+
+-- the length that was asked for is that of the bytes
+long : (c : tie.After-number-length) → c .number-length .result ≡ length (numberBytes (c .before .before .args .value))
+long c = c .number-length .ensures .1
+
+number-length-requires : tie.Need-number-length-requires
+number-length-requires c κs = search needs
+
+returns : tie.Need-returns
+returns c = rw (wrote-short (numberBytes (c .before .before .before .args .value)) (c .before .before .before .args .out .now) (omega (arith, long (c .before)))) (refl, refl)
+
+fits : (c : tie.Else1) → length (numberBytes (c .before .before .before .args .value)) ≤ length (c .before .before .before .args .out .now)
+fits c = omega (arith, long (c .before))
+
+put-number-requires : tie.Need-put-number-requires
+put-number-requires c κs = omega (arith, fits (c .before))
+
+same-length : tie.Need-same-length
+same-length c = search needs
+
+returns-2 : tie.Need-returns-2
+returns-2 c =
+    let e = c .before .before .before .before in
+    rw (wrote-fits (numberBytes (e .before .before .before .args .value)) (e .before .before .before .args .out .now) (fits e)) (ap Bytes (long (e .before)), c .before .before .put-number .ensures .1)
+
+pub write-number-spec : {M : Type 1} → statement M
+write-number-spec =
+    tie.close (tie.spec number-length-requires returns put-number-requires same-length returns-2)

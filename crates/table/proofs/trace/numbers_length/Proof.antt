@@ -1,0 +1,75 @@
+use Prim.Native.Nat.{_≤_, _<_, _*_, _-_}
+use mathlib.Core.Path.{_≡_, refl, _∙_}
+use native.Mathlib.Omega.{arith}
+use native.Mathlib.Numerals.{add-one}
+use lib.ListN.{length, take, getD}
+use borrow.Author.Needs.{needs}
+use Rattle.table.specs.Number.{bytesOf}
+use Rattle.table.proofs.SpliceLaws.{bytes-most, Counted, counted-none, counted-more, counted-end}
+use Rattle.table.proofs.trace.numbers_length.Statement.{statement}
+use Rattle.table.proofs.trace.numbers_length.Tie as tie
+use Rattle.table.proofs.trace.numbers_length.Reads as reads
+use Rattle.table.proofs.trace.numbers_length.Lts as lts
+use Rattle.table.proofs.number.number_length.Reads as number-length-reads
+
+abbrev Inv-loop : tie.InvT-loop
+Inv-loop numbers count total₀ i₀ total i = (i ≤ count) × (total ≤ 5 * i) × Counted (numbers .values) i total
+
+abbrev μ-loop : tie.MeasureT-loop
+μ-loop numbers count total₀ i₀ total i = count - i
+
+-- src/trace.rt:168:5
+loop-holds : tie.Need-loop-holds Inv-loop μ-loop
+loop-holds c = (search needs, search needs, counted-none)
+
+-- src/trace.rt:169:32
+mul-number-length : tie.Need-mul-number-length Inv-loop μ-loop
+mul-number-length c = omega arith
+
+-- src/trace.rt:169:32
+element-copy-out-number-length : tie.Need-element-copy-out-number-length Inv-loop μ-loop
+element-copy-out-number-length c = omega arith
+
+-- src/trace.rt:169:18
+number-length-requires : tie.Need-number-length-requires Inv-loop μ-loop
+number-length-requires c κs = search needs
+
+-- src/trace.rt:169:9
+add-total : tie.Need-add-total Inv-loop μ-loop
+add-total c = omega (arith, c .number-length .ensures .1, bytes-most (getD (c .before .before .before .before .args .t1 .values) (c .before .before .before .loop .i) 0))
+
+-- src/trace.rt:170:9
+add-i : tie.Need-add-i Inv-loop μ-loop
+add-i c = omega arith
+
+-- src/trace.rt:168:5
+loop-less : tie.Need-loop-less Inv-loop μ-loop
+loop-less c = omega arith
+
+-- src/trace.rt:168:5
+loop-again : tie.Need-loop-again Inv-loop μ-loop
+loop-again c =
+    let i = c .before .before .before .loop .inv in
+    let e : length (c .before .before .before .before .args .t1 .values) ≡ 4 = search needs in
+    let r : c .before .before .before .loop .i < length (c .before .before .before .before .args .t1 .values) = omega arith in
+    (omega arith, omega (arith, c .number-length .ensures .1, bytes-most (getD (c .before .before .before .before .args .t1 .values) (c .before .before .before .loop .i) 0)), counted-more (i .2) r (c .number-length .ensures .1))
+
+-- src/trace.rt:161:1
+returns : tie.Need-returns Inv-loop μ-loop
+returns c = counted-end {count = c .before .before .args .t1 .count} (c .before .loop .inv .2) (omega arith)
+
+pub numbers-length-spec : {M : Type 1} → statement M
+numbers-length-spec =
+    tie.close
+    (tie.spec
+    Inv-loop
+    μ-loop
+    loop-holds
+    mul-number-length
+    element-copy-out-number-length
+    number-length-requires
+    add-total
+    add-i
+    loop-less
+    loop-again
+    returns)

@@ -1,0 +1,93 @@
+use Prim.Native.Nat.{_≤_, _<_, _+_, _-_}
+use mathlib.Core.Path.{_≡_, refl, _∙_, ap}
+use native.Mathlib.Omega.{arith}
+use native.Mathlib.Numerals.{add-one}
+use lib.ListN.{length, take, getD}
+use lib.Seq.{take-suc}
+use borrow.Author.Needs.{needs}
+use Rattle.table.specs.Number.{bytesOf, numberBytes}
+use Rattle.table.proofs.SpliceLaws.{Put, put-none, put-length, put-one, bytes-room}
+use Rattle.table.proofs.trace.put_numbers.Statement.{statement}
+use Rattle.table.proofs.trace.put_numbers.Tie as tie
+use Rattle.table.proofs.trace.put_numbers.Reads as reads
+use Rattle.table.proofs.trace.put_numbers.Lts as lts
+use Rattle.table.proofs.number.put_number.Reads as put-number-reads
+
+abbrev Inv-loop : tie.InvT-loop
+Inv-loop out₀ numbers count place₀ i₀ out place i = (i ≤ count) × Put out₀ 0 (take i (numbers .values)) out place
+
+abbrev μ-loop : tie.MeasureT-loop
+μ-loop out₀ numbers count place₀ i₀ out place i = count - i
+
+-- src/trace.rt:183:5
+whole : (c : tie.Start Inv-loop μ-loop) → c .args .t1 .count ≤ length (c .args .t1 .values)
+whole c =
+    let e : length (c .args .t1 .values) ≡ 4 = search needs in
+    omega (arith, c .pre .0)
+
+-- there is room for the next number
+next-fits : (c : tie.In-loop Inv-loop μ-loop) → length (bytesOf (take (c .before .loop .i) (c .before .before .before .args .t1 .values))) + length (numberBytes (getD (c .before .before .before .args .t1 .values) (c .before .loop .i) 0)) ≤ length (c .before .before .before .args .out .now)
+next-fits c =
+    let s = c .before .before .before in
+    omega (arith, bytes-room (s .args .t1 .values) (s .args .t1 .count) (c .before .loop .i) (c .loop-test .taken) (whole s), s .pre .1)
+
+loop-holds : tie.Need-loop-holds Inv-loop μ-loop
+loop-holds c = (search needs, put-none)
+
+-- src/trace.rt:184:40
+mul-put-number : tie.Need-mul-put-number Inv-loop μ-loop
+mul-put-number c = omega arith
+
+-- src/trace.rt:184:40
+element-copy-out-put-number : tie.Need-element-copy-out-put-number Inv-loop μ-loop
+element-copy-out-put-number c = omega arith
+
+-- src/trace.rt:184:9
+put-number-requires : tie.Need-put-number-requires Inv-loop μ-loop
+put-number-requires c κs =
+    let l = c .before .before in
+    omega (arith, next-fits l, put-length (l .before .loop .inv .1) (omega (arith, next-fits l)), l .before .loop .inv .1 .ends)
+
+-- src/trace.rt:185:9
+add-i : tie.Need-add-i Inv-loop μ-loop
+add-i c = omega arith
+
+-- src/trace.rt:183:5
+loop-less : tie.Need-loop-less Inv-loop μ-loop
+loop-less c = omega arith
+
+-- src/trace.rt:183:5
+loop-again : tie.Need-loop-again Inv-loop μ-loop
+loop-again c =
+    let p = c .before .before in
+    let l = p .before .before .before in
+    let v = l .before .before .before .args .t1 .values in
+    let i = l .before .loop .i in
+    (omega arith, rw (add-one, take-suc v i 0 (omega (arith, whole (l .before .before .before), l .loop-test .taken))) (put-one (l .before .loop .inv .1) (getD v i 0) (omega (arith, next-fits l)) (p .put-number .ensures .1) (p .put-number .ensures .0)))
+
+-- src/trace.rt:176:1
+all-put : (c : tie.After-loop Inv-loop μ-loop) → c .before .loop .i ≡ c .before .before .before .args .t1 .count
+all-put c = omega arith
+
+same-length : tie.Need-same-length Inv-loop μ-loop
+same-length c = put-length (c .before .loop .inv .1) (rw (all-put c) (omega (arith, c .before .before .before .pre .1)))
+
+-- src/trace.rt:176:1
+returns : tie.Need-returns Inv-loop μ-loop
+returns c = c .before .loop .inv .1 .is ∙ rw (all-put c)
+
+pub put-numbers-spec : {M : Type 1} → statement M
+put-numbers-spec =
+    tie.close
+    (tie.spec
+    Inv-loop
+    μ-loop
+    loop-holds
+    mul-put-number
+    element-copy-out-put-number
+    put-number-requires
+    add-i
+    loop-less
+    loop-again
+    same-length
+    returns)

@@ -1,0 +1,68 @@
+use mathlib.Core.Path.{_≡_, sym, ap, _∙_}
+use lib.ListN.{drop}
+use Rattle.table.specs.Number.{numberRefusal}
+use Rattle.table.specs.Event.{readEvent}
+use Rattle.table.proofs.NumberLaws.{NumberGot, number-got, number-bad}
+use Rattle.table.proofs.TraceLaws.{event-at-end, event-at-inside}
+use borrow.Author.Needs.{needs}
+use Rattle.table.proofs.trace.read_event.Statement.{statement}
+use Rattle.table.proofs.trace.read_event.Tie as tie
+use Rattle.table.proofs.trace.read_event.Reads as reads
+use Rattle.table.proofs.trace.read_event.Lts as lts
+use Rattle.table.proofs.number.number_refusal.Reads as number-refusal-reads
+use Rattle.table.proofs.number.read_number.Reads as read-number-reads
+use Rattle.table.proofs.trace.read_kind.Reads as read-kind-reads
+
+-- src/trace.rt:135:9
+returns : tie.Need-returns
+returns c = sym (event-at-end _ _ (c .if1 .taken))
+
+-- src/trace.rt:137:9
+read-number-requires : tie.Need-read-number-requires
+read-number-requires c κs = search needs
+
+-- src/trace.rt:139:16
+enum-known-read : tie.Need-enum-known-read
+enum-known-read c = search needs
+
+-- src/trace.rt:143:35
+enum-told : tie.Need-enum-told
+enum-told c = search needs
+
+-- src/trace.rt:143:35
+number-refusal-requires : tie.Need-number-refusal-requires
+number-refusal-requires c κs = search needs
+
+-- src/trace.rt:143:9
+kind-got : (c : tie.After-read) → NumberGot (c .before .before .before .before .before .args .bytes .now) (c .before .before .before .before .before .args .at) (c .read .given .0 .0) (c .read .given .0 .1 .0)
+kind-got c = number-got _ _ (sym (c .read .given .1) ∙ c .before .before .read-number .ensures)
+
+returns-2 : tie.Need-returns-2
+unfolding readEvent
+returns-2 c =
+    let r = c .before .before .before in
+    rw (event-at-inside _ _ (r .before .if1 .left), c .number-refusal .ensures ∙ ap numberRefusal (c .before .enum-told .given .1), number-bad _ _ (sym (c .before .enum-told .given .1) ∙ r .read-number .ensures))
+
+-- src/trace.rt:145:5
+read-kind-requires : tie.Need-read-kind-requires
+read-kind-requires c κs = search needs
+
+-- src/trace.rt:131:1
+returns-3 : tie.Need-returns-3
+unfolding readEvent
+returns-3 c =
+    let g = c .before .before in
+    rw (event-at-inside _ _ (g .before .before .before .if1 .left), kind-got g .is) (c .read-kind .ensures)
+
+pub read-event-spec : {M : Type 1} → statement M
+read-event-spec =
+    tie.close
+    (tie.spec
+    returns
+    read-number-requires
+    enum-known-read
+    enum-told
+    number-refusal-requires
+    returns-2
+    read-kind-requires
+    returns-3)

@@ -1,0 +1,39 @@
+use mathlib.Core.Path.{refl, ap}
+use native.Mathlib.Omega.{arith}
+use Rattle.table.specs.declared.Written.the-variants.{Bytes}
+use Rattle.table.specs.Number.{bytesOf}
+use Rattle.table.specs.Splice.{listed}
+use Rattle.table.proofs.SpliceLaws.{wrote-short, wrote-fits}
+use borrow.Author.Needs.{needs}
+use Rattle.table.proofs.trace.write_numbers.Statement.{statement}
+use Rattle.table.proofs.trace.write_numbers.Tie as tie
+use Rattle.table.proofs.trace.write_numbers.Reads as reads
+use Rattle.table.proofs.trace.write_numbers.Lts as lts
+use Rattle.table.proofs.trace.numbers_length.Reads as numbers-length-reads
+use Rattle.table.proofs.trace.put_numbers.Reads as put-numbers-reads
+
+-- src/trace.rt:194:9
+numbers-length-requires : tie.Need-numbers-length-requires
+numbers-length-requires c κs = search needs
+
+-- src/trace.rt:196:9
+returns : tie.Need-returns
+returns c = rw (wrote-short (bytesOf (listed (c .before .before .before .args .numbers))) (c .before .before .before .args .out .now) (omega arith)) (refl, refl)
+
+-- src/trace.rt:198:5
+put-numbers-requires : tie.Need-put-numbers-requires
+put-numbers-requires c κs = search needs
+
+-- src/trace.rt:190:1
+same-length : tie.Need-same-length
+same-length c = search needs
+
+-- src/trace.rt:190:1
+returns-2 : tie.Need-returns-2
+returns-2 c =
+    let e = c .before .before .before .before in
+    rw (wrote-fits (bytesOf (listed (e .before .before .before .args .numbers))) (e .before .before .before .args .out .now) (omega arith)) (ap Bytes (e .before .numbers-length .ensures), c .before .before .put-numbers .ensures)
+
+pub write-numbers-spec : {M : Type 1} → statement M
+write-numbers-spec =
+    tie.close (tie.spec numbers-length-requires returns put-numbers-requires same-length returns-2)

@@ -1,0 +1,107 @@
+-- Events and traces. "A trace is load depth, store depth, first serial, memory length, then events to the end of the bytes.
+-- An event is one of seven kinds with its own numbers."
+use Prim.Native.Nat.{ℕ}
+use mathlib.Core.Bool.{Bool}
+use mathlib.Core.List.{List, [], _∷_, _++_}
+use lib.Dec.{eqb, leb}
+use lib.ListN.{drop}
+use Rattle.table.specs.declared.Event.{Event}
+use Rattle.table.specs.declared.Event.the-variants.{Activate, LoadAddress, StoreAddress, StoreData, Serve, Write, Take}
+use Rattle.table.specs.declared.Header.{Header}
+use Rattle.table.specs.declared.HeaderRead.{HeaderRead}
+use Rattle.table.specs.declared.HeaderRead.the-variants.{Leading, NoHeader}
+use Rattle.table.specs.declared.EventRead.{EventRead}
+use Rattle.table.specs.declared.EventRead.the-variants.{Found, End, NoEvent}
+use Rattle.table.specs.declared.Stepped.{Stepped}
+use Rattle.table.specs.Basics.{pick, within}
+use Rattle.table.specs.Refusal.{badKind}
+use Rattle.table.specs.Number.{Got, got, bad, andThen, require, readNumber, placeOf, bytesOf}
+
+-- "0 activate (group), 1 load address (port, address), 2 store address (port, address), 3 store data (port, word), 4 serve
+-- load (serial), 5 write store (serial), 6 take (port)": an event's numbers, its kind first.
+abbrev pub eventNumbers : Event → List ℕ
+eventNumbers (Activate group) = 0 ∷ group ∷ []
+eventNumbers (LoadAddress port address) = 1 ∷ port ∷ address ∷ []
+eventNumbers (StoreAddress port address) = 2 ∷ port ∷ address ∷ []
+eventNumbers (StoreData port word) = 3 ∷ port ∷ word ∷ []
+eventNumbers (Serve serial) = 4 ∷ serial ∷ []
+eventNumbers (Write serial) = 5 ∷ serial ∷ []
+eventNumbers (Take port) = 6 ∷ port ∷ []
+
+-- the kinds that have a second number
+abbrev pub hasSecond : ℕ → Bool
+hasSecond kind = within 1 3 kind
+
+-- the event of a kind and its numbers
+abbrev pub eventOf : ℕ → ℕ → ℕ → Event
+eventOf kind x y =
+    pick (eqb kind 0) (Activate x)
+    (pick (eqb kind 1) (LoadAddress x y)
+    (pick (eqb kind 2) (StoreAddress x y)
+    (pick (eqb kind 3) (StoreData x y)
+    (pick (eqb kind 4) (Serve x)
+    (pick (eqb kind 5) (Write x)
+    (Take x))))))
+
+-- what follows an event's kind: "35 kind above 6, 1 or 2 for the rest"
+abbrev pub readKind : ℕ → List ℕ → Got Event
+readKind kind s =
+    require (leb kind 6) badKind
+    (andThen (readNumber s) λ x s₁.
+    pick (hasSecond kind)
+    (andThen (readNumber s₁) λ y s₂. got (eventOf kind x y) s₂)
+    (got (eventOf kind x 0) s₁))
+
+-- "Reading an event: 1 or 2 for the kind, 35 kind above 6, 1 or 2 for the rest."
+unfoldable pub readEvent : List ℕ → Got Event
+readEvent s = andThen (readNumber s) readKind
+
+-- the answer of a call that reads an event of s: the event and the place after it, or the refusal
+abbrev pub eventAnswer : List ℕ → Got Event → EventRead
+eventAnswer s (got e rest) = Found e (placeOf s rest)
+eventAnswer s (bad k) = NoEvent k
+
+-- the same at a part of s: "at the end of the bytes it answers "end""
+abbrev pub eventIn : List ℕ → List ℕ → EventRead
+eventIn s [] = End
+eventIn s (b ∷ rest) = eventAnswer s (readEvent (b ∷ rest))
+
+-- at a place of s: "a place past the end counts as the end"
+unfoldable pub eventAt : List ℕ → ℕ → EventRead
+eventAt s place = eventIn s (drop place s)
+
+-- where a reader stands after it has read: past the event, or where it was
+abbrev pub placeAfter : ℕ → EventRead → ℕ
+placeAfter place (Found e next) = next
+placeAfter place End = place
+placeAfter place (NoEvent k) = place
+
+-- one step of a reader at a place of s: what it yields, and where it stands then
+abbrev pub stepAt : List ℕ → ℕ → Stepped
+stepAt s place = record { read = eventAt s place; next = placeAfter place (eventAt s place) }
+
+abbrev pub eventBytes : Event → List ℕ
+eventBytes e = bytesOf (eventNumbers e)
+
+abbrev pub eventsBytes : List Event → List ℕ
+eventsBytes [] = []
+eventsBytes (e ∷ es) = eventBytes e ++ eventsBytes es
+
+-- the four leading numbers of a trace
+abbrev pub headerNumbers : Header → List ℕ
+headerNumbers h = h .loads ∷ h .stores ∷ h .serial ∷ h .words ∷ []
+
+abbrev pub headerBytes : Header → List ℕ
+headerBytes h = bytesOf (headerNumbers h)
+
+unfoldable pub readHeader : List ℕ → Got Header
+readHeader s =
+    andThen (readNumber s) λ loads s₁.
+    andThen (readNumber s₁) λ stores s₂.
+    andThen (readNumber s₂) λ serial s₃.
+    andThen (readNumber s₃) λ words s₄.
+    got (record { loads = loads; stores = stores; serial = serial; words = words }) s₄
+
+abbrev pub headerAnswer : List ℕ → Got Header → HeaderRead
+headerAnswer s (got h rest) = Leading h (placeOf s rest)
+headerAnswer s (bad k) = NoHeader k

@@ -1,0 +1,106 @@
+-- Numbers. Document 01, "Bytes and tables": "A number is 32 bits without sign, in groups of seven bits, lowest group first;
+-- bit 7 of a byte means that another follows. A reader accepts padding; the writer uses the fewest bytes."
+use Prim.Native.Nat.{ℕ, zero, suc, _+_, _-_, _*_, _/_, _%_}
+use mathlib.Core.Bool.{Bool, true, false, _&&_}
+use mathlib.Core.List.{List, [], _∷_, _++_}
+use lib.Count.{leadingZeros}
+use lib.Dec.{leb, ltb}
+use lib.ListN.{length, drop}
+use Rattle.table.specs.declared.NumberRead.{NumberRead}
+use Rattle.table.specs.declared.NumberRead.the-variants.{Number, Refused}
+use Rattle.table.specs.declared.Written.{Written}
+use Rattle.table.specs.declared.Written.the-variants.{Bytes, Unwritten}
+use Rattle.table.specs.Basics.{pick}
+use Rattle.table.specs.Refusal.{ended, tooLarge, tooShort}
+
+-- What reading gives: a value and the bytes after it, or the refusal number.
+pub data Got (A : Type 0) : Type 0 where
+  got : A → List ℕ → Got A
+  bad : ℕ → Got A
+
+-- reading on with what was read, or the same refusal
+abbrev pub andThen : {A B : Type 0} → Got A → (A → List ℕ → Got B) → Got B
+andThen (got a s) rest = rest a s
+andThen (bad n) rest = bad n
+
+-- the refusal where the test fails, else what follows
+abbrev pub require : {A : Type 0} → Bool → ℕ → Got A → Got A
+require test number rest = pick test rest (bad number)
+
+-- a group of seven bits below a number of higher groups
+abbrev pub above : ℕ → Got ℕ → Got ℕ
+above low (got n s) = got (low + 128 * n) s
+above low (bad k) = bad k
+
+-- A number of one byte and up to `more` bytes after it; the last of these may be at most `top`.
+unfoldable pub numberUpTo : ℕ → ℕ → List ℕ → Got ℕ
+numberUpTo more top [] = bad ended
+numberUpTo zero top (b ∷ s) = pick (leb b top) (got b s) (bad tooLarge)
+numberUpTo (suc more) top (b ∷ s) = pick (ltb b 128) (got b s) (above (b - 128) (numberUpTo more top s))
+
+-- "Reading a number: 1 the bytes end inside it or before it; 2 a fifth byte above 0F."
+abbrev pub readNumber : List ℕ → Got ℕ
+readNumber = numberUpTo 4 15
+
+-- the place of s at which its last part, `rest`, begins
+abbrev pub placeOf : List ℕ → List ℕ → ℕ
+placeOf s rest = length s - length rest
+
+-- the answer of a call that reads a number of s: the value and the place after it, or the refusal
+abbrev pub numberAnswer : List ℕ → Got ℕ → NumberRead
+numberAnswer s (got n rest) = Number n (placeOf s rest)
+numberAnswer s (bad k) = Refused k
+
+-- the paper's number for such an answer
+abbrev pub numberRefusal : NumberRead → ℕ
+numberRefusal (Number n next) = 0
+numberRefusal (Refused k) = k
+
+-- "Significant bits are 32 less the leading zeros, and the byte count comes from a table of 33 entries indexed by significant
+-- bits: 1 for 0 to 7, then 2 to 14, 3 to 21, 4 to 28, 5 to 32."
+abbrev pub significantBits : ℕ → ℕ
+significantBits n = 32 - leadingZeros 32 n
+
+abbrev pub byteCount : ℕ → ℕ
+byteCount bits = pick (leb bits 7) 1 (pick (leb bits 14) 2 (pick (leb bits 21) 3 (pick (leb bits 28) 4 5)))
+
+-- The bytes that the writer uses: one, and up to `more` after it.
+unfoldable pub bytesUpTo : ℕ → ℕ → List ℕ
+bytesUpTo zero n = n ∷ []
+bytesUpTo (suc more) n = pick (ltb n 128) (n ∷ []) ((128 + n % 128) ∷ bytesUpTo more (n / 128))
+
+abbrev pub numberBytes : ℕ → List ℕ
+numberBytes = bytesUpTo 4
+
+-- the bytes of several numbers, one after the other
+abbrev pub bytesOf : List ℕ → List ℕ
+bytesOf [] = []
+bytesOf (n ∷ ns) = numberBytes n ++ bytesOf ns
+
+-- what a writer answers, and the buffer that it leaves
+pub record Wrote : Type 0 where
+  pub answer : Written
+  pub buffer : List ℕ
+
+-- "10 the buffer is too short", and then nothing is written; else the bytes stand at the buffer's front, and those beyond
+-- keep their contents.
+unfoldable pub wrote : List ℕ → List ℕ → Wrote
+wrote bytes buffer =
+    pick (leb (length bytes) (length buffer))
+    (record { answer = Bytes (length bytes); buffer = bytes ++ drop (length bytes) buffer })
+    (record { answer = Unwritten tooShort; buffer = buffer })
+
+-- Bytes that spell a number, padding or not: all but the last have bit 7, and the last of the most there may be is at most `top`.
+abbrev pub isEmpty : List ℕ → Bool
+isEmpty [] = true
+isEmpty (b ∷ bs) = false
+
+unfoldable pub spells : ℕ → ℕ → List ℕ → Bool
+spells more top [] = false
+spells zero top (b ∷ bs) = leb b top && isEmpty bs
+spells (suc more) top (b ∷ bs) = pick (ltb b 128) (isEmpty bs) (spells more top bs)
+
+-- the number that they spell
+abbrev pub valueOf : List ℕ → ℕ
+valueOf [] = 0
+valueOf (b ∷ bs) = b % 128 + 128 * valueOf bs

@@ -1,0 +1,103 @@
+-- A table's bytes. "A table is: fields per access (always 2), number of groups (1 to 16), then the groups. A group is its
+-- number of loads, its number of stores, a pair for each load, then a pair for each store. A pair is offset, port."
+use Prim.Native.Nat.{ℕ, zero, suc, _-_}
+use mathlib.Core.Bool.{Bool}
+use mathlib.Core.List.{List, [], _∷_, _++_, map}
+use lib.Dec.{eqb, leb}
+use lib.ListN.{length, replicate}
+use Rattle.table.specs.declared.Pair.{Pair}
+use Rattle.table.specs.declared.Pairs.{Pairs}
+use Rattle.table.specs.declared.Group.{Group}
+use Rattle.table.specs.declared.Table.{Table}
+use Rattle.table.specs.declared.TableRead.{TableRead}
+use Rattle.table.specs.declared.Written.the-variants.{Unwritten}
+use Rattle.table.specs.Basics.{pick, within}
+use Rattle.table.specs.Refusal.{badFields, badGroupCount, badCounts, leftOver}
+use Rattle.table.specs.Number.{Got, got, bad, andThen, require, readNumber, bytesOf, Wrote, wrote}
+use Rattle.table.specs.Group.{GroupPairs, blankPair}
+use Rattle.table.specs.Table.{loadRule, storeRule, pairFault, countsRight, Seen, noneSeen, seenAfter, tableFault}
+
+-- the refusal, where the fault is not 0, else what follows
+abbrev pub unless : {A : Type 0} → ℕ → Got A → Got A
+unless fault rest = pick (eqb fault 0) rest (bad fault)
+
+abbrev pub pair : ℕ → ℕ → Pair
+pair offset port = record { offset = offset; port = port }
+
+-- a pair before the pairs that reading goes on to give; a group before groups
+abbrev pub before : {A : Type 0} → A → Got (List A) → Got (List A)
+before a (got rest s) = got (a ∷ rest) s
+before a (bad n) = bad n
+
+-- n pairs of one kind: each is read whole, and then 8, 6, 7
+unfoldable pub readPairs : (List Pair → ℕ → Bool) → ℕ → List Pair → List ℕ → List ℕ → Got (List Pair)
+readPairs rule zero done seen s = got [] s
+readPairs rule (suc n) done seen s =
+    andThen (readNumber s) λ offset s₁.
+    andThen (readNumber s₁) λ port s₂.
+    unless (pairFault (rule done offset) seen port)
+    (before (pair offset port) (readPairs rule n (pair offset port ∷ done) (port ∷ seen) s₂))
+
+-- a group: both counts, 5, its loads, its stores
+unfoldable pub readGroup : Seen → List ℕ → Got GroupPairs
+readGroup seen s =
+    andThen (readNumber s) λ loads s₁.
+    andThen (readNumber s₁) λ stores s₂.
+    require (countsRight loads stores) badCounts
+    (andThen (readPairs (loadRule stores) loads [] (seen .loads) s₂) λ ls s₃.
+    andThen (readPairs (storeRule ls) stores [] (seen .stores) s₃) λ ss s₄.
+    got (record { loads = ls; stores = ss }) s₄)
+
+unfoldable pub readGroups : ℕ → Seen → List ℕ → Got (List GroupPairs)
+readGroups zero seen s = got [] s
+readGroups (suc n) seen s = andThen (readGroup seen s) λ g s₁. before g (readGroups n (seenAfter g seen) s₁)
+
+-- "Reading a table, number by number: 1 or 2 for the number; 3 fields not 2; 4 group count; .. at the end 9 bytes left over."
+unfoldable pub readTable : List ℕ → Got (List GroupPairs)
+readTable s =
+    andThen (readNumber s) λ fields s₁.
+    require (eqb fields 2) badFields
+    (andThen (readNumber s₁) λ count s₂.
+    require (within 1 16 count) badGroupCount
+    (andThen (readGroups count noneSeen s₂) λ gs s₃.
+    require (eqb (length s₃) 0) leftOver (got gs s₃)))
+
+-- The record of a table: places beyond the counts, which mean nothing, are blank.
+abbrev pub packPairs : List Pair → Pairs
+packPairs ps = record { count = length ps; places = ps ++ replicate (16 - length ps) blankPair }
+
+abbrev pub packGroup : GroupPairs → Group
+packGroup g = record { loads = packPairs (g .loads); stores = packPairs (g .stores) }
+
+abbrev pub emptyGroup : Group
+emptyGroup = record { loads = packPairs []; stores = packPairs [] }
+
+abbrev pub pack : List GroupPairs → Table
+pack gs = record { count = length gs; groups = map packGroup gs ++ replicate (16 - length gs) emptyGroup }
+
+-- the answer of a call that reads a table; a refused one holds the table of no groups, which means nothing
+abbrev pub tableAnswer : Got (List GroupPairs) → TableRead
+tableAnswer (got gs s) = record { answer = 0; table = pack gs }
+tableAnswer (bad n) = record { answer = n; table = pack [] }
+
+-- the numbers of a table, in the order of its bytes
+abbrev pub pairsNumbers : List Pair → List ℕ
+pairsNumbers [] = []
+pairsNumbers (p ∷ ps) = p .offset ∷ p .port ∷ pairsNumbers ps
+
+abbrev pub groupNumbers : GroupPairs → List ℕ
+groupNumbers g = length (g .loads) ∷ length (g .stores) ∷ pairsNumbers (g .loads) ++ pairsNumbers (g .stores)
+
+abbrev pub groupsNumbers : List GroupPairs → List ℕ
+groupsNumbers [] = []
+groupsNumbers (g ∷ gs) = groupNumbers g ++ groupsNumbers gs
+
+abbrev pub tableNumbers : List GroupPairs → List ℕ
+tableNumbers gs = 2 ∷ length gs ∷ groupsNumbers gs
+
+abbrev pub tableBytes : List GroupPairs → List ℕ
+tableBytes gs = bytesOf (tableNumbers gs)
+
+-- "Writing a table: 4, 5, 8, 6, 7 in the same order, then 10 the buffer is too short."
+unfoldable pub wroteTable : List GroupPairs → List ℕ → Wrote
+wroteTable gs buffer = pick (eqb (tableFault gs) 0) (wrote (tableBytes gs) buffer) (record { answer = Unwritten (tableFault gs); buffer = buffer })

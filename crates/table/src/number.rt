@@ -1,0 +1,132 @@
+// Numbers: 32 bits without sign, in groups of seven bits, lowest group first; bit 7 of a byte means that another follows.
+ghost use mathlib.Core.Path.{_≡_};
+ghost use Prim.Native.Nat.{_+_, _≤_};
+ghost use lib.ListN.{length, drop};
+ghost use Rattle.table.specs.Number.{readNumber, numberUpTo, numberAnswer, numberRefusal, numberBytes, byteCount, significantBits, wrote};
+ghost use Rattle.table.specs.Splice.{splice, NumberBelow};
+use crate::NumberRead;
+use crate::Written;
+use crate::refusal::ENDED;
+use crate::refusal::TOO_LARGE;
+use crate::refusal::TOO_SHORT;
+
+// How many bytes a number takes, by its significant bits.
+const LENGTHS: [u8; 33] = [
+    1,
+    1,
+    1,
+    1,
+    1,
+    1,
+    1,
+    1,
+    2,
+    2,
+    2,
+    2,
+    2,
+    2,
+    2,
+    3,
+    3,
+    3,
+    3,
+    3,
+    3,
+    3,
+    4,
+    4,
+    4,
+    4,
+    4,
+    4,
+    4,
+    5,
+    5,
+    5,
+    5,
+];
+
+// The number at a place, of one byte and up to `more` after it. A place past the end is the end.
+fn read_up_to(bytes: &[u8], at: usize, more: u32) -> NumberRead
+    requires { ⌜ more ≤ 4 ⌝ }
+    ensures { λ r. ⌜ r ≡ numberAnswer (now (bytes .entry)) (numberUpTo more 15 (drop at (now (bytes .entry)))) ⌝ }
+    ensures { λ r. ⌜ NumberBelow more r ⌝ }
+{
+    if bytes.len() <= at {
+        return NumberRead::Refused(ENDED);
+    }
+    let low = bytes[at] as u32;
+    let next = at + 1;
+    if more == 0 {
+        if low <= 15 {
+            return NumberRead::Number { value: low, next };
+        }
+        return NumberRead::Refused(TOO_LARGE);
+    }
+    if low < 128 {
+        return NumberRead::Number { value: low, next };
+    }
+    let rest = read_up_to(bytes, next, more - 1);
+    match rest {
+        NumberRead::Number { value, next } => NumberRead::Number {
+            value: low - 128 + 128 * value,
+            next,
+        },
+        NumberRead::Refused(number) => NumberRead::Refused(number),
+    }
+}
+
+// Reads the number at a place.
+pub fn read_number(bytes: &[u8], at: usize) -> NumberRead
+    ensures { λ r. ⌜ r ≡ numberAnswer (now (bytes .entry)) (readNumber (drop at (now (bytes .entry)))) ⌝ }
+{
+    read_up_to(bytes, at, 4)
+}
+
+// The refusal number of an answer; 0 where a number was read.
+pub fn number_refusal(read: NumberRead) -> u8
+    ensures { λ r. ⌜ r ≡ numberRefusal read ⌝ }
+{
+    match read {
+        NumberRead::Number { value: _, next: _ } => 0,
+        NumberRead::Refused(number) => number,
+    }
+}
+
+// How many bytes the writer uses for a number.
+pub fn number_length(value: u32) -> usize
+    ensures { λ r. ⌜ r ≡ byteCount (significantBits value) ⌝ }
+    ensures { λ r. ⌜ r ≡ length (numberBytes value) ⌝ }
+{
+    let bits = (32 - u32::leading_zeros(value)) as usize;
+    LENGTHS[bits] as usize
+}
+
+// Puts a number's bytes at a place where they fit, and says where they end.
+pub(crate) fn put_number(out: &mut [u8], at: usize, value: u32) -> usize
+    requires { ⌜ at + length (numberBytes value) ≤ length (now out) ⌝ }
+    ensures { λ r. ⌜ (r ≡ at + length (numberBytes value)) × (now (out .exit) ≡ splice (now (out .entry)) at (numberBytes value)) ⌝ }
+{
+    let mut left = value;
+    let mut place = at;
+    while 128 <= left {
+        out[place] = (128 + left % 128) as u8;
+        left = left / 128;
+        place += 1;
+    }
+    out[place] = left as u8;
+    place + 1
+}
+
+// Writes a number at the front of a buffer, in the fewest bytes.
+pub fn write_number(value: u32, out: &mut [u8]) -> Written
+    ensures { λ r. ⌜ (r ≡ wrote (numberBytes value) (now (out .entry)) .answer) × (now (out .exit) ≡ wrote (numberBytes value) (now (out .entry)) .buffer) ⌝ }
+{
+    let length = number_length(value);
+    if out.len() < length {
+        return Written::Unwritten(TOO_SHORT);
+    }
+    put_number(out, 0, value);
+    Written::Bytes(length)
+}

@@ -3,3 +3,4 @@ pub mod Rule
 pub mod NumberLaws
 pub mod SpliceLaws
 pub mod TraceLaws
+pub mod CheckLaws

@@ -15,7 +15,7 @@ use borrow.Author.Tests.{lt-ltb, le-ltb, le-leb, lt-leb, ltb-true, ltb-false, le
 use Rattle.table.specs.declared.NumberRead.the-variants.{Number, Refused}
 use Rattle.table.specs.Basics.{pick}
 use Rattle.table.specs.Refusal.{ended, tooLarge}
-use Rattle.table.specs.Splice.{numberBound}
+use Rattle.table.specs.Internal.{numberBound}
 use Rattle.table.specs.Number.{Got, got, bad, above, numberUpTo, readNumber, numberAnswer, placeOf, significantBits, byteCount, bytesUpTo, numberBytes}
 
 -- the place where what is left after `at` bytes begins
@@ -173,6 +173,7 @@ number-got s place {v} {next} e = go (readNumber (drop place s)) refl e
         let y : v ≡ n = cc in
         let w : next ≡ place + suc k = x ∙ m in
         record { is = f ∙ cc; later = omega arith; inside = omega arith }
+
     go : (g : Got ℕ) → readNumber (drop place s) ≡ g → Number v next ≡ numberAnswer s g → NumberGot s place v next
     go (bad n) f d = let z : _≡_ {A = ℕ} 0 1 = cc in absurd (omega arith)
     go (got n rest) f d = at-place n rest f d (number-suffix 4 15 (drop place s) f)

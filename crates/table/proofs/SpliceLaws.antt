@@ -14,7 +14,7 @@ use Rattle.table.specs.declared.Written.the-variants.{Bytes, Unwritten}
 use Rattle.table.specs.Basics.{pick}
 use Rattle.table.specs.Refusal.{tooShort}
 use Rattle.table.specs.Number.{bytesUpTo, numberBytes, bytesOf, Wrote, wrote}
-use Rattle.table.specs.Splice.{splice, numberBound}
+use Rattle.table.specs.Internal.{splice, numberBound}
 use Rattle.table.proofs.NumberLaws.{bound-most}
 
 pub splice-none : (d : List ℕ) (p : ℕ) → splice d p [] ≡ d

@@ -45,10 +45,6 @@ nth [] n = none
 nth (x ∷ xs) zero = some x
 nth (x ∷ xs) (suc n) = nth xs n
 
--- is the number in the list
-abbrev pub member : ℕ → List ℕ → Bool
-member n = any (eqb n)
-
 -- is the number from lo to hi
 abbrev pub within : ℕ → ℕ → ℕ → Bool
 within lo hi n = leb lo n && leb n hi

@@ -2,8 +2,8 @@
 pub mod Basics
 pub mod Refusal
 pub mod Number
-pub mod Splice
 pub mod Group
 pub mod Table
 pub mod TableBytes
 pub mod Event
+pub mod Internal

@@ -1,10 +1,10 @@
 -- A table's bytes. "A table is: fields per access (always 2), number of groups (1 to 16), then the groups. A group is its
 -- number of loads, its number of stores, a pair for each load, then a pair for each store. A pair is offset, port."
 use Prim.Native.Nat.{ℕ, zero, suc, _-_}
-use mathlib.Core.Bool.{Bool}
+use mathlib.Core.Bool.{Bool, true}
 use mathlib.Core.List.{List, [], _∷_, _++_, map}
 use lib.Dec.{eqb, leb}
-use lib.ListN.{length, replicate}
+use lib.ListN.{length, set, replicate}
 use Rattle.table.specs.declared.Pair.{Pair}
 use Rattle.table.specs.declared.Pairs.{Pairs}
 use Rattle.table.specs.declared.Group.{Group}
@@ -29,14 +29,14 @@ abbrev pub before : {A : Type 0} → A → Got (List A) → Got (List A)
 before a (got rest s) = got (a ∷ rest) s
 before a (bad n) = bad n
 
--- n pairs of one kind: each is read whole, and then 8, 6, 7
-unfoldable pub readPairs : (List Pair → ℕ → Bool) → ℕ → List Pair → List ℕ → List ℕ → Got (List Pair)
-readPairs rule zero done seen s = got [] s
-readPairs rule (suc n) done seen s =
+-- n pairs of one kind, from the ith on: each is read whole, and then 8, 6, 7
+unfoldable pub readPairs : (ℕ → ℕ → ℕ → Bool) → ℕ → ℕ → ℕ → List Bool → List ℕ → Got (List Pair)
+readPairs rule zero low i seen s = got [] s
+readPairs rule (suc n) low i seen s =
     andThen (readNumber s) λ offset s₁.
     andThen (readNumber s₁) λ port s₂.
-    unless (pairFault (rule done offset) seen port)
-    (before (pair offset port) (readPairs rule n (pair offset port ∷ done) (port ∷ seen) s₂))
+    unless (pairFault (rule low i offset) seen port)
+    (before (pair offset port) (readPairs rule n offset (suc i) (set seen port true) s₂))
 
 -- a group: both counts, 5, its loads, its stores
 unfoldable pub readGroup : Seen → List ℕ → Got GroupPairs
@@ -44,8 +44,8 @@ readGroup seen s =
     andThen (readNumber s) λ loads s₁.
     andThen (readNumber s₁) λ stores s₂.
     require (countsRight loads stores) badCounts
-    (andThen (readPairs (loadRule stores) loads [] (seen .loads) s₂) λ ls s₃.
-    andThen (readPairs (storeRule ls) stores [] (seen .stores) s₃) λ ss s₄.
+    (andThen (readPairs (loadRule stores) loads 0 0 (seen .loads) s₂) λ ls s₃.
+    andThen (readPairs (storeRule ls) stores 0 0 (seen .stores) s₃) λ ss s₄.
     got (record { loads = ls; stores = ss }) s₄)
 
 unfoldable pub readGroups : ℕ → Seen → List ℕ → Got (List GroupPairs)

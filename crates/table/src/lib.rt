@@ -1,6 +1,7 @@
 // Numbers, group tables and trace events: their records, and the calls that read, check and write them.
 // Firms take this crate by itself; the queue and `play` rest on its contracts alone.
 
+pub mod check;
 pub mod number;
 pub mod refusal;
 pub mod trace;

@@ -3,7 +3,7 @@ ghost use mathlib.Core.Path.{_≡_};
 ghost use Prim.Native.Nat.{_+_, _≤_};
 ghost use lib.ListN.{length, drop};
 ghost use Rattle.table.specs.Number.{readNumber, numberUpTo, numberAnswer, numberRefusal, numberBytes, byteCount, significantBits, wrote};
-ghost use Rattle.table.specs.Splice.{splice, NumberBelow};
+ghost use Rattle.table.specs.Internal.{splice, NumberBelow};
 use crate::NumberRead;
 use crate::Written;
 use crate::refusal::ENDED;

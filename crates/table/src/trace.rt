@@ -5,7 +5,7 @@ ghost use mathlib.Core.List.{List};
 ghost use lib.ListN.{length, take, drop};
 ghost use Rattle.table.specs.Number.{readNumber, bytesOf, wrote};
 ghost use Rattle.table.specs.Event.{readHeader, headerAnswer, headerBytes, headerNumbers, eventOf, hasSecond, readKind, eventAnswer, eventAt, stepAt, eventNumbers, eventBytes};
-ghost use Rattle.table.specs.Splice.{splice, listed};
+ghost use Rattle.table.specs.Internal.{splice, listed};
 use crate::Event;
 use crate::EventRead;
 use crate::Header;

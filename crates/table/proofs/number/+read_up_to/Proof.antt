@@ -7,7 +7,7 @@ use lib.ListN.{getD}
 use borrow.Author.Needs.{needs}
 use borrow.Fn.Kinds.{In}
 use borrow.Fn.PlainCycle.{Measures, is, falls, and}
-use Rattle.table.specs.Splice.{numberBound, NumberBelow}
+use Rattle.table.specs.Internal.{numberBound, NumberBelow}
 use Rattle.table.specs.declared.NumberRead.the-variants.{Number, Refused}
 use Rattle.table.proofs.NumberLaws.{number-ended, number-last, number-too-large, number-one, number-more, number-more-refused, bound-step, bound-most, bound-least}
 use Rattle.table.proofs.number.read_up_to.Reads as reads

@@ -2,7 +2,7 @@ use mathlib.Core.Path.{refl, ap}
 use native.Mathlib.Omega.{arith}
 use Rattle.table.specs.declared.Written.the-variants.{Bytes}
 use Rattle.table.specs.Number.{bytesOf}
-use Rattle.table.specs.Splice.{listed}
+use Rattle.table.specs.Internal.{listed}
 use Rattle.table.proofs.SpliceLaws.{wrote-short, wrote-fits}
 use borrow.Author.Needs.{needs}
 use Rattle.table.proofs.trace.write_numbers.Statement.{statement}

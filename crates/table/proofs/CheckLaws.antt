@@ -1,0 +1,240 @@
+-- Laws of checking tables.
+use Prim.Native.Nat.{ℕ, zero, suc, _+_, _-_, _≤_, _<_}
+use mathlib.Core.Path.{_≡_, refl, sym, ap, _∙_}
+use mathlib.Core.Bool.{Bool, true, false, not, _&&_}
+use mathlib.Core.List.{List, [], _∷_, _++_, map, append-nil}
+use native.Mathlib.Omega.{arith}
+use native.Mathlib.Nat.{le-trans}
+use lib.Dec.{leb, ltb, eqb}
+use lib.ListN.{length, getD, take, drop, set, replicate, length-set, length-map, List·getD-map, length-append, length-take, length-replicate, drop-of-length-le}
+use lib.Seq.{getD-take, length-take-le, drop-cons}
+use native.Mathlib.Numerals.{add-one}
+use borrow.Author.Tests.{le-leb, lt-leb, leb-true, leb-false, lt-ltb, le-ltb, ltb-true, ltb-false, eq-eqb, ne-eqb}
+use Rattle.table.specs.declared.Pair.{Pair}
+use Rattle.table.specs.declared.Pairs.{Pairs}
+use Rattle.table.specs.declared.Group.{Group}
+use Rattle.table.specs.declared.Table.{Table}
+use Rattle.table.specs.Refusal.{badGroupCount, badCounts}
+use Rattle.table.specs.Basics.{pick, held, count, within, check, orElse}
+use Rattle.table.specs.Group.{GroupPairs, blankPair, listOf, pairsOf, beforeStore}
+use Rattle.table.specs.Table.{blankGroup, groupsOf, loadRule, storeRule, pairFault, pairsFault, seeing, countsRight, Seen, noneSeen, seenAfter, groupFault, groupsFault, tableFault}
+use Rattle.table.specs.Internal.{Rising}
+
+-- ---- what an array and a count hold, where the count is within the array
+module _ {A : Type 0} (blank : A) (n : ℕ) (l : List A) (h : n ≤ length l) where
+  pub held-few : held blank n l ≡ take n l
+  held-few =
+      let e : n - length l ≡ 0 = omega arith in
+      rw (e, append-nil)
+
+  pub held-at : (i : ℕ) (d : A) → i < n → getD (held blank n l) i d ≡ getD l i d
+  held-at i d k = rw held-few (getD-take n l i d k)
+
+-- the list is as long as the count, whatever the array
+pub held-length : {A : Type 0} (blank : A) (n : ℕ) (l : List A) → length (held blank n l) ≡ n
+held-length blank n l = rw (length-append, length-take, length-replicate) (omega arith)
+
+-- ---- how many of rising offsets are at most j
+abbrev offsetAt : List Pair → ℕ → ℕ
+offsetAt l i = getD l i blankPair .offset
+
+pub count-most : {A : Type 0} (p : A → Bool) (l : List A) → count p l ≤ length l
+count-most p [] = omega arith
+count-most p (x ∷ xs) = go (p x) (count-most p xs)
+  where
+    go : (t : Bool) → count p xs ≤ length xs → pick t (suc (count p xs)) (count p xs) ≤ suc (length xs)
+    go true h = omega arith
+    go false h = omega arith
+
+count-step : (j : ℕ) (p : Pair) (ps : List Pair) → count (beforeStore j) (p ∷ ps) ≤ suc (count (beforeStore j) ps)
+count-step j p ps = go (leb (p .offset) j)
+  where
+    go : (t : Bool) → pick t (suc (count (beforeStore j) ps)) (count (beforeStore j) ps) ≤ suc (count (beforeStore j) ps)
+    go true = omega arith
+    go false = omega arith
+
+rising-none : (j low : ℕ) (l : List Pair) → Rising low l → j < low → count (beforeStore j) l ≡ 0
+rising-none j low [] r h = refl
+rising-none j low (p ∷ ps) r h = rw (lt-leb (p .offset) j (le-trans h (r .0))) (rising-none j (p .offset) ps (r .1) (le-trans h (r .0)))
+
+rising-least : (low : ℕ) (l : List Pair) (o : ℕ) → Rising low l → o < length l → low ≤ offsetAt l o
+rising-least low [] o r h = absurd (omega arith)
+rising-least low (p ∷ ps) zero r h = r .0
+rising-least low (p ∷ ps) (suc o) r h = le-trans (r .0) (rising-least (p .offset) ps o (r .1) (omega arith))
+
+pub count-below : (low : ℕ) (l : List Pair) (o j : ℕ) → Rising low l → o < length l → j < offsetAt l o → count (beforeStore j) l ≤ o
+count-below low [] o j r h k = absurd (omega arith)
+count-below low (p ∷ ps) zero j r h k = rw (lt-leb (p .offset) j k, rising-none j (p .offset) ps (r .1) k) (omega arith)
+count-below low (p ∷ ps) (suc o) j r h k = omega (arith, count-step j p ps, count-below (p .offset) ps o j (r .1) (omega arith) k)
+
+pub count-above : (low : ℕ) (l : List Pair) (o j : ℕ) → Rising low l → o < length l → offsetAt l o ≤ j → o < count (beforeStore j) l
+count-above low [] o j r h k = absurd (omega arith)
+count-above low (p ∷ ps) zero j r h k = rw (le-leb (p .offset) j k) (omega arith)
+count-above low (p ∷ ps) (suc o) j r h k =
+    rw (le-leb (p .offset) j (le-trans (rising-least (p .offset) ps o (r .1) (omega arith)) k)) (omega (arith, count-above (p .offset) ps o j (r .1) (omega arith) k))
+
+-- a store's offset agrees where not more than it come before, and, unless it is 0, more than one less
+pub agrees-more : (o n : ℕ) → ltb o n ≡ true → false ≡ eqb o n
+agrees-more o n h = let k = ltb-true o n h in sym (ne-eqb o n (λ e. omega arith))
+
+pub agrees-none : (o n : ℕ) → ltb o n ≡ false → o ≡ 0 → true ≡ eqb o n
+agrees-none o n h e = let k = ltb-false o n h in sym (eq-eqb o n (omega arith))
+
+pub agrees-some : (o n : ℕ) → ltb o n ≡ false → (o ≡ 0 → ⊥) → ltb (o - 1) n ≡ eqb o n
+agrees-some o n h z = go (ltb (o - 1) n) refl
+  where
+    go : (t : Bool) → ltb (o - 1) n ≡ t → ltb (o - 1) n ≡ eqb o n
+    go true e = let k = ltb-false o n h in let m = ltb-true (o - 1) n e in rw (e, eq-eqb o n (omega arith))
+    go false e = let m = ltb-false (o - 1) n e in rw (e, ne-eqb o n (λ q. omega arith))
+
+-- the list of an array of pairs, where the count is within it
+pub long : {A B : Type 0} (f : A → B) (l : List A) (n : ℕ) → length (map f l) ≡ n → length l ≡ n
+long f [] n p = p
+long f (x ∷ xs) n p = ap suc (long f xs (length (map f xs)) refl) ∙ p
+
+module _ (loads : Pairs) (n i : ℕ) (r : Rising 0 (listOf loads)) (whole : loads .count ≤ length (loads .places)) where
+  size : length (listOf loads) ≡ loads .count
+  size = held-length blankPair (loads .count) (loads .places)
+
+  pub none-more : loads .count ≤ n → false ≡ ltb n (count (beforeStore i) (listOf loads))
+  none-more h = sym (le-ltb n _ (omega (arith, size, count-most (beforeStore i) (listOf loads))))
+
+  pub more-at : n < loads .count → leb (getD (loads .places) n blankPair .offset) i ≡ ltb n (count (beforeStore i) (listOf loads))
+  more-at h =
+      let e : getD (listOf loads) n blankPair ≡ getD (loads .places) n blankPair = held-at blankPair (loads .count) (loads .places) whole n blankPair h in
+      rw (← e) (go (leb (offsetAt (listOf loads) n) i) refl)
+    where
+      go : (t : Bool) → leb (offsetAt (listOf loads) n) i ≡ t → leb (offsetAt (listOf loads) n) i ≡ ltb n (count (beforeStore i) (listOf loads))
+      go true e = rw (e, lt-ltb n _ (count-above 0 (listOf loads) n i r (omega (arith, size)) (leb-true _ _ e)))
+      go false e = rw (e, le-ltb n _ (count-below 0 (listOf loads) n i r (omega (arith, size)) (leb-false _ _ e)))
+
+-- ---- checking pairs one by one
+
+pub and-left : (a b : Bool) → (a && b) ≡ true → a ≡ true
+and-left true b e = refl
+and-left false b e = e
+
+pub and-right : (a b : Bool) → (a && b) ≡ true → b ≡ true
+and-right true b e = e
+and-right false b e = let z : _≡_ {A = ℕ} 0 1 = cc in absurd (omega arith)
+
+-- a pair with no fault has a right offset and a port of the marks
+pub fault-none : (right : Bool) (seen : List Bool) (port : ℕ) → pairFault right seen port ≡ 0 → (right ≡ true) × (port ≤ 31)
+fault-none right seen port e = go right (leb port 31) refl (getD seen port false) e
+  where
+    go : (r t : Bool) → leb port 31 ≡ t → (m : Bool) → check r 8 (check t 6 (check (not m) 7 0)) ≡ 0 → (r ≡ true) × (port ≤ 31)
+    go true true h m f = (refl, leb-true port 31 h)
+    go true false h m f = absurd (omega arith)
+    go false t h m f = absurd (omega arith)
+
+or-else-none : (n m : ℕ) → n ≡ 0 → orElse n m ≡ m
+or-else-none n m e = rw e
+
+or-else-some : (n m : ℕ) → (n ≡ 0 → ⊥) → orElse n m ≡ n
+or-else-some n m h = rw (ne-eqb n 0 h)
+
+-- the pairs before the ith have no fault, the last of them has the offset `low`, and `marks` are the ports seen after them
+pub record Checking (rule : ℕ → ℕ → ℕ → Bool) (seen : List Bool) (l : List Pair) (i low : ℕ) (marks : List Bool) : Type 0 where
+  pub fault : pairsFault rule 0 0 seen l ≡ pairsFault rule low i marks (drop i l)
+  pub seen-are : seeing l seen ≡ seeing (drop i l) marks
+  pub long-marks : length marks ≡ length seen
+
+pub checking-none : {rule : ℕ → ℕ → ℕ → Bool} {seen : List Bool} {l : List Pair} → Checking rule seen l 0 0 seen
+checking-none = record { fault = refl; seen-are = refl; long-marks = refl }
+
+module _ {rule : ℕ → ℕ → ℕ → Bool} {seen : List Bool} {l : List Pair} {i low : ℕ} {marks : List Bool} (w : Checking rule seen l i low marks) where
+  module _ (h : i < length l) {p : Pair} (is : getD l i blankPair ≡ p) where
+    here : drop i l ≡ p ∷ drop (suc i) l
+    here = drop-cons l i blankPair h ∙ rw is
+
+    pub checking-stop : {n : ℕ} → n ≡ pairFault (rule low i (p .offset)) marks (p .port) → (n ≡ 0 → ⊥) → n ≡ pairsFault rule 0 0 seen l
+    unfolding pairsFault
+    checking-stop {n} e z = rw (w .fault, here, ← e) (sym (or-else-some n _ z))
+
+    pub checking-more : pairFault (rule low i (p .offset)) marks (p .port) ≡ 0 → Checking rule seen l (i + 1) (p .offset) (set marks (p .port) true)
+    unfolding pairsFault seeing
+    checking-more e = record {
+      fault = w .fault ∙ rw (here, or-else-none _ (pairsFault rule (p .offset) (suc i) (set marks (p .port) true) (drop (suc i) l)) e, add-one);
+      seen-are = w .seen-are ∙ rw (here, add-one);
+      long-marks = length-set marks (p .port) true ∙ w .long-marks;
+    }
+
+  pub checking-end : length l ≤ i → (0 ≡ pairsFault rule 0 0 seen l) × (marks ≡ seeing l seen)
+  unfolding pairsFault seeing
+  checking-end h = (rw (w .fault, drop-of-length-le l h), rw (w .seen-are, drop-of-length-le l h))
+
+-- loads with no fault have offsets that never fall
+pub rising-checked : (stores low i : ℕ) (seen : List Bool) (l : List Pair) → pairsFault (loadRule stores) low i seen l ≡ 0 → Rising low l
+unfolding pairsFault
+rising-checked stores low i seen [] e = tt
+rising-checked stores low i seen (p ∷ ps) e = go (pairFault (loadRule stores low i (p .offset)) seen (p .port)) refl (λ d. rising-checked stores (p .offset) (suc i) (set seen (p .port) true) ps d) e
+  where
+    go : (n : ℕ) → pairFault (loadRule stores low i (p .offset)) seen (p .port) ≡ n → (pairsFault (loadRule stores) (p .offset) (suc i) (set seen (p .port) true) ps ≡ 0 → Rising (p .offset) ps) → orElse n (pairsFault (loadRule stores) (p .offset) (suc i) (set seen (p .port) true) ps) ≡ 0 → (low ≤ p .offset) × Rising (p .offset) ps
+    go zero f rest d = (leb-true _ _ (and-left _ _ (fault-none _ seen (p .port) f .0)), rest d)
+    go (suc n) f rest d = let q = or-else-some (suc n) (pairsFault (loadRule stores) (p .offset) (suc i) (set seen (p .port) true) ps) (λ z. omega arith) in absurd (omega arith)
+
+-- ---- checking a group
+pub counts-few : (a b : ℕ) → countsRight a b ≡ true → (a ≤ 16) × (b ≤ 16)
+counts-few a b e =
+    let f = and-left (leb a 16 && leb b 16) _ e in
+    (leb-true a 16 (and-left (leb a 16) _ f), leb-true b 16 (and-right (leb a 16) _ f))
+
+module _ (g : Group) (seen : Seen) where
+  loads-size : length (listOf (g .loads)) ≡ g .loads .count
+  loads-size = held-length blankPair (g .loads .count) (g .loads .places)
+
+  stores-size : length (listOf (g .stores)) ≡ g .stores .count
+  stores-size = held-length blankPair (g .stores .count) (g .stores .places)
+
+  pub group-counts : countsRight (g .loads .count) (g .stores .count) ≡ false → badCounts ≡ groupFault seen (pairsOf g)
+  unfolding groupFault
+  group-counts e = rw (loads-size, stores-size, e)
+
+  module _ (right : countsRight (g .loads .count) (g .stores .count) ≡ true) where
+    pub group-loads : {n : ℕ} → n ≡ pairsFault (loadRule (g .stores .count)) 0 0 (seen .loads) (listOf (g .loads)) → (n ≡ 0 → ⊥) → n ≡ groupFault seen (pairsOf g)
+    unfolding groupFault
+    group-loads {n} e z = rw (loads-size, stores-size, right, ← e) (sym (or-else-some n _ z))
+
+    pub group-stores : {n : ℕ} → pairsFault (loadRule (g .stores .count)) 0 0 (seen .loads) (listOf (g .loads)) ≡ 0 → n ≡ pairsFault (storeRule (listOf (g .loads))) 0 0 (seen .stores) (listOf (g .stores)) → n ≡ groupFault seen (pairsOf g)
+    unfolding groupFault
+    group-stores d e = rw (loads-size, stores-size, right, d) e
+
+-- ---- checking groups one by one
+pub record Passing (seen : Seen) (gs : List GroupPairs) (i : ℕ) (now : Seen) : Type 0 where
+  pub fault : groupsFault seen gs ≡ groupsFault now (drop i gs)
+
+pub passing-none : {seen : Seen} {gs : List GroupPairs} → Passing seen gs 0 seen
+passing-none = record { fault = refl }
+
+module _ {seen : Seen} {gs : List GroupPairs} {i : ℕ} {now : Seen} (w : Passing seen gs i now) where
+  module _ (g : GroupPairs) (d : GroupPairs) (h : i < length gs) (is : getD gs i d ≡ g) where
+    this : drop i gs ≡ g ∷ drop (suc i) gs
+    this = drop-cons gs i d h ∙ rw is
+
+    pub passing-stop : {n : ℕ} → n ≡ groupFault now g → (n ≡ 0 → ⊥) → n ≡ groupsFault seen gs
+    unfolding groupsFault
+    passing-stop {n} e z = rw (w .fault, this, ← e) (sym (or-else-some n _ z))
+
+    pub passing-more : {next : Seen} → groupFault now g ≡ 0 → next ≡ seenAfter g now → Passing seen gs (i + 1) next
+    unfolding groupsFault
+    passing-more e q = record { fault = w .fault ∙ rw (this, or-else-none _ (groupsFault (seenAfter g now) (drop (suc i) gs)) e, q, add-one) }
+
+  pub passing-end : length gs ≤ i → 0 ≡ groupsFault seen gs
+  unfolding groupsFault
+  passing-end h = rw (w .fault, drop-of-length-le gs h)
+
+-- a table's groups, in its record
+module _ (t : Table) where
+  pub groups-size : length (groupsOf t) ≡ t .count
+  groups-size = length-map (held blankGroup (t .count) (t .groups)) pairsOf ∙ held-length blankGroup (t .count) (t .groups)
+
+  pub group-at : t .count ≤ length (t .groups) → (i : ℕ) → i < t .count → getD (groupsOf t) i (pairsOf blankGroup) ≡ pairsOf (getD (t .groups) i blankGroup)
+  group-at h i k = List·getD-map pairsOf (held blankGroup (t .count) (t .groups)) i blankGroup ∙ rw (held-at blankGroup (t .count) (t .groups) h i blankGroup k)
+
+  pub table-count : within 1 16 (t .count) ≡ false → badGroupCount ≡ tableFault (groupsOf t)
+  unfolding tableFault
+  table-count e = rw (groups-size, e)
+
+  pub table-groups : within 1 16 (t .count) ≡ true → (n : ℕ) → n ≡ groupsFault noneSeen (groupsOf t) → n ≡ tableFault (groupsOf t)
+  unfolding tableFault
+  table-groups e n d = rw (groups-size, e) d

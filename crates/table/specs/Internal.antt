@@ -1,0 +1,63 @@
+-- What the crate's own functions promise each other: nothing here is promised to a caller from outside.
+use Prim.Native.Nat.{ℕ, zero, suc, _+_, _*_, _≤_, _<_}
+use mathlib.Core.Path.{_≡_}
+use mathlib.Core.Bool.{Bool, true}
+use mathlib.Core.List.{List, [], _∷_, _++_}
+use lib.ListN.{length, take, drop}
+use Rattle.table.specs.declared.Pair.{Pair}
+use Rattle.table.specs.declared.check.Rule.{Rule}
+use Rattle.table.specs.declared.check.Checked.{Checked}
+use Rattle.table.specs.declared.check.Ports.{Ports}
+use Rattle.table.specs.declared.check.Passed.{Passed}
+use Rattle.table.specs.Basics.{pick}
+use Rattle.table.specs.Group.{GroupPairs, listOf}
+use Rattle.table.specs.Table.{loadRule, storeRule, pairsFault, seeing, Seen, seenAfter, groupFault}
+use Rattle.table.specs.declared.NumberRead.{NumberRead}
+use Rattle.table.specs.declared.trace.Numbers.{Numbers}
+use Rattle.table.specs.declared.NumberRead.the-variants.{Number, Refused}
+
+-- a buffer with the bytes at a place
+abbrev pub splice : List ℕ → ℕ → List ℕ → List ℕ
+splice buffer place bytes = take place buffer ++ bytes ++ drop (place + length bytes) buffer
+
+-- numbers of one byte and up to `more` after it, the last of which is at most 0F, are below this
+abbrev pub numberBound : ℕ → ℕ
+numberBound zero = 16
+numberBound (suc more) = 128 * numberBound more
+
+abbrev pub NumberBelow : ℕ → NumberRead → Type 0
+NumberBelow more (Number value next) = value < numberBound more
+NumberBelow more (Refused number) = Unit {0}
+
+-- the numbers that are written together
+abbrev pub listed : Numbers → List ℕ
+listed ns = take (ns .count) (ns .values)
+
+-- ---- checking and reading a group's pairs
+
+-- the rule that a record of it stands for
+abbrev pub ruleOf : Rule → ℕ → ℕ → ℕ → Bool
+ruleOf r low i offset = pick (r .storing) (storeRule (listOf (r .loads)) low i offset) (loadRule (r .stores) low i offset)
+
+-- offsets that never fall, from `low` on
+abbrev pub Rising : ℕ → List Pair → Type 0
+Rising low [] = Unit {0}
+Rising low (p ∷ ps) = (low ≤ p .offset) × Rising (p .offset) ps
+
+-- what a rule's record needs: a store's rule looks into the loads, which have been found to rise
+pub record RuleRight (r : Rule) : Type 0 where
+  pub few : r .loads .count ≤ 16
+  pub rising : r .storing ≡ true → Rising 0 (listOf (r .loads))
+
+-- what checking pairs gives: their first fault and, where there is none, the marks after them
+pub record PairsChecked (rule : ℕ → ℕ → ℕ → Bool) (seen : List Bool) (ps : List Pair) (r : Checked) : Type 0 where
+  pub answer : r .answer ≡ pairsFault rule 0 0 seen ps
+  pub marks : r .answer ≡ 0 → r .seen ≡ seeing ps seen
+
+-- the ports that a record of marks says were seen
+abbrev pub seenOf : Ports → Seen
+seenOf p = record { loads = p .loads; stores = p .stores }
+
+pub record GroupChecked (seen : Seen) (g : GroupPairs) (r : Passed) : Type 0 where
+  pub answer : r .answer ≡ groupFault seen g
+  pub marks : r .answer ≡ 0 → seenOf (r .seen) ≡ seenAfter g seen

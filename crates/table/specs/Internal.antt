@@ -6,6 +6,10 @@ use mathlib.Core.List.{List, [], _∷_, _++_}
 use lib.ListN.{length, take, drop}
 use Rattle.table.specs.declared.Pair.{Pair}
 use Rattle.table.specs.declared.check.Rule.{Rule}
+use Rattle.table.specs.declared.read.TwoRead.{TwoRead}
+use Rattle.table.specs.declared.read.PairsRead.{PairsRead}
+use Rattle.table.specs.Number.{Got, got, bad, andThen, readNumber, placeOf}
+use Rattle.table.specs.TableBytes.{packPairs}
 use Rattle.table.specs.declared.check.Checked.{Checked}
 use Rattle.table.specs.declared.check.Ports.{Ports}
 use Rattle.table.specs.declared.check.Passed.{Passed}
@@ -47,6 +51,7 @@ Rising low (p ∷ ps) = (low ≤ p .offset) × Rising (p .offset) ps
 -- what a rule's record needs: a store's rule looks into the loads, which have been found to rise
 pub record RuleRight (r : Rule) : Type 0 where
   pub few : r .loads .count ≤ 16
+  pub few-stores : r .stores ≤ 16
   pub rising : r .storing ≡ true → Rising 0 (listOf (r .loads))
 
 -- what checking pairs gives: their first fault and, where there is none, the marks after them
@@ -61,3 +66,41 @@ seenOf p = record { loads = p .loads; stores = p .stores }
 pub record GroupChecked (seen : Seen) (g : GroupPairs) (r : Passed) : Type 0 where
   pub answer : r .answer ≡ groupFault seen g
   pub marks : r .answer ≡ 0 → seenOf (r .seen) ≡ seenAfter g seen
+
+-- ---- reading a table
+
+-- two numbers, one after the other
+pub record Two : Type 0 where
+  pub first : ℕ
+  pub second : ℕ
+
+abbrev pub two : ℕ → ℕ → Two
+two x y = record { first = x; second = y }
+
+unfoldable pub readTwo : List ℕ → Got Two
+readTwo s = andThen (readNumber s) λ x s₁. andThen (readNumber s₁) λ y s₂. got (two x y) s₂
+
+abbrev pub twoAnswer : List ℕ → Got Two → TwoRead
+twoAnswer s (got t rest) = TwoRead.Two (t .first) (t .second) (placeOf s rest)
+twoAnswer s (bad k) = TwoRead.NoTwo k
+
+abbrev pub twoRefusal : TwoRead → ℕ
+twoRefusal (TwoRead.Two x y next) = 0
+twoRefusal (TwoRead.NoTwo k) = k
+
+-- a refusal: its number, which is not 0
+pub record IsRefusal (k answer : ℕ) : Type 0 where
+  pub is : answer ≡ k
+  pub some : k ≡ 0 → ⊥
+
+-- what reading pairs gives, by what their bytes say
+pub record PairsFound (s : List ℕ) (seen : List Bool) (ps : List Pair) (rest : List ℕ) (r : PairsRead) : Type 0 where
+  pub answer : r .answer ≡ 0
+  pub pairs : r .pairs ≡ packPairs ps
+  pub marks : r .seen ≡ seeing ps seen
+  pub rest-is : rest ≡ drop (r .next) s
+  pub inside : r .next ≤ length s
+
+abbrev pub PairsResult : List ℕ → List Bool → Got (List Pair) → PairsRead → Type 0
+PairsResult s seen (got ps rest) r = PairsFound s seen ps rest r
+PairsResult s seen (bad k) r = IsRefusal k (r .answer)

@@ -3,6 +3,7 @@
 
 pub mod check;
 pub mod number;
+pub mod read;
 pub mod refusal;
 pub mod trace;
 

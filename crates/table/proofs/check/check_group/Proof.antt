@@ -36,7 +36,7 @@ returns c =
 check-pairs-requires : tie.Need-check-pairs-requires
 check-pairs-requires c κs =
     let f = few (c .before) in
-    (record { few = f .0; rising = λ e. absurd (false≢true e) }, f .0)
+    (record { few = f .0; few-stores = f .1; rising = λ e. absurd (false≢true e) }, f .0)
 
 returns-2 : tie.Need-returns-2
 returns-2 c =
@@ -50,7 +50,7 @@ check-pairs-requires-2 : tie.Need-check-pairs-requires-2
 check-pairs-requires-2 c κs =
     let p = c .before .before .before in
     let f = few (p .before .before) in
-    (record { few = f .0; rising = λ e. rising-checked _ _ _ _ _ (sym (p .check-pairs .ensures .answer) ∙ c .before .if2 .left) }, f .1)
+    (record { few = f .0; few-stores = f .1; rising = λ e. rising-checked _ _ _ _ _ (sym (p .check-pairs .ensures .answer) ∙ c .before .if2 .left) }, f .1)
 
 returns-3 : tie.Need-returns-3
 returns-3 c =

@@ -1,1 +1,5 @@
 pub mod Examples
+pub mod Lists
+pub mod Log
+pub mod MemoryInvariant
+pub mod Window

@@ -3,3 +3,5 @@ pub mod Lists
 pub mod Log
 pub mod MemoryInvariant
 pub mod Window
+pub mod Rows
+pub mod PlainRun

@@ -105,14 +105,6 @@ module _ {A : Type 0} where
 
   -- ---- takeWhile, dropWhile
 
-  pub takeWhile-dropWhile : (p : A → Bool) (xs : List A) → takeWhile p xs ++ dropWhile p xs ≡ xs
-  takeWhile-dropWhile p [] = refl
-  takeWhile-dropWhile p (x ∷ xs) = go (p x) (takeWhile-dropWhile p xs)
-    where
-      go : (b : Bool) → takeWhile p xs ++ dropWhile p xs ≡ xs → pick b (x ∷ takeWhile p xs) [] ++ pick b (dropWhile p xs) (x ∷ xs) ≡ x ∷ xs
-      go true h = ap (λ (l : List A). x ∷ l) h
-      go false h = refl
-
   pub all-takeWhile : (p : A → Bool) (xs : List A) → all p (takeWhile p xs) ≡ true
   all-takeWhile p [] = refl
   all-takeWhile p (x ∷ xs) = go (p x) refl (all-takeWhile p xs)

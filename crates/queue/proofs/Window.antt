@@ -13,10 +13,11 @@ use lib.ListN.{length, take, length-append, length-map}
 use lib.Seq.{take-append-seam, take-at}
 use borrow.Author.Tests.{le-leb, leb-true}
 use Rattle.table.specs.Basics.{all, nth, takeWhile, dropWhile}
+use Rattle.table.proofs.Order.{takeWhile-dropWhile}
 use Rattle.queue.specs.Ruled.{isSome}
 use Rattle.queue.specs.Contents.{updateAt}
 use Rattle.queue.specs.Plain.{consOption}
-use Rattle.queue.proofs.Lists.{false-true, and-left, and-right, and-both, all-append, all-left, all-right, all-join, all-take, all-map, all-weaken, all-weaken₂, take-append, take-map, nth-map, map-same, failing-behind, nth-split, nth-seam, updateAt-seam, takeWhile-dropWhile, all-takeWhile, dropWhile-map, length-takeWhile-map}
+use Rattle.queue.proofs.Lists.{false-true, and-left, and-right, and-both, all-append, all-left, all-right, all-join, all-take, all-map, all-weaken, all-weaken₂, take-append, take-map, nth-map, map-same, failing-behind, nth-split, nth-seam, updateAt-seam, all-takeWhile, dropWhile-map, length-takeWhile-map}
 use Rattle.queue.proofs.Log.{Entry, Kind, Opposite, Placed, place, entryOf, side, onto, ownIn, others, counting, side-append, map-side, side-length, side-before, side-split}
 
 -- an entry as the queue shows it, where so many of the other side have left

@@ -5,3 +5,5 @@ pub mod MemoryInvariant
 pub mod Window
 pub mod Rows
 pub mod PlainRun
+pub mod State
+pub mod Refusals

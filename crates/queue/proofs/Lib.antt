@@ -7,3 +7,5 @@ pub mod Rows
 pub mod PlainRun
 pub mod State
 pub mod Refusals
+pub mod Anew
+pub mod StepServe

@@ -9,3 +9,5 @@ pub mod State
 pub mod Refusals
 pub mod Anew
 pub mod StepServe
+pub mod StepWrite
+pub mod StepTake

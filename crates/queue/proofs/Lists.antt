@@ -8,6 +8,7 @@ use mathlib.Core.List.{List, [], _∷_, _++_, map, head-eq-of-cons-eq, tail-eq-o
 use mathlib.Core.Option.{Option, none, some}
 use lib.ListN.{length, take}
 use Rattle.table.specs.Basics.{pick, any, all, count, nth, takeWhile, dropWhile}
+use Rattle.queue.specs.Ruled.{isSome}
 use Rattle.queue.specs.Contents.{updateAt, firstPlace}
 
 -- ---- Bool
@@ -45,6 +46,10 @@ implies a b = not a || b
 pub implied : (a b : Bool) → implies a b ≡ true → a ≡ true → b ≡ true
 implied true b h e = h
 implied false b h e = false-true e
+
+pub is-none : {A : Type 0} (o : Option A) → not (isSome o) ≡ true → o ≡ none
+is-none none h = refl
+is-none (some x) h = false-true h
 
 module _ {A : Type 0} where
   -- ---- all, any, count

@@ -15,7 +15,8 @@ use Rattle.queue.specs.Contents.{Load, Store}
 use Rattle.queue.specs.Call.{Argument, LoadAddress, StoreAddress, StoreData}
 use Rattle.queue.specs.Plain.{Rows, nextOf, tail, usedUp}
 use Rattle.queue.proofs.Lists.{false-true, and-left, and-right, and-both}
-use Rattle.queue.proofs.Log.{Entry, ofLoad, ofStore}
+use Rattle.queue.specs.Plain.{consOption}
+use Rattle.queue.proofs.Log.{Entry, ofLoad, ofStore, Kind, ownIn}
 use Rattle.queue.proofs.MemoryInvariant.{fits}
 
 -- An entry's cell: none where the entry has no part in the row, else what it has, or none yet.
@@ -123,6 +124,31 @@ module _ (cell : Entry → Cell) where
       go none k l rec = rec row k l
       go (some none) k l rec = let z : length row ≡ 0 = ap length (k .0) in absurd (omega arith)
       go (some (some x)) (r, is, k) l rec = let z : length row ≡ suc (length r) = ap length is in rec r k (omega arith)
+
+-- a row for each port: the port's first cell that waits gets the value, and the other ports' rows are as they were
+pub row-of-port : (cell : ℕ → Entry → Cell) (e e′ : Entry) (x port : ℕ) (pre post : List Entry) → cell port e ≡ some none → cell port e′ ≡ some (some x)
+    → all (λ d. not (lacking (cell port d))) pre ≡ true → ((p : ℕ) → eqb port p ≡ false → cell p e ≡ cell p e′)
+    → (rows : ℕ → List ℕ) → ((p : ℕ) → Row (cell p) (pre ++ e ∷ post) (rows p)) → (p : ℕ) → Row (cell p) (pre ++ e′ ∷ post) (rows p ++ pick (eqb port p) (x ∷ []) [])
+row-of-port cell e e′ x port pre post waits filled t other rows h p = go (eqb port p) refl
+  where
+    go : (b : Bool) → eqb port p ≡ b → Row (cell p) (pre ++ e′ ∷ post) (rows p ++ pick b (x ∷ []) [])
+    go true same =
+        subst (λ (k : ℕ). Row (cell k) (pre ++ e′ ∷ post) (rows k ++ x ∷ [])) (eqb-true port p same) (row-fill (cell port) e e′ x waits filled post pre t (rows port) (h port))
+    go false differs = rw (append-nil (rows p)) (row-same (cell p) e e′ (other p differs) post pre (rows p) (h p))
+
+-- no cell before waits, where no entry of the kind does
+pub none-waits : {A : Type 0} (K : Kind A) (cell : Entry → Cell) → ((e : Entry) → K .own e ≡ none → not (lacking (cell e)) ≡ true)
+    → (pre : List Entry) → all (λ a. not (lacking (cell (K .put a)))) (ownIn K pre) ≡ true → all (λ d. not (lacking (cell d))) pre ≡ true
+none-waits K cell other [] t = refl
+none-waits {A} K cell other (e ∷ pre) t = go (K .own e) refl t (λ k. none-waits K cell other pre k)
+  where
+    go : (o : Option A) → K .own e ≡ o → all (λ a. not (lacking (cell (K .put a)))) (consOption o (ownIn K pre)) ≡ true
+        → (all (λ a. not (lacking (cell (K .put a)))) (ownIn K pre) ≡ true → all (λ d. not (lacking (cell d))) pre ≡ true)
+        → not (lacking (cell e)) && all (λ d. not (lacking (cell d))) pre ≡ true
+    go none own k rec = and-both (other e own) (rec k)
+    go (some a) own k rec =
+        let is : e ≡ K .put a = K .put-own e a own in
+        and-both {a = not (lacking (cell e))} (rw is (and-left (not (lacking (cell (K .put a)))) _ k)) (rec (and-right (not (lacking (cell (K .put a)))) _ k))
 
 -- ---- the plain run takes from the rows what the entries have
 

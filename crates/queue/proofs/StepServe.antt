@@ -17,7 +17,7 @@ use Rattle.queue.specs.Call.{Argument, LoadAddress, StoreAddress, StoreD
 use Rattle.queue.specs.Plain.{rowsOf}
 use Rattle.queue.specs.Demand3.{told, takenAt}
 use Rattle.queue.specs.declared.Counts.{Counts}
-use Rattle.queue.proofs.Lists.{false-true, and-left, and-right, and-both, or-left, or-right, implies, all-left, all-weaken, all-middle}
+use Rattle.queue.proofs.Lists.{false-true, is-none, and-left, and-right, and-both, or-left, or-right, implies, all-left, all-weaken, all-middle}
 use Rattle.queue.proofs.Log.{Entry, ofLoad, ofStore, loads, stores, ownIn, loads-stores, entryOf, Placed}
 use Rattle.queue.proofs.Window.{Located, Before, locate, before-log, shown}
 use Rattle.queue.proofs.MemoryInvariant.{Agree, known, settled, agree-serve}
@@ -94,10 +94,6 @@ serve-given v l StoreData port = refl
 
 serve-taken : (v : ℕ) (l : Load) (port : ℕ) → l .taken ≡ false → valueTaken port (ofLoad l) ≡ valueTaken port (ofLoad (loadWithValue v l))
 serve-taken v l port e = rw e
-
-is-none : (o : Option ℕ) → not (isSome o) ≡ true → o ≡ none
-is-none none h = refl
-is-none (some x) h = false-true h
 
 -- what is not served is not taken
 untaken-unserved : (taken : Bool) (value : Option ℕ) → implies taken (isSome value) ≡ true → value ≡ none → taken ≡ false

@@ -11,3 +11,5 @@ pub mod Anew
 pub mod StepServe
 pub mod StepWrite
 pub mod StepTake
+pub mod StepGive
+pub mod StepActivate

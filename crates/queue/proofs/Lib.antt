@@ -13,3 +13,4 @@ pub mod StepWrite
 pub mod StepTake
 pub mod StepGive
 pub mod StepActivate
+pub mod Run

@@ -90,3 +90,77 @@ fresh-given StoreData port (store p) = empty-cell (eqb p port)
 fresh-value : (port : ℕ) (a : Access) → hasNone (valueTaken port (fresh a)) ≡ true
 fresh-value port (load p) = empty-cell (eqb p port)
 fresh-value port (store p) = refl
+
+module _ (groups : List GroupPairs) (memory : List ℕ) (answered : List Answered) (q : Contents) (m : List ℕ) (log : List Entry)
+    (table : q .groups ≡ groups) (h : Holds q m memory log) (seen : Seen groups answered log) (group : ℕ) (g : GroupPairs)
+    (is : nth (q .groups) group ≡ some g) (fits : room q g ≡ true) where
+  holds-group : Holds (withGroup q g) m memory (log ++ map fresh (order g))
+  holds-group = record {
+    limits = h .limits;
+    roomLoads =
+        rw (length-append (q .loads) (newLoads (length (q .stores)) (order g)), length-newLoads (length (q .stores)) (order g), order-loads g, length-map (g .loads) portOf)
+        (leb-true (length (q .loads) + length (g .loads)) (q .loadDepth) (and-left (leb (length (q .loads) + length (g .loads)) (q .loadDepth)) _ fits));
+    roomStores =
+        rw (length-append (q .stores) (newStores (length (q .loads)) (order g)), length-newStores (length (q .loads)) (order g), order-stores g, length-map (g .stores) portOf)
+        (leb-true (length (q .stores) + length (g .stores)) (q .storeDepth) (and-right (leb (length (q .loads) + length (g .loads)) (q .loadDepth)) _ fits));
+    long = h .long;
+    windows = record {
+      gone = h .windows .gone;
+      gone′ = h .windows .gone′;
+      ours =
+          rw (new-loads (h .windows .gone′) (length (q .stores)) (order g))
+          (window-append loads stores loads-stores log (h .windows .ours) (h .windows .theirs) (map fresh (order g)));
+      theirs =
+          rw (new-stores (h .windows .gone) (length (q .loads)) (order g))
+          (window-append stores loads stores-loads log (h .windows .theirs) (h .windows .ours) (map fresh (order g)));
+    };
+    rightLoads =
+        rw (ownIn-append loads log (map fresh (order g)))
+        (all-join (rightLoad (q .memoryLength)) (ownIn loads log) (ownIn loads (map fresh (order g))) (h .rightLoads) (fresh-loads-right (q .memoryLength) (order g)));
+    rightStores =
+        rw (ownIn-append stores log (map fresh (order g)))
+        (all-join (rightStore (q .memoryLength)) (ownIn stores log) (ownIn stores (map fresh (order g))) (h .rightStores) (fresh-stores-right (q .memoryLength) (order g)));
+    agree = agree-append log (order g) m memory (h .agree);
+  }
+
+  seen-group : Seen groups (answered ++ record { call = Activate group; number = 0; value = none } ∷ []) (log ++ map fresh (order g))
+  seen-group =
+      seen-more groups answered (record { call = Activate group; number = 0; value = none }) (log ++ map fresh (order g))
+      (map-append accessOf log (map fresh (order g)) ∙ rw (seen .shape, fresh-access (order g), ← table, is, append-nil (order g)))
+      (λ kind port. rw (append-nil (rowsOf (told answered) kind port))
+      (row-append (given kind port) (map fresh (order g)) (fresh-all (λ d. hasNone (given kind port d)) (fresh-given kind port) (order g)) log (rowsOf (told answered) kind port) (seen .rows kind port)))
+      (λ port. rw (append-nil (takenAt port answered))
+      (row-append (valueTaken port) (map fresh (order g)) (fresh-all (λ d. hasNone (valueTaken port d)) (fresh-value port) (order g)) log (takenAt port answered) (seen .takes port)))
+      (count-append served log (map fresh (order g)) ∙ rw (seen .serves, fresh-none served unserved (order g)))
+      (count-append written log (map fresh (order g)) ∙ rw (seen .writes, fresh-none written unwritten (order g)))
+    where
+      unserved : (a : Access) → served (fresh a) ≡ false
+      unserved (load p) = refl
+      unserved (store p) = refl
+
+      unwritten : (a : Access) → written (fresh a) ≡ false
+      unwritten (load p) = refl
+      unwritten (store p) = refl
+
+-- An accepted activation keeps the invariant.
+pub activate-keeps : (groups : List GroupPairs) (memory : List ℕ) (answered : List Answered) (m : Machine) → State groups memory answered m
+    → (group : ℕ) (q′ : Contents) → activate (m .queue) group ≡ accept q′
+    → State groups memory (answered ++ record { call = Activate group; number = 0; value = none } ∷ []) (record { queue = q′; memory = m .memory })
+unfolding activate
+activate-keeps groups memory answered m st group q′ h₀ =
+    let (t₁, h₁) = need-accepts (sound q) _ _ h₀ in
+    let (g, is, h₂) = have-accepts (nth (q .groups) group) _ _ h₁ in
+    let (fits, h₃) = need-accepts (room q g) _ _ h₂ in
+    let result : withGroup q g ≡ q′ = cc in
+    subst Goal result (record {
+      log = st .log ++ map fresh (order g);
+      table = st .table;
+      holds = holds-group groups memory answered q (m .memory) (st .log) (st .table) (st .holds) (st .seen) group g is fits;
+      seen = seen-group groups memory answered q (m .memory) (st .log) (st .table) (st .holds) (st .seen) group g is fits;
+    })
+  where
+    q : Contents
+    q = m .queue
+
+    Goal : Contents → Type 0
+    Goal q₁ = State groups memory (answered ++ record { call = Activate group; number = 0; value = none } ∷ []) (record { queue = q₁; memory = m .memory })

@@ -14,3 +14,5 @@ pub mod StepTake
 pub mod StepGive
 pub mod StepActivate
 pub mod Run
+pub mod ReachedSound
+pub mod Progress

@@ -17,7 +17,7 @@ use Rattle.queue.specs.Sound.{depthRight, memoryRight, addressRight}
 use Rattle.queue.specs.Call.{Argument, Call, Side, Ready, Machine, Answered}
 use Rattle.queue.specs.Plain.{Told, consOption, gather, groupIn, givenIn, rowsOf, accessesOf, inOrder, accesses}
 use Rattle.queue.specs.Demand3.{tell, told, takeOf, takenAt, serveIn, writeIn}
-use Rattle.queue.proofs.Lists.{implies}
+use Rattle.queue.proofs.Lists.{and-left, implies}
 use Rattle.queue.proofs.Log.{Entry, ofLoad, ofStore, loads, stores, ownIn}
 use Rattle.queue.proofs.Window.{Windows}
 use Rattle.queue.proofs.MemoryInvariant.{Agree}
@@ -30,6 +30,14 @@ rightLoad words l = implies (l .taken) (isSome (l .value)) && (implies (isSome (
 
 abbrev pub rightStore : ℕ → Store → Bool
 rightStore words s = implies (s .written) (isSome (s .address) && isSome (s .word)) && addressRight words (s .address)
+
+-- what is not served is not taken
+pub untaken-unserved : (words : ℕ) (l : Load) → rightLoad words l ≡ true → l .value ≡ none → l .taken ≡ false
+untaken-unserved words l h e = go (l .taken) (rw e at (and-left (implies (l .taken) (isSome (l .value))) _ h))
+  where
+    go : (taken : Bool) → implies taken false ≡ true → taken ≡ false
+    go false t = refl
+    go true t = sym t
 
 -- what no call changes
 pub record Limits (groups : List GroupPairs) (words loadDepth storeDepth : ℕ) : Type 0 where

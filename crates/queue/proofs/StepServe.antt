@@ -23,7 +23,7 @@ use Rattle.queue.proofs.Window.{Located, Before, locate, before-log, sh
 use Rattle.queue.proofs.MemoryInvariant.{Agree, known, settled, agree-serve}
 use Rattle.queue.proofs.Rows.{given, valueTaken}
 use Rattle.queue.proofs.Refusals.{need-accepts, have-accepts, andThen-accepts}
-use Rattle.queue.proofs.State.{State, Holds, Seen, rightLoad, rightStore}
+use Rattle.queue.proofs.State.{State, Holds, Seen, rightLoad, rightStore, untaken-unserved}
 use Rattle.queue.proofs.Anew.{ownIn-append, holds-load, row-kept, seen-anew}
 
 -- what an accepted serve of this load says
@@ -95,11 +95,6 @@ serve-given v l StoreData port = refl
 serve-taken : (v : ℕ) (l : Load) (port : ℕ) → l .taken ≡ false → valueTaken port (ofLoad l) ≡ valueTaken port (ofLoad (loadWithValue v l))
 serve-taken v l port e = rw e
 
--- what is not served is not taken
-untaken-unserved : (taken : Bool) (value : Option ℕ) → implies taken (isSome value) ≡ true → value ≡ none → taken ≡ false
-untaken-unserved false value h e = refl
-untaken-unserved true value h e = let z : isSome {A = ℕ} none ≡ true = (rw e at h) in false-true z
-
 module _ (groups : List GroupPairs) (memory : List ℕ) (answered : List Answered) (q : Contents) (m : List ℕ) (log : List Entry)
     (table : q .groups ≡ groups) (h : Holds q m memory log) (seen : Seen groups answered log) where
   serve-at : (counts : Counts) (serial i : ℕ) (r : Served) (pre : List Entry) (it : Load) (post : List Entry) (l : Located loads stores log (q .loads) (q .stores) i pre it post)
@@ -138,7 +133,7 @@ module _ (groups : List GroupPairs) (memory : List ℕ) (answered : List Answere
       unserved = is-none (it .value) (s .unserved)
 
       untaken : it .taken ≡ false
-      untaken = untaken-unserved (it .taken) (it .value) (and-left (implies (it .taken) (isSome (it .value))) _ right-it) unserved
+      untaken = untaken-unserved (q .memoryLength) it right-it unserved
 
       right : rightLoad (q .memoryLength) (loadWithValue v it) ≡ true
       right = and-both (or-right (not (it .taken)) true refl) (and-both {a = isSome (it .address)} (rw (s .addressed)) in-range)

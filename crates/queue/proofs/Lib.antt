@@ -16,3 +16,4 @@ pub mod StepActivate
 pub mod Run
 pub mod ReachedSound
 pub mod Progress
+pub mod Demand3

@@ -1,22 +1,21 @@
 -- One entry of the log made anew: what follows for the invariant's parts. And finished entries that leave.
-use Prim.Native.Nat.{ℕ, zero, suc, _+_, _≤_}
-use native.Mathlib.Nat.{add-zero}
+use Prim.Native.Nat.{ℕ, suc, _+_, _≤_}
 use native.Mathlib.Omega.{arith}
-use mathlib.Core.Path.{_≡_, refl, sym, ap, _∙_, subst}
+use mathlib.Core.Path.{_≡_, refl, sym, ap, _∙_}
 use mathlib.Core.Bool.{Bool, true, false}
 use mathlib.Core.List.{List, [], _∷_, _++_, map, map-append, append-nil}
 use mathlib.Core.Option.{Option, none, some}
 use lib.ListN.{length, length-map}
-use Rattle.table.specs.Basics.{pick, all, count, dropWhile}
+use Rattle.table.specs.Basics.{pick, count, dropWhile}
 use Rattle.table.specs.Group.{GroupPairs, Access}
 use Rattle.queue.specs.Contents.{Load, Store, Contents, withLoads, withStores, updateAt}
 use Rattle.queue.specs.Write.{settle, leaving, loadFinished, storeFinished, loadAfterLeaving, storeAfterLeaving}
 use Rattle.queue.specs.Call.{Argument, Answered}
-use Rattle.queue.specs.Plain.{consOption, gather, groupIn, rowsOf, accesses}
+use Rattle.queue.specs.Plain.{consOption, gather, rowsOf, accesses}
 use Rattle.queue.specs.Demand3.{tell, told, takenAt, serveIn, writeIn}
-use Rattle.queue.proofs.Lists.{and-both, and-right, all-append, all-replace, all-left, count-append, length-updateAt, length-dropWhile}
+use Rattle.queue.proofs.Lists.{all-replace, count-append, length-updateAt, length-dropWhile}
 use Rattle.queue.proofs.Log.{Entry, ofLoad, ofStore, Kind, loads, stores, ownIn, loads-stores, stores-loads}
-use Rattle.queue.proofs.Window.{Windows, Located, turned, window-leave}
+use Rattle.queue.proofs.Window.{Located, turned, window-leave}
 use Rattle.queue.proofs.MemoryInvariant.{Agree}
 use Rattle.queue.proofs.Rows.{Row, Cell, given, valueTaken, row-same}
 use Rattle.queue.proofs.PlainRun.{accessOf}

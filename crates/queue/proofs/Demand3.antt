@@ -1,19 +1,19 @@
 -- Demand 3, proved: the invariant that every call keeps (Run.antt) gives the three claims, and two alike lists follow.
-use Prim.Native.Nat.{ℕ, zero, suc, _≤_, _<_}
+use Prim.Native.Nat.{ℕ, suc, _≤_, _<_}
 use native.Mathlib.Omega.{arith}
 use mathlib.Core.Path.{_≡_, refl, sym, ap, _∙_, fun-ext}
 use mathlib.Core.Bool.{Bool, true, false, _&&_}
 use mathlib.Core.List.{List, [], _∷_, map}
-use mathlib.Core.Option.{Option, none, some}
+use mathlib.Core.Option.{some}
 use lib.Dec.{leb}
 use lib.ListN.{length}
 use borrow.Author.Tests.{leb-true}
 use Rattle.table.specs.Basics.{pick, all, count, nth}
-use Rattle.table.specs.Group.{GroupPairs, Access, load, store}
+use Rattle.table.specs.Group.{GroupPairs}
 use Rattle.queue.specs.Write.{storeFinished}
-use Rattle.queue.specs.Call.{Argument, Call, Machine, Answered, answers, leaves}
-use Rattle.queue.specs.Plain.{Told, Rows, Filling, gather, groupIn, rowsOf, inOrder, accesses, loadedFrom, valuesAt, startOf, plainLoads, plainMemory}
-use Rattle.queue.specs.Demand3.{told, takenAt, isStore, allWritten, Opening, Sequential, Demand3, Alike, AlikeLists}
+use Rattle.queue.specs.Call.{Machine, Answered, answers, leaves}
+use Rattle.queue.specs.Plain.{Told, Rows, Filling, rowsOf, inOrder, accesses, loadedFrom, valuesAt, plainLoads, plainMemory}
+use Rattle.queue.specs.Demand3.{told, takenAt, isStore, Sequential, Demand3, Alike, AlikeLists}
 use Rattle.queue.proofs.Lists.{and-left, and-both}
 use Rattle.queue.proofs.Log.{Entry, ofLoad, ofStore, stores, ownIn}
 use Rattle.queue.proofs.PlainRun.{accessOf, taken-is-loaded, written-is-plain}

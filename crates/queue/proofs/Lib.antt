@@ -1,18 +1,15 @@
 pub mod Examples
+-- demand 3, from the ground up
 pub mod Lists
 pub mod Log
-pub mod MemoryInvariant
 pub mod Window
+pub mod MemoryInvariant
 pub mod Rows
 pub mod PlainRun
-pub mod State
 pub mod Refusals
+pub mod State
 pub mod Anew
-pub mod StepServe
-pub mod StepWrite
-pub mod StepTake
-pub mod StepGive
-pub mod StepActivate
+pub mod Steps
 pub mod Run
 pub mod ReachedSound
 pub mod Progress

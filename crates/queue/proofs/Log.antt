@@ -1,21 +1,21 @@
 -- The log: every access of the accepted activations in program order, finished ones included, with the same records as the
 -- queue's entries. What an entry of the log remembers means nothing; where it stands is what counts.
-use Prim.Native.Nat.{ℕ, zero, suc, _+_, _≤_}
+use Prim.Native.Nat.{ℕ, suc, _+_}
 use native.Mathlib.Nat.{add-zero, add-suc, suc-add}
 use native.Mathlib.Omega.{arith}
-use mathlib.Core.Path.{_≡_, refl, sym, ap, _∙_, subst}
-use mathlib.Core.Bool.{Bool, true, false, not, _&&_}
+use mathlib.Core.Path.{_≡_, refl, sym, ap}
+use mathlib.Core.Bool.{Bool, true, false, not}
 use mathlib.Core.List.{List, [], _∷_, _++_, map, head-eq-of-cons-eq, tail-eq-of-cons-eq}
 use mathlib.Core.Option.{Option, none, some}
 use lib.Dec.{leb}
 use lib.ListN.{length}
-use borrow.Author.Tests.{le-leb, leb-true}
+use borrow.Author.Tests.{le-leb}
 use Rattle.table.specs.Basics.{all}
 use Rattle.queue.specs.Ruled.{isSome}
 use Rattle.queue.specs.Contents.{Load, Store}
 use Rattle.queue.specs.Plain.{consOption}
 use Rattle.queue.specs.Write.{loadFinished, storeFinished}
-use Rattle.queue.proofs.Lists.{false-true, and-both, and-left, and-right, all-weaken}
+use Rattle.queue.proofs.Lists.{false-true, and-both}
 
 pub data Entry : Type 0 where
   ofLoad : Load → Entry

@@ -2,7 +2,7 @@
 -- would be if every unwritten store up to here had been done in order. They agree on all that is still to be read.
 -- "However missing arguments are filled in" is said entry by entry: a completion has whatever arguments the entry has.
 use Prim.Native.Nat.{ℕ, _<_}
-use mathlib.Core.Path.{_≡_, refl, sym, ap, _∙_, subst}
+use mathlib.Core.Path.{_≡_, refl, sym, ap, _∙_}
 use mathlib.Core.Bool.{Bool, true, false, not, _&&_, _||_}
 use mathlib.Core.List.{List, [], _∷_, _++_, map}
 use mathlib.Core.Option.{Option, none, some}
@@ -17,7 +17,7 @@ use Rattle.queue.specs.Contents.{Load, Store}
 use Rattle.queue.specs.Activate.{newLoad, newStore}
 use Rattle.queue.specs.Serve.{addressIs, supplies, loadWithValue}
 use Rattle.queue.specs.Write.{addressApart, loadGivesWay, storeGivesWay, storeDone}
-use Rattle.queue.proofs.Lists.{false-true, and-left, and-right, or-else}
+use Rattle.queue.proofs.Lists.{false-true, and-left, and-right}
 use Rattle.queue.proofs.Log.{Entry, ofLoad, ofStore, loads, stores, ownIn}
 
 -- may x stand where this is known

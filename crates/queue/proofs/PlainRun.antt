@@ -1,20 +1,19 @@
 -- The plain run beside the log: what the rows and the memory invariant say of its values and of its memory.
 use Prim.Native.Nat.{ℕ, zero, suc}
-use mathlib.Core.Path.{_≡_, refl, sym, ap, _∙_, subst}
+use mathlib.Core.Path.{_≡_, sym, ap, _∙_}
 use mathlib.Core.Bool.{Bool, true, false}
-use mathlib.Core.List.{List, [], _∷_, _++_, map}
+use mathlib.Core.List.{List, [], _∷_, map}
 use mathlib.Core.Option.{Option, none, some}
 use lib.Dec.{eqb}
 use lib.ListN.{getD, set}
 use Rattle.table.specs.Basics.{pick, all, nth}
 use Rattle.table.specs.Group.{Access, load, store}
-use Rattle.queue.specs.Contents.{Load, Store}
 use Rattle.queue.specs.Call.{LoadAddress, StoreAddress, StoreData}
 use Rattle.queue.specs.Write.{storeFinished}
-use Rattle.queue.specs.Plain.{Rows, Filling, nextOf, usedUp, Loaded, loadedFrom, memoryFrom, valuesAt}
+use Rattle.queue.specs.Plain.{Rows, Filling, nextOf, usedUp, loadedFrom, memoryFrom, valuesAt}
 use Rattle.queue.proofs.Lists.{false-true, and-left, and-right}
 use Rattle.queue.proofs.Log.{Entry, ofLoad, ofStore, stores, ownIn}
-use Rattle.queue.proofs.MemoryInvariant.{Agree, fits, reads, does}
+use Rattle.queue.proofs.MemoryInvariant.{Agree, reads, does}
 use Rattle.queue.proofs.Rows.{Row, fed, cellFor, valueTaken, AllRows, rows-after-load, rows-after-store, load-fits, store-fits, word-fits}
 
 -- the access that an entry is of

@@ -1,8 +1,8 @@
 -- Progress: where every access has its arguments and some load is unserved or some store unwritten, the oldest such access of
 -- the log stands in the queue, and a serve or write of it is accepted.
-use Prim.Native.Nat.{ℕ, zero, suc, _+_, _-_, _%_, _^_, _≤_, _<_}
+use Prim.Native.Nat.{ℕ, zero, suc, _^_, _≤_, _<_}
 use native.Mathlib.Omega.{arith}
-use mathlib.Core.Path.{_≡_, refl, sym, ap, _∙_, subst}
+use mathlib.Core.Path.{_≡_, refl, sym, ap, _∙_}
 use mathlib.Core.Logic.{_⊎_, inl, inr}
 use mathlib.Core.Bool.{Bool, true, false, not, _&&_}
 use mathlib.Core.List.{List, [], _∷_, _++_, map}
@@ -10,22 +10,22 @@ use mathlib.Core.Option.{Option, none, some}
 use lib.Dec.{leb, eqb}
 use lib.ListN.{length, take}
 use borrow.Author.Tests.{eq-eqb, leb-true}
-use Rattle.table.specs.Basics.{pick, all, count, nth}
-use Rattle.table.specs.Group.{GroupPairs, Access, load, store}
-use Rattle.queue.specs.Ruled.{Ruled, accept, number, isSome}
+use Rattle.table.specs.Basics.{all, count, nth}
+use Rattle.table.specs.Group.{GroupPairs, load, store}
+use Rattle.queue.specs.Ruled.{number, isSome}
 use Rattle.queue.specs.Contents.{Load, Store, Contents, after, age, oldest, loadPlace, storePlace}
 use Rattle.queue.specs.Sound.{sound}
-use Rattle.queue.specs.Serve.{hasAddress, supplies, nearest, serve}
+use Rattle.queue.specs.Serve.{hasAddress, nearest, serve}
 use Rattle.queue.specs.Write.{addressApart, loadGivesWay, storeGivesWay, storeFinished, write}
 use Rattle.queue.specs.Call.{Argument, LoadAddress, StoreAddress, StoreData, Machine, Answered}
 use Rattle.queue.specs.Plain.{rowsOf, accesses, consOption}
 use Rattle.queue.specs.Demand3.{told, uses, isLoad, isStore, someUnserved, someUnwritten, allArguments, wouldMove}
-use Rattle.queue.proofs.Lists.{false-true, is-none, and-left, and-right, and-both, or-left, implies, all-left, all-middle}
+use Rattle.queue.proofs.Lists.{false-true, is-none, and-left, and-right, and-both, or-left, all-left, all-middle}
 use Rattle.queue.proofs.Log.{Entry, ofLoad, ofStore, Kind, loads, stores, ownIn, loads-stores, stores-loads}
 use Rattle.queue.proofs.Window.{Located, turned, unfinished-queued, before-queued}
 use Rattle.queue.proofs.Rows.{given, cellFor, lacking, row-full, eqb-self}
 use Rattle.queue.proofs.PlainRun.{accessOf}
-use Rattle.queue.proofs.State.{Holds, Seen, State, rightLoad, rightStore, untaken-unserved, served, written}
+use Rattle.queue.proofs.State.{Holds, State, rightLoad, untaken-unserved, served, written}
 use Rattle.queue.proofs.Anew.{ownIn-append}
 use Rattle.queue.proofs.ReachedSound.{holds-sound}
 

@@ -1,10 +1,10 @@
 -- The invariant holds of the opening, and every call keeps it.
-use Prim.Native.Nat.{ℕ, zero, _≤_}
+use Prim.Native.Nat.{ℕ}
 use native.Mathlib.Omega.{arith}
-use mathlib.Core.Path.{_≡_, refl, sym, ap, _∙_, subst}
-use mathlib.Core.Bool.{Bool, true, false}
+use mathlib.Core.Path.{_≡_, refl, sym, subst}
+use mathlib.Core.Bool.{false}
 use mathlib.Core.List.{List, [], _∷_, _++_, append-assoc, append-nil}
-use mathlib.Core.Option.{Option, none, some}
+use mathlib.Core.Option.{none}
 use lib.Dec.{eqb}
 use lib.ListN.{length}
 use Rattle.table.specs.Basics.{all}
@@ -20,13 +20,13 @@ use Rattle.queue.specs.Write.{Written, write}
 use Rattle.queue.specs.Take.{Taken, take}
 use Rattle.queue.specs.Call.{Call, Activate, Give, Serve, Write, Take, Ready, Machine, Step, Answered, moved, served, written, taken, give, ready, step, answers, leaves}
 use Rattle.queue.specs.Demand3.{Opening}
-use Rattle.queue.proofs.Refusals.{proper, refusal-not-zero, need-accepts, activate-proper, give-proper, serve-proper, write-proper, take-proper}
+use Rattle.queue.proofs.Refusals.{refusal-not-zero, need-accepts, activate-proper, give-proper, serve-proper, write-proper, take-proper}
 use Rattle.queue.proofs.State.{Limits, State, seen-refused, seen-ready}
-use Rattle.queue.proofs.StepActivate.{activate-keeps}
-use Rattle.queue.proofs.StepGive.{give-keeps}
-use Rattle.queue.proofs.StepServe.{serve-keeps}
-use Rattle.queue.proofs.StepWrite.{write-keeps}
-use Rattle.queue.proofs.StepTake.{take-keeps}
+use Rattle.queue.proofs.Steps.Activate.{activate-keeps}
+use Rattle.queue.proofs.Steps.Give.{give-keeps}
+use Rattle.queue.proofs.Steps.Serve.{serve-keeps}
+use Rattle.queue.proofs.Steps.Write.{write-keeps}
+use Rattle.queue.proofs.Steps.Take.{take-keeps}
 
 -- ---- the opening
 

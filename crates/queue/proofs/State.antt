@@ -1,15 +1,15 @@
 -- The invariant of a list of calls: one record of named parts. `Holds` is about the queue and the memory, `Seen` about what
 -- the list was answered; both speak of the same log.
-use Prim.Native.Nat.{ℕ, zero, suc, _+_, _≤_}
+use Prim.Native.Nat.{ℕ, _+_, _≤_}
 use native.Mathlib.Nat.{add-zero}
-use mathlib.Core.Path.{_≡_, refl, sym, ap, _∙_, subst}
+use mathlib.Core.Path.{_≡_, refl, sym, ap, _∙_}
 use mathlib.Core.Bool.{Bool, true, false, _&&_}
 use mathlib.Core.List.{List, [], _∷_, _++_, map, map-append, append-nil, append-assoc}
 use mathlib.Core.Option.{Option, none, some}
 use lib.Dec.{eqb}
 use lib.ListN.{length, length-append}
 use Rattle.table.specs.Basics.{pick, all, count, nth}
-use Rattle.table.specs.Group.{GroupPairs, Access}
+use Rattle.table.specs.Group.{GroupPairs}
 use Rattle.table.specs.Table.{tableFault}
 use Rattle.queue.specs.Ruled.{isSome}
 use Rattle.queue.specs.Contents.{Load, Store, Contents}

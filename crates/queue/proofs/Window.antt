@@ -1,24 +1,24 @@
 -- The queue as a window of the log. On each side the log's entries are some old ones, all finished, and then the live ones; a
 -- side of the queue holds the live ones, each with its remembered number lowered by the number of the OTHER side's old ones.
 -- Truncated minus is "falls as those leave and then stays 0", so that the remembered numbers need no proof of their own.
-use Prim.Native.Nat.{ℕ, zero, suc, _+_, _-_, _≤_}
+use Prim.Native.Nat.{ℕ, suc, _+_, _-_, _≤_}
 use native.Mathlib.Nat.{zero-add}
 use native.Mathlib.Omega.{arith}
-use mathlib.Core.Path.{_≡_, refl, sym, ap, _∙_, subst}
-use mathlib.Core.Bool.{Bool, true, false, not, _&&_}
-use mathlib.Core.List.{List, [], _∷_, _++_, map, append-assoc, append-cancel-left, map-append, map-map, head-eq-of-cons-eq, tail-eq-of-cons-eq}
+use mathlib.Core.Path.{_≡_, refl, sym, ap, _∙_}
+use mathlib.Core.Bool.{Bool, true, false, not}
+use mathlib.Core.List.{List, [], _∷_, _++_, map, append-assoc, append-cancel-left, map-append, map-map}
 use mathlib.Core.Option.{Option, none, some}
 use lib.Dec.{leb}
 use lib.ListN.{length, take, length-append, length-map}
-use lib.Seq.{take-append-seam, take-at}
+use lib.Seq.{take-at}
 use borrow.Author.Tests.{le-leb, leb-true}
 use Rattle.table.specs.Basics.{all, nth, takeWhile, dropWhile}
 use Rattle.table.proofs.Order.{takeWhile-dropWhile}
 use Rattle.queue.specs.Ruled.{isSome}
 use Rattle.queue.specs.Contents.{updateAt}
 use Rattle.queue.specs.Plain.{consOption}
-use Rattle.queue.proofs.Lists.{false-true, and-left, and-right, and-both, all-append, all-left, all-right, all-join, all-take, all-map, all-weaken, all-weaken₂, take-append, take-map, nth-map, map-same, failing-behind, nth-split, nth-seam, updateAt-seam, all-takeWhile, dropWhile-map, length-takeWhile-map}
-use Rattle.queue.proofs.Log.{Entry, Kind, Opposite, Placed, place, entryOf, side, onto, ownIn, others, counting, side-append, map-side, side-length, side-before, side-split}
+use Rattle.queue.proofs.Lists.{false-true, all-left, all-right, all-join, all-take, all-map, all-weaken, all-weaken₂, take-append, take-map, nth-map, map-same, failing-behind, nth-split, nth-seam, updateAt-seam, all-takeWhile, dropWhile-map, length-takeWhile-map}
+use Rattle.queue.proofs.Log.{Entry, Kind, Opposite, Placed, place, entryOf, side, ownIn, others, counting, side-append, map-side, side-length, side-before, side-split}
 
 -- an entry as the queue shows it, where so many of the other side have left
 abbrev pub shown : {A : Type 0} → Kind A → ℕ → Placed A → A

@@ -1,11 +1,10 @@
 -- An accepted activation keeps the invariant: the group's accesses join the log with nothing given yet.
-use Prim.Native.Nat.{ℕ, zero, suc, _+_, _-_, _≤_}
-use native.Mathlib.Nat.{add-zero, add-suc, add-sub-cancel-left}
-use native.Mathlib.Omega.{arith}
-use mathlib.Core.Path.{_≡_, refl, sym, ap, _∙_, subst}
-use mathlib.Core.Bool.{Bool, true, false, _&&_}
+use Prim.Native.Nat.{ℕ, suc, _+_}
+use native.Mathlib.Nat.{add-suc, add-sub-cancel-left}
+use mathlib.Core.Path.{_≡_, refl, ap, _∙_, subst}
+use mathlib.Core.Bool.{Bool, true, false}
 use mathlib.Core.List.{List, [], _∷_, _++_, map, map-append, append-nil}
-use mathlib.Core.Option.{Option, none, some}
+use mathlib.Core.Option.{none, some}
 use lib.Dec.{leb, eqb}
 use lib.ListN.{length, length-append, length-map}
 use borrow.Author.Tests.{leb-true}
@@ -13,18 +12,18 @@ use Rattle.table.specs.Basics.{all, count, nth}
 use Rattle.table.specs.Group.{GroupPairs, Access, load, store, order}
 use Rattle.table.specs.Table.{portOf}
 use Rattle.table.proofs.Order.{loadPorts, storePorts, order-loads, order-stores}
-use Rattle.queue.specs.Ruled.{Ruled, accept}
-use Rattle.queue.specs.Contents.{Load, Store, Contents}
+use Rattle.queue.specs.Ruled.{accept}
+use Rattle.queue.specs.Contents.{Contents}
 use Rattle.queue.specs.Sound.{sound}
-use Rattle.queue.specs.Activate.{newLoad, newStore, newLoads, newStores, room, withGroup, activate}
+use Rattle.queue.specs.Activate.{newLoads, newStores, room, withGroup, activate}
 use Rattle.queue.specs.Call.{Argument, LoadAddress, StoreAddress, StoreData, Activate, Machine, Answered}
-use Rattle.queue.specs.Plain.{accesses, accessesOf, rowsOf, gather}
-use Rattle.queue.specs.Demand3.{told, takenAt, serveIn, writeIn}
+use Rattle.queue.specs.Plain.{rowsOf}
+use Rattle.queue.specs.Demand3.{told, takenAt}
 use Rattle.queue.proofs.Lists.{and-left, and-right, all-join, count-append}
-use Rattle.queue.proofs.Log.{Entry, ofLoad, ofStore, Kind, Placed, place, loads, stores, side, ownIn, loads-stores, stores-loads}
-use Rattle.queue.proofs.Window.{Windows, shown, window-append}
+use Rattle.queue.proofs.Log.{Entry, loads, stores, side, ownIn, loads-stores, stores-loads}
+use Rattle.queue.proofs.Window.{shown, window-append}
 use Rattle.queue.proofs.MemoryInvariant.{fresh, agree-append}
-use Rattle.queue.proofs.Rows.{Row, Cell, given, valueTaken, hasNone, cellFor, row-append}
+use Rattle.queue.proofs.Rows.{given, valueTaken, hasNone, cellFor, row-append}
 use Rattle.queue.proofs.PlainRun.{accessOf}
 use Rattle.queue.proofs.Refusals.{need-accepts, have-accepts}
 use Rattle.queue.proofs.State.{State, Holds, Seen, rightLoad, rightStore, served, written, seen-more}

@@ -1,23 +1,23 @@
 -- An accepted write keeps the invariant: the store may go ahead of everything before it that still waits.
 use Prim.Native.Nat.{ℕ}
-use mathlib.Core.Path.{_≡_, refl, sym, ap, _∙_, subst}
-use mathlib.Core.Bool.{Bool, true, false, not, _&&_}
+use mathlib.Core.Path.{_≡_, refl, subst}
+use mathlib.Core.Bool.{true, false, not, _&&_}
 use mathlib.Core.List.{List, [], _∷_, _++_}
-use mathlib.Core.Option.{Option, none, some}
+use mathlib.Core.Option.{none, some}
 use lib.Dec.{eqb}
 use lib.ListN.{length, take, set, length-set}
 use borrow.Author.Tests.{not-true}
 use Rattle.table.specs.Basics.{all, nth}
 use Rattle.table.specs.Group.{GroupPairs}
-use Rattle.queue.specs.Ruled.{Ruled, accept, isSome}
-use Rattle.queue.specs.Contents.{Load, Store, Contents, withStores, updateAt, storePlace}
-use Rattle.queue.specs.Sound.{sound, addressRight}
+use Rattle.queue.specs.Ruled.{accept, isSome}
+use Rattle.queue.specs.Contents.{Store, Contents, withStores, updateAt, storePlace}
+use Rattle.queue.specs.Sound.{sound}
 use Rattle.queue.specs.Write.{Written, addressApart, loadGivesWay, storeGivesWay, storeDone, settle, write}
 use Rattle.queue.specs.Call.{Argument, LoadAddress, StoreAddress, StoreData, Write, Machine, Answered}
 use Rattle.queue.specs.Plain.{rowsOf}
 use Rattle.queue.specs.Demand3.{told, takenAt}
 use Rattle.queue.proofs.Lists.{and-left, and-right, and-both, or-left, implies, implied, all-left, all-middle}
-use Rattle.queue.proofs.Log.{Entry, ofLoad, ofStore, loads, stores, ownIn, stores-loads}
+use Rattle.queue.proofs.Log.{Entry, ofStore, loads, stores, ownIn, stores-loads}
 use Rattle.queue.proofs.Window.{Located, turned, locate, before-log}
 use Rattle.queue.proofs.MemoryInvariant.{Agree, agree-write}
 use Rattle.queue.proofs.Rows.{given, valueTaken}

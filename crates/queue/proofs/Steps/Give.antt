@@ -5,25 +5,24 @@ use native.Mathlib.Nat.{add-zero}
 use mathlib.Core.Path.{_≡_, refl, sym, ap, _∙_, subst}
 use mathlib.Core.Logic.{_⊎_, inl, inr}
 use mathlib.Core.Bool.{Bool, true, false, not, _&&_}
-use mathlib.Core.List.{List, [], _∷_, _++_, append-nil}
+use mathlib.Core.List.{List, [], _∷_, _++_}
 use mathlib.Core.Option.{Option, none, some}
 use lib.Dec.{eqb, ltb}
-use lib.ListN.{length, take}
 use borrow.Author.Tests.{eqb-true}
 use Rattle.table.specs.Basics.{pick, any, all, count, nth}
 use Rattle.table.specs.Group.{GroupPairs}
-use Rattle.queue.specs.Ruled.{Ruled, accept, isSome}
+use Rattle.queue.specs.Ruled.{accept, isSome}
 use Rattle.queue.specs.Contents.{Load, Store, Contents, withLoads, withStores, updateAt, firstPlace}
-use Rattle.queue.specs.Sound.{sound, addressRight}
+use Rattle.queue.specs.Sound.{sound}
 use Rattle.queue.specs.Arguments.{isLoadPort, isStorePort, loadLacksAddress, storeLacksAddress, storeLacksWord, loadWithAddress, storeWithAddress, storeWithWord, loadAddress, storeAddress, storeData}
 use Rattle.queue.specs.Call.{Argument, LoadAddress, StoreAddress, StoreData, Give, give, Machine, Answered}
 use Rattle.queue.specs.Plain.{consOption, sameKind, rowsOf}
 use Rattle.queue.specs.Demand3.{told, takenAt}
-use Rattle.queue.proofs.Lists.{false-true, is-none, and-left, and-right, and-both, or-right, implies, implied, all-left, all-middle, all-weaken, any-first, first-passes, first-before}
+use Rattle.queue.proofs.Lists.{is-none, and-left, and-right, and-both, or-right, implies, implied, all-left, all-middle, all-weaken, any-first, first-passes, first-before}
 use Rattle.queue.proofs.Log.{Entry, ofLoad, ofStore, Kind, Opposite, loads, stores, ownIn, loads-stores, stores-loads}
 use Rattle.queue.proofs.Window.{Windows, Located, turned, locate, before-log}
-use Rattle.queue.proofs.MemoryInvariant.{Agree, fits, agree-change}
-use Rattle.queue.proofs.Rows.{Row, Cell, given, valueTaken, cellFor, lacking, row-same, row-of-port, none-waits}
+use Rattle.queue.proofs.MemoryInvariant.{Agree, agree-change}
+use Rattle.queue.proofs.Rows.{Row, given, valueTaken, cellFor, lacking, row-of-port, none-waits}
 use Rattle.queue.proofs.PlainRun.{accessOf}
 use Rattle.queue.proofs.Refusals.{need-accepts}
 use Rattle.queue.proofs.State.{State, Holds, Seen, rightLoad, rightStore, served, written}

@@ -9,9 +9,9 @@ use lib.Dec.{eqb}
 use borrow.Author.Tests.{not-true, eqb-true}
 use Rattle.table.specs.Basics.{pick, any, all, count, nth}
 use Rattle.table.specs.Group.{GroupPairs}
-use Rattle.queue.specs.Ruled.{Ruled, accept, isSome}
-use Rattle.queue.specs.Contents.{Load, Store, Contents, withLoads, updateAt, firstPlace}
-use Rattle.queue.specs.Sound.{sound, addressRight}
+use Rattle.queue.specs.Ruled.{accept, isSome}
+use Rattle.queue.specs.Contents.{Load, Contents, withLoads, updateAt, firstPlace}
+use Rattle.queue.specs.Sound.{sound}
 use Rattle.queue.specs.Arguments.{isLoadPort}
 use Rattle.queue.specs.Write.{settle}
 use Rattle.queue.specs.Take.{Taken, untaken, loadTaken, take}
@@ -21,8 +21,8 @@ use Rattle.queue.specs.Demand3.{told, takenAt}
 use Rattle.queue.proofs.Lists.{false-true, and-left, and-right, and-both, implies, all-left, all-middle, all-weaken₂, first-passes, first-before}
 use Rattle.queue.proofs.Log.{Entry, ofLoad, ofStore, loads, stores, ownIn, loads-stores}
 use Rattle.queue.proofs.Window.{Located, locate, before-log}
-use Rattle.queue.proofs.MemoryInvariant.{Agree, agree-change}
-use Rattle.queue.proofs.Rows.{given, valueTaken, cellFor, lacking, row-of-port, none-waits, eqb-self}
+use Rattle.queue.proofs.MemoryInvariant.{agree-change}
+use Rattle.queue.proofs.Rows.{given, valueTaken, cellFor, lacking, row-of-port, none-waits}
 use Rattle.queue.proofs.Refusals.{need-accepts, have-accepts}
 use Rattle.queue.proofs.State.{State, Holds, Seen, rightLoad, served}
 use Rattle.queue.proofs.Anew.{ownIn-append, holds-load, holds-settled, row-kept, seen-anew}

@@ -6,10 +6,10 @@ use mathlib.Core.List.{List, [], _∷_, _++_, map}
 use mathlib.Core.Option.{Option, none, some}
 use lib.Dec.{eqb}
 use lib.ListN.{length, take, getD}
-use borrow.Author.Tests.{not-true, ltb-true}
+use borrow.Author.Tests.{ltb-true}
 use Rattle.table.specs.Basics.{pick, all, nth}
 use Rattle.table.specs.Group.{GroupPairs}
-use Rattle.queue.specs.Ruled.{Ruled, accept, need, have, andThen, isSome}
+use Rattle.queue.specs.Ruled.{accept, have, isSome}
 use Rattle.queue.specs.Contents.{Load, Store, Contents, withLoads, updateAt, loadPlace}
 use Rattle.queue.specs.Sound.{sound, addressRight}
 use Rattle.queue.specs.Serve.{Served, Source, hasAddress, supplies, nearest, sourceOf, storesBefore, loadWithValue, serve}
@@ -17,8 +17,8 @@ use Rattle.queue.specs.Call.{Argument, LoadAddress, StoreAddress, StoreD
 use Rattle.queue.specs.Plain.{rowsOf}
 use Rattle.queue.specs.Demand3.{told, takenAt}
 use Rattle.queue.specs.declared.Counts.{Counts}
-use Rattle.queue.proofs.Lists.{false-true, is-none, and-left, and-right, and-both, or-left, or-right, implies, all-left, all-weaken, all-middle}
-use Rattle.queue.proofs.Log.{Entry, ofLoad, ofStore, loads, stores, ownIn, loads-stores, entryOf, Placed}
+use Rattle.queue.proofs.Lists.{is-none, and-left, and-right, and-both, or-left, or-right, implies, all-left, all-weaken, all-middle}
+use Rattle.queue.proofs.Log.{Entry, ofLoad, loads, stores, ownIn, loads-stores, entryOf, Placed}
 use Rattle.queue.proofs.Window.{Located, Before, locate, before-log, shown}
 use Rattle.queue.proofs.MemoryInvariant.{Agree, known, settled, agree-serve}
 use Rattle.queue.proofs.Rows.{given, valueTaken}

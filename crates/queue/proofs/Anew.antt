@@ -4,30 +4,21 @@ use native.Mathlib.Omega.{arith}
 use mathlib.Core.Path.{_≡_, refl, sym, ap, _∙_}
 use mathlib.Core.Bool.{Bool, true, false}
 use mathlib.Core.List.{List, [], _∷_, _++_, map, map-append, append-nil}
-use mathlib.Core.Option.{Option, none, some}
 use lib.ListN.{length, length-map}
 use Rattle.table.specs.Basics.{pick, count, dropWhile}
 use Rattle.table.specs.Group.{GroupPairs, Access}
 use Rattle.queue.specs.Contents.{Load, Store, Contents, withLoads, withStores, updateAt}
 use Rattle.queue.specs.Write.{settle, leaving, loadFinished, storeFinished, loadAfterLeaving, storeAfterLeaving}
 use Rattle.queue.specs.Call.{Argument, Answered}
-use Rattle.queue.specs.Plain.{consOption, gather, rowsOf, accesses}
+use Rattle.queue.specs.Plain.{gather, rowsOf, accesses}
 use Rattle.queue.specs.Demand3.{tell, told, takenAt, serveIn, writeIn}
 use Rattle.queue.proofs.Lists.{all-replace, count-append, length-updateAt, length-dropWhile}
-use Rattle.queue.proofs.Log.{Entry, ofLoad, ofStore, Kind, loads, stores, ownIn, loads-stores, stores-loads}
+use Rattle.queue.proofs.Log.{Entry, ofLoad, ofStore, loads, stores, ownIn, loads-stores, stores-loads, ownIn-append}
 use Rattle.queue.proofs.Window.{Located, turned, window-leave}
 use Rattle.queue.proofs.MemoryInvariant.{Agree}
 use Rattle.queue.proofs.Rows.{Row, Cell, given, valueTaken, row-same}
 use Rattle.queue.proofs.PlainRun.{accessOf}
 use Rattle.queue.proofs.State.{Holds, Seen, rightLoad, rightStore, served, written, seen-more}
-
-pub ownIn-append : {A : Type 0} (K : Kind A) (xs ys : List Entry) → ownIn K (xs ++ ys) ≡ ownIn K xs ++ ownIn K ys
-ownIn-append K [] ys = refl
-ownIn-append {A} K (e ∷ xs) ys = go (K .own e) (ownIn-append K xs ys)
-  where
-    go : (o : Option A) → ownIn K (xs ++ ys) ≡ ownIn K xs ++ ownIn K ys → consOption o (ownIn K (xs ++ ys)) ≡ consOption o (ownIn K xs) ++ ownIn K ys
-    go none h = h
-    go (some a) h = ap (λ (l : List A). a ∷ l) h
 
 -- ---- the queue's part
 

@@ -58,8 +58,8 @@ sequential groups memory answered left st fill = record {
   moves = state-moves groups memory answered left st;
 }
 
--- DEMAND 3. The bound on what is filled in is not needed: a store whose address is filled in is unwritten, and a load behind
--- it is not served.
+-- DEMAND 3. The bound on what is filled in is not used: a taken load and the stores before it have their addresses (28), and
+-- so has every written store, so that nothing filled in is ever read.
 pub demand3 : Demand3
 demand3 groups memory m o calls fill low = sequential groups memory (answers m calls) (leaves m calls) (reached o calls) fill
 

@@ -34,11 +34,6 @@ pub or-right : (a b : Bool) → b ≡ true → a || b ≡ true
 or-right true b h = refl
 or-right false b h = h
 
--- the second of two where the first fails
-pub or-else : (a b : Bool) → a || b ≡ true → a ≡ false → b ≡ true
-or-else true b h e = false-true (sym e)
-or-else false b h e = h
-
 -- "where a holds, so does b"
 abbrev pub implies : Bool → Bool → Bool
 implies a b = not a || b

@@ -139,6 +139,14 @@ module _ {A : Type 0} (K : Kind A) where
       go none h k = k
       go (some a) h k = ap (λ (l : List A). a ∷ l) h
 
+  pub ownIn-append : (xs ys : List Entry) → ownIn K (xs ++ ys) ≡ ownIn K xs ++ ownIn K ys
+  ownIn-append [] ys = refl
+  ownIn-append (e ∷ xs) ys = go (K .own e) (ownIn-append xs ys)
+    where
+      go : (o : Option A) → ownIn K (xs ++ ys) ≡ ownIn K xs ++ ownIn K ys → consOption o (ownIn K (xs ++ ys)) ≡ consOption o (ownIn K xs) ++ ownIn K ys
+      go none h = h
+      go (some a) h = ap (λ (l : List A). a ∷ l) h
+
   pub side-length : (n : ℕ) (es : List Entry) → length (side K n es) ≡ length (ownIn K es)
   side-length n [] = refl
   side-length n (e ∷ es) = go (K .own e) (side-length n es) (side-length (suc n) es)

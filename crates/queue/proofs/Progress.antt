@@ -11,7 +11,7 @@ use lib.Dec.{leb, eqb}
 use lib.ListN.{length, take}
 use borrow.Author.Tests.{eq-eqb, leb-true}
 use Rattle.table.specs.Basics.{all, count, nth}
-use Rattle.table.specs.Group.{GroupPairs, load, store}
+use Rattle.table.specs.Group.{GroupPairs}
 use Rattle.queue.specs.Ruled.{number, isSome}
 use Rattle.queue.specs.Contents.{Load, Store, Contents, after, age, oldest, loadPlace, storePlace}
 use Rattle.queue.specs.Sound.{sound}
@@ -21,12 +21,11 @@ use Rattle.queue.specs.Call.{Argument, LoadAddress, StoreAddress, StoreD
 use Rattle.queue.specs.Plain.{rowsOf, accesses, consOption}
 use Rattle.queue.specs.Demand3.{told, uses, isLoad, isStore, someUnserved, someUnwritten, allArguments, wouldMove}
 use Rattle.queue.proofs.Lists.{false-true, is-none, and-left, and-right, and-both, or-left, all-left, all-middle}
-use Rattle.queue.proofs.Log.{Entry, ofLoad, ofStore, Kind, loads, stores, ownIn, loads-stores, stores-loads}
+use Rattle.queue.proofs.Log.{Entry, ofLoad, ofStore, Kind, loads, stores, ownIn, loads-stores, stores-loads, ownIn-append}
 use Rattle.queue.proofs.Window.{Located, turned, unfinished-queued, before-queued}
 use Rattle.queue.proofs.Rows.{given, cellFor, lacking, row-full, eqb-self}
 use Rattle.queue.proofs.PlainRun.{accessOf}
 use Rattle.queue.proofs.State.{Holds, State, rightLoad, untaken-unserved, served, written}
-use Rattle.queue.proofs.Anew.{ownIn-append}
 use Rattle.queue.proofs.ReachedSound.{holds-sound}
 
 -- ---- serials
@@ -105,28 +104,18 @@ all-complete (ofStore s ∷ es) h =
     (filled-some (s .port) (s .word) (and-left (not (lacking (given StoreData (s .port) (ofStore s)))) _ (h StoreData (s .port)))))
     (all-complete es (λ kind port. and-right (not (lacking (given kind port (ofStore s)))) _ (h kind port)))
 
+cell-there : (b : Bool) (o : Option ℕ) → isSome (cellFor b o) ≡ b
+cell-there true o = refl
+cell-there false o = refl
+
 -- an entry has a cell in the row of what its access uses
 given-uses : (kind : Argument) (port : ℕ) (e : Entry) → isSome (given kind port e) ≡ uses kind port (accessOf e)
-given-uses kind port (ofLoad l) = go kind
-  where
-    cell : (b : Bool) (o : Option ℕ) → isSome (cellFor b o) ≡ b
-    cell true o = refl
-    cell false o = refl
-
-    go : (k : Argument) → isSome (given k port (ofLoad l)) ≡ uses k port (load (l .port))
-    go LoadAddress = cell (eqb (l .port) port) (l .address)
-    go StoreAddress = refl
-    go StoreData = refl
-given-uses kind port (ofStore s) = go kind
-  where
-    cell : (b : Bool) (o : Option ℕ) → isSome (cellFor b o) ≡ b
-    cell true o = refl
-    cell false o = refl
-
-    go : (k : Argument) → isSome (given k port (ofStore s)) ≡ uses k port (store (s .port))
-    go LoadAddress = refl
-    go StoreAddress = cell (eqb (s .port) port) (s .address)
-    go StoreData = cell (eqb (s .port) port) (s .word)
+given-uses LoadAddress port (ofLoad l) = cell-there (eqb (l .port) port) (l .address)
+given-uses LoadAddress port (ofStore s) = refl
+given-uses StoreAddress port (ofLoad l) = refl
+given-uses StoreAddress port (ofStore s) = cell-there (eqb (s .port) port) (s .address)
+given-uses StoreData port (ofLoad l) = refl
+given-uses StoreData port (ofStore s) = cell-there (eqb (s .port) port) (s .word)
 
 count-uses : (kind : Argument) (port : ℕ) (es : List Entry) → count (λ d. isSome (given kind port d)) es ≡ count (uses kind port) (map accessOf es)
 count-uses kind port [] = refl

@@ -1,6 +1,6 @@
 -- A row beside the log: the values of some entries in order, and then none. It serves the accepted arguments of each kind and
 -- port, and the values taken at each port.
-use Prim.Native.Nat.{ℕ, suc, _≤_}
+use Prim.Native.Nat.{ℕ, suc}
 use native.Mathlib.Omega.{arith}
 use mathlib.Core.Path.{_≡_, refl, sym, ap, subst}
 use mathlib.Core.Bool.{Bool, true, false, not, _&&_}
@@ -104,16 +104,6 @@ module _ (cell : Entry → Cell) where
   row-append new t (d ∷ es) row h = fed-map (cell d) (Row cell es) (Row cell (es ++ new)) (λ r. r) refl (λ x r. refl) (λ r k. row-append new t es r k) row h
 
   -- a row that is as long as it has cells leaves none waiting
-  row-length : (es : List Entry) (row : List ℕ) → Row cell es row → length row ≤ count (λ d. isSome (cell d)) es
-  row-length [] row h = rw h (omega arith)
-  row-length (d ∷ es) row h = go (cell d) h (λ r k. row-length es r k)
-    where
-      go : (c : Cell) → fed c (Row cell es) row → ((r : List ℕ) → Row cell es r → length r ≤ count (λ d. isSome (cell d)) es)
-          → length row ≤ pick (isSome c) (suc (count (λ d. isSome (cell d)) es)) (count (λ d. isSome (cell d)) es)
-      go none k rec = rec row k
-      go (some none) k rec = rw (k .0) (omega arith)
-      go (some (some x)) (r, is, k) rec = rw is (let l : length r ≤ count (λ d. isSome (cell d)) es = rec r k in omega arith)
-
   pub row-full : (es : List Entry) (row : List ℕ) → Row cell es row → length row ≡ count (λ d. isSome (cell d)) es → all (λ d. not (lacking (cell d))) es ≡ true
   row-full [] row h e = refl
   row-full (d ∷ es) row h e = go (cell d) h e (λ r k l. row-full es r k l)

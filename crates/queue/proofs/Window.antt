@@ -56,12 +56,16 @@ pub record Before {A : Type 0} (K : Kind A) (queued : List A) (pre : List Entry)
   pub shows : queued ≡ map (shown K out) rest
 
 -- A queued entry and its place in the log: all that the calls need of the window.
-pub record Located {A B : Type 0} (K : Kind A) (K′ : Kind B) (log : List Entry) (held : List A) (held′ : List B) (i : ℕ) (pre : List Entry) (it : A) (post : List Entry) : Type 0 where
-  pub number : ℕ
+pub record Located {A B : Type 0} (K : Kind A) (K′ : Kind B) (log : List Entry) (held : List A) (held′ : List B)
+    (i : ℕ) (pre : List Entry) (it : A) (post : List Entry) : Type 0 where
   pub log-is : log ≡ pre ++ K .put it ∷ post
+  -- the queue shows it with this remembered number
+  pub number : ℕ
   pub at : nth held i ≡ some (K .remember number it)
+  -- the entries before it, of its own side and of the other
   pub before : Before K (take i held) pre
   pub before′ : Before K′ (take number held′) pre
+  -- both sides after it is made anew
   pub anew : (f : A → A) → ((n : ℕ) (a : A) → f (K .remember n a) ≡ K .remember n (f a)) → Windows K K′ (pre ++ K .put (f it) ∷ post) (updateAt f i held) held′
 
 -- ---- what a test says of the queue's part it says of the log's, and back
@@ -163,6 +167,13 @@ module _ {A B : Type 0} (K : Kind A) (K′ : Kind B) (opposite : Opposite K K′
       shows = rw (w′ .shows) (take-map (shown K′ gone) (others K pre - gone′) (w′ .live));
     }
 
+    updated : (f : A → A) → ((n : ℕ) (a : A) → f (K .remember n a) ≡ K .remember n (f a))
+        → updateAt f (length (map (shown K gone′) near)) (map (shown K gone′) near ++ shown K gone′ (place (others K pre) it) ∷ map (shown K gone′) (side K (others K pre) post))
+        ≡ map (shown K gone′) near ++ shown K gone′ (place (others K pre) (f it)) ∷ map (shown K gone′) (side K (others K pre) post)
+    updated f blind =
+        updateAt-seam f (map (shown K gone′) near) (shown K gone′ (place (others K pre) it)) (map (shown K gone′) (side K (others K pre) post))
+        ∙ rw (blind (others K pre - gone′) it)
+
     located-anew : (f : A → A) → ((n : ℕ) (a : A) → f (K .remember n a) ≡ K .remember n (f a)) → Windows K K′ (pre ++ K .put (f it) ∷ post) (updateAt f (length near) held) held′
     located-anew f blind = record {
       gone = gone;
@@ -173,7 +184,7 @@ module _ {A B : Type 0} (K : Kind A) (K′ : Kind B) (opposite : Opposite K K′
         parts = side-is (f it);
         many = w .many;
         ended = w .ended;
-        shows = rw (held-is, map-append (shown K gone′) near (place (others K pre) (f it) ∷ side K (others K pre) post), ← i-is, updateAt-seam f (map (shown K gone′) near) (shown K gone′ (place (others K pre) it)) (map (shown K gone′) (side K (others K pre) post)), blind (others K pre - gone′) it);
+        shows = rw (held-is, map-append (shown K gone′) near (place (others K pre) (f it) ∷ side K (others K pre) post), ← i-is) (updated f blind);
       };
       theirs = record {
         old = w′ .old;
@@ -187,8 +198,8 @@ module _ {A B : Type 0} (K : Kind A) (K′ : Kind B) (opposite : Opposite K K′
 
     pub located : Located K K′ log held held′ (length near) pre it post
     located = record {
-      number = others K pre - gone′;
       log-is = log-is;
+      number = others K pre - gone′;
       at = located-at;
       before = located-before;
       before′ = located-before′;
@@ -281,7 +292,9 @@ module _ {A B : Type 0} (K : Kind A) (K′ : Kind B) (opposite : Opposite K K′
   window-leave leave lowers {log} {gone} {out} {held} w j = record {
     old = w .old ++ takeWhile (over K) (w .live);
     live = dropWhile (over K) (w .live);
-    parts = w .parts ∙ ap (λ (l : List (Placed A)). w .old ++ l) (sym (takeWhile-dropWhile (over K) (w .live))) ∙ sym (append-assoc (w .old) (takeWhile (over K) (w .live)) (dropWhile (over K) (w .live)));
+    parts =
+        w .parts ∙ ap (λ (l : List (Placed A)). w .old ++ l) (sym (takeWhile-dropWhile (over K) (w .live)))
+        ∙ sym (append-assoc (w .old) (takeWhile (over K) (w .live)) (dropWhile (over K) (w .live)));
     many =
         length-append (w .old) (takeWhile (over K) (w .live))
         ∙ rw (w .many, w .shows, length-takeWhile-map (K .finished) (over K) (shown K out) (λ x. K .finished-remember (x .before - out) (x .entry)) (w .live));

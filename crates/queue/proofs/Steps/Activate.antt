@@ -20,14 +20,13 @@ use Rattle.queue.specs.Call.{Argument, LoadAddress, StoreAddress, StoreD
 use Rattle.queue.specs.Plain.{rowsOf}
 use Rattle.queue.specs.Demand3.{told, takenAt}
 use Rattle.queue.proofs.Lists.{and-left, and-right, all-join, count-append}
-use Rattle.queue.proofs.Log.{Entry, loads, stores, side, ownIn, loads-stores, stores-loads}
+use Rattle.queue.proofs.Log.{Entry, loads, stores, side, ownIn, loads-stores, stores-loads, ownIn-append}
 use Rattle.queue.proofs.Window.{shown, window-append}
 use Rattle.queue.proofs.MemoryInvariant.{fresh, agree-append}
 use Rattle.queue.proofs.Rows.{given, valueTaken, hasNone, cellFor, row-append}
 use Rattle.queue.proofs.PlainRun.{accessOf}
 use Rattle.queue.proofs.Refusals.{need-accepts, have-accepts}
 use Rattle.queue.proofs.State.{State, Holds, Seen, rightLoad, rightStore, served, written, seen-more}
-use Rattle.queue.proofs.Anew.{ownIn-append}
 
 -- the new entries that the queue shows are those of the log
 new-loads : (out n : ℕ) (new : List Access) → newLoads n new ≡ map (shown loads out) (side loads (out + n) (map fresh new))

@@ -19,14 +19,14 @@ use Rattle.queue.specs.Call.{Argument, LoadAddress, StoreAddress, StoreD
 use Rattle.queue.specs.Plain.{consOption, sameKind, rowsOf}
 use Rattle.queue.specs.Demand3.{told, takenAt}
 use Rattle.queue.proofs.Lists.{is-none, and-left, and-right, and-both, or-right, implies, implied, all-left, all-middle, all-weaken, any-first, first-passes, first-before}
-use Rattle.queue.proofs.Log.{Entry, ofLoad, ofStore, Kind, Opposite, loads, stores, ownIn, loads-stores, stores-loads}
+use Rattle.queue.proofs.Log.{Entry, ofLoad, ofStore, Kind, Opposite, loads, stores, ownIn, loads-stores, stores-loads, ownIn-append}
 use Rattle.queue.proofs.Window.{Windows, Located, turned, locate, before-log}
 use Rattle.queue.proofs.MemoryInvariant.{Agree, agree-change}
 use Rattle.queue.proofs.Rows.{Row, given, valueTaken, cellFor, lacking, row-of-port, none-waits}
 use Rattle.queue.proofs.PlainRun.{accessOf}
 use Rattle.queue.proofs.Refusals.{need-accepts}
 use Rattle.queue.proofs.State.{State, Holds, Seen, rightLoad, rightStore, served, written}
-use Rattle.queue.proofs.Anew.{ownIn-append, holds-load, holds-store, row-kept, seen-anew}
+use Rattle.queue.proofs.Anew.{holds-load, holds-store, row-kept, seen-anew}
 
 -- the place of an argument in the entries of a kind
 record Slot {A : Type 0} (K : Kind A) : Type 0 where

@@ -18,13 +18,13 @@ use Rattle.queue.specs.Plain.{rowsOf}
 use Rattle.queue.specs.Demand3.{told, takenAt}
 use Rattle.queue.specs.declared.Counts.{Counts}
 use Rattle.queue.proofs.Lists.{is-none, and-left, and-right, and-both, or-left, or-right, implies, all-left, all-weaken, all-middle}
-use Rattle.queue.proofs.Log.{Entry, ofLoad, loads, stores, ownIn, loads-stores, entryOf, Placed}
+use Rattle.queue.proofs.Log.{Entry, ofLoad, loads, stores, ownIn, loads-stores, entryOf, Placed, ownIn-append}
 use Rattle.queue.proofs.Window.{Located, Before, locate, before-log, shown}
 use Rattle.queue.proofs.MemoryInvariant.{Agree, known, settled, agree-serve}
 use Rattle.queue.proofs.Rows.{given, valueTaken}
 use Rattle.queue.proofs.Refusals.{need-accepts, have-accepts, andThen-accepts}
 use Rattle.queue.proofs.State.{State, Holds, Seen, rightLoad, rightStore, untaken-unserved}
-use Rattle.queue.proofs.Anew.{ownIn-append, holds-load, row-kept, seen-anew}
+use Rattle.queue.proofs.Anew.{holds-load, row-kept, seen-anew}
 
 -- what an accepted serve of this load says
 record Serving (q : Contents) (m : List ℕ) (i : ℕ) (r : Served) (l : Load) : Type 0 where

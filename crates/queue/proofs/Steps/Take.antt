@@ -19,13 +19,13 @@ use Rattle.queue.specs.Call.{Argument, LoadAddress, StoreAddress, StoreD
 use Rattle.queue.specs.Plain.{rowsOf}
 use Rattle.queue.specs.Demand3.{told, takenAt}
 use Rattle.queue.proofs.Lists.{false-true, and-left, and-right, and-both, implies, all-left, all-middle, all-weaken₂, first-passes, first-before}
-use Rattle.queue.proofs.Log.{Entry, ofLoad, ofStore, loads, stores, ownIn, loads-stores}
+use Rattle.queue.proofs.Log.{Entry, ofLoad, ofStore, loads, stores, ownIn, loads-stores, ownIn-append}
 use Rattle.queue.proofs.Window.{Located, locate, before-log}
 use Rattle.queue.proofs.MemoryInvariant.{agree-change}
 use Rattle.queue.proofs.Rows.{given, valueTaken, cellFor, lacking, row-of-port, none-waits}
 use Rattle.queue.proofs.Refusals.{need-accepts, have-accepts}
 use Rattle.queue.proofs.State.{State, Holds, Seen, rightLoad, served}
-use Rattle.queue.proofs.Anew.{ownIn-append, holds-load, holds-settled, row-kept, seen-anew}
+use Rattle.queue.proofs.Anew.{holds-load, holds-settled, row-kept, seen-anew}
 
 -- what an accepted take of this load says
 record Taking (q : Contents) (i : ℕ) (r : Taken) (l : Load) : Type 0 where

@@ -17,13 +17,13 @@ use Rattle.queue.specs.Call.{Argument, LoadAddress, StoreAddress, StoreD
 use Rattle.queue.specs.Plain.{rowsOf}
 use Rattle.queue.specs.Demand3.{told, takenAt}
 use Rattle.queue.proofs.Lists.{and-left, and-right, and-both, or-left, implies, implied, all-left, all-middle}
-use Rattle.queue.proofs.Log.{Entry, ofStore, loads, stores, ownIn, stores-loads}
+use Rattle.queue.proofs.Log.{Entry, ofStore, loads, stores, ownIn, stores-loads, ownIn-append}
 use Rattle.queue.proofs.Window.{Located, turned, locate, before-log}
 use Rattle.queue.proofs.MemoryInvariant.{Agree, agree-write}
 use Rattle.queue.proofs.Rows.{given, valueTaken}
 use Rattle.queue.proofs.Refusals.{need-accepts, have-accepts}
 use Rattle.queue.proofs.State.{State, Holds, Seen, rightLoad, rightStore}
-use Rattle.queue.proofs.Anew.{ownIn-append, holds-store, holds-settled, row-kept, seen-anew}
+use Rattle.queue.proofs.Anew.{holds-store, holds-settled, row-kept, seen-anew}
 
 -- what an accepted write of this store says
 record Writing (q : Contents) (m : List ℕ) (i : ℕ) (r : Written) (s : Store) : Type 0 where

@@ -9,6 +9,7 @@ pub mod PlainRun
 pub mod Refusals
 pub mod State
 pub mod Anew
+pub mod Slots
 pub mod Steps
 pub mod Run
 pub mod ReachedSound

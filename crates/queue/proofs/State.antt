@@ -17,7 +17,7 @@ use Rattle.queue.specs.Sound.{depthRight, memoryRight, addressRight}
 use Rattle.queue.specs.Call.{Argument, Call, Side, Ready, Machine, Answered}
 use Rattle.queue.specs.Plain.{Told, consOption, gather, groupIn, givenIn, rowsOf, accessesOf, inOrder, accesses}
 use Rattle.queue.specs.Demand3.{tell, told, takeOf, takenAt, serveIn, writeIn}
-use Rattle.queue.proofs.Lists.{and-left, implies}
+use Rattle.queue.proofs.Lists.{and-left, and-right, implies}
 use Rattle.queue.proofs.Log.{Entry, ofLoad, ofStore, loads, stores, ownIn}
 use Rattle.queue.proofs.Window.{Windows}
 use Rattle.queue.proofs.MemoryInvariant.{Agree}
@@ -31,9 +31,24 @@ rightLoad words l = implies (l .taken) (isSome (l .value)) && (implies (isSome (
 abbrev pub rightStore : ℕ → Store → Bool
 rightStore words s = implies (s .written) (isSome (s .address) && isSome (s .word)) && addressRight words (s .address)
 
+pub taken-served : (words : ℕ) (l : Load) → rightLoad words l ≡ true → implies (l .taken) (isSome (l .value)) ≡ true
+taken-served words l h = and-left (implies (l .taken) (isSome (l .value))) _ h
+
+pub served-addressed : (words : ℕ) (l : Load) → rightLoad words l ≡ true → implies (isSome (l .value)) (isSome (l .address)) ≡ true
+served-addressed words l h = and-left (implies (isSome (l .value)) (isSome (l .address))) _ (and-right (implies (l .taken) (isSome (l .value))) _ h)
+
+pub load-in-range : (words : ℕ) (l : Load) → rightLoad words l ≡ true → addressRight words (l .address) ≡ true
+load-in-range words l h = and-right (implies (isSome (l .value)) (isSome (l .address))) _ (and-right (implies (l .taken) (isSome (l .value))) _ h)
+
+pub written-full : (words : ℕ) (s : Store) → rightStore words s ≡ true → implies (s .written) (isSome (s .address) && isSome (s .word)) ≡ true
+written-full words s h = and-left (implies (s .written) (isSome (s .address) && isSome (s .word))) _ h
+
+pub store-in-range : (words : ℕ) (s : Store) → rightStore words s ≡ true → addressRight words (s .address) ≡ true
+store-in-range words s h = and-right (implies (s .written) (isSome (s .address) && isSome (s .word))) _ h
+
 -- what is not served is not taken
 pub untaken-unserved : (words : ℕ) (l : Load) → rightLoad words l ≡ true → l .value ≡ none → l .taken ≡ false
-untaken-unserved words l h e = go (l .taken) (rw e at (and-left (implies (l .taken) (isSome (l .value))) _ h))
+untaken-unserved words l h e = go (l .taken) (rw e at (taken-served words l h))
   where
     go : (taken : Bool) → implies taken false ≡ true → taken ≡ false
     go false t = refl

@@ -1,5 +1,4 @@
 -- An accepted argument keeps the invariant: it joins the row of its kind and port, and the first entry that waits has it.
--- The three kinds of argument are three slots of an entry; what they share is proved once.
 use Prim.Native.Nat.{ℕ}
 use native.Mathlib.Nat.{add-zero}
 use mathlib.Core.Path.{_≡_, refl, sym, ap, _∙_, subst}
@@ -23,98 +22,10 @@ use Rattle.queue.proofs.Log.{Entry, ofLoad, ofStore, Kind, Opposite, lo
 use Rattle.queue.proofs.Window.{Windows, Located, turned, locate, before-log}
 use Rattle.queue.proofs.MemoryInvariant.{Agree, agree-change}
 use Rattle.queue.proofs.Rows.{Row, given, valueTaken, cellFor, lacking, row-of-port, none-waits}
-use Rattle.queue.proofs.PlainRun.{accessOf}
+use Rattle.queue.proofs.Slots.{Slot, lacks, loadAddresses, storeAddresses, storeWords}
 use Rattle.queue.proofs.Refusals.{need-accepts}
-use Rattle.queue.proofs.State.{State, Holds, Seen, rightLoad, rightStore, served, written}
+use Rattle.queue.proofs.State.{State, Holds, Seen, rightLoad, rightStore, taken-served, served-addressed, written-full, store-in-range, served, written}
 use Rattle.queue.proofs.Anew.{holds-load, holds-store, row-kept, seen-anew}
-
--- the place of an argument in the entries of a kind
-record Slot {A : Type 0} (K : Kind A) : Type 0 where
-  kind : Argument
-  port : A → ℕ
-  has : A → Option ℕ
-  fill : ℕ → A → A
-  -- its cell is what it has, and other cells are as they were
-  cell : (p : ℕ) (a : A) → given kind p (K .put a) ≡ cellFor (eqb (port a) p) (has a)
-  cellFilled : (p x : ℕ) (a : A) → given kind p (K .put (fill x a)) ≡ cellFor (eqb (port a) p) (some x)
-  cellOther : (p : ℕ) (e : Entry) → K .own e ≡ none → given kind p e ≡ none
-  kindSame : sameKind kind kind ≡ true
-  kindOther : (k : Argument) → (k ≡ kind) ⊎ ((sameKind kind k ≡ false) × ((p x : ℕ) (a : A) → given k p (K .put a) ≡ given k p (K .put (fill x a))))
-  valueSame : (p x : ℕ) (a : A) → valueTaken p (K .put a) ≡ valueTaken p (K .put (fill x a))
-  accessSame : (x : ℕ) (a : A) → accessOf (K .put (fill x a)) ≡ accessOf (K .put a)
-  servedSame : (x : ℕ) (a : A) → served (K .put (fill x a)) ≡ served (K .put a)
-  writtenSame : (x : ℕ) (a : A) → written (K .put (fill x a)) ≡ written (K .put a)
-  portBlind : (n : ℕ) (a : A) → port (K .remember n a) ≡ port a
-  hasBlind : (n : ℕ) (a : A) → has (K .remember n a) ≡ has a
-
-abbrev lacks : {A : Type 0} {K : Kind A} → Slot K → ℕ → A → Bool
-lacks S p a = eqb (S .port a) p && not (isSome (S .has a))
-
-loadAddresses : Slot loads
-loadAddresses = record {
-  kind = LoadAddress;
-  port = λ l. l .port;
-  has = λ l. l .address;
-  fill = loadWithAddress;
-  cell = λ p l. refl;
-  cellFilled = λ p x l. refl;
-  cellOther = other;
-  kindSame = refl;
-  kindOther = elim [ LoadAddress ↦ inl refl | StoreAddress ↦ inr (refl, λ p x l. refl) | StoreData ↦ inr (refl, λ p x l. refl) ];
-  valueSame = λ p x l. refl;
-  accessSame = λ x l. refl;
-  servedSame = λ x l. refl;
-  writtenSame = λ x l. refl;
-  portBlind = λ n l. refl;
-  hasBlind = λ n l. refl;
-}
-  where
-    other : (p : ℕ) (e : Entry) → loads .own e ≡ none → given LoadAddress p e ≡ none
-    other p (ofLoad l) h = cc
-    other p (ofStore s) h = refl
-
--- where no entry of the kind stands, a store's slots have no cell
-store-other : (kind : Argument) → ((p : ℕ) (l : Load) → given kind p (ofLoad l) ≡ none) → (p : ℕ) (e : Entry) → stores .own e ≡ none → given kind p e ≡ none
-store-other kind h p (ofLoad l) e = h p l
-store-other kind h p (ofStore s) e = cc
-
-storeAddresses : Slot stores
-storeAddresses = record {
-  kind = StoreAddress;
-  port = λ s. s .port;
-  has = λ s. s .address;
-  fill = storeWithAddress;
-  cell = λ p s. refl;
-  cellFilled = λ p x s. refl;
-  cellOther = store-other StoreAddress (λ p l. refl);
-  kindSame = refl;
-  kindOther = elim [ LoadAddress ↦ inr (refl, λ p x s. refl) | StoreAddress ↦ inl refl | StoreData ↦ inr (refl, λ p x s. refl) ];
-  valueSame = λ p x s. refl;
-  accessSame = λ x s. refl;
-  servedSame = λ x s. refl;
-  writtenSame = λ x s. refl;
-  portBlind = λ n s. refl;
-  hasBlind = λ n s. refl;
-}
-
-storeWords : Slot stores
-storeWords = record {
-  kind = StoreData;
-  port = λ s. s .port;
-  has = λ s. s .word;
-  fill = storeWithWord;
-  cell = λ p s. refl;
-  cellFilled = λ p x s. refl;
-  cellOther = store-other StoreData (λ p l. refl);
-  kindSame = refl;
-  kindOther = elim [ LoadAddress ↦ inr (refl, λ p x s. refl) | StoreAddress ↦ inr (refl, λ p x s. refl) | StoreData ↦ inl refl ];
-  valueSame = λ p x s. refl;
-  accessSame = λ x s. refl;
-  servedSame = λ x s. refl;
-  writtenSame = λ x s. refl;
-  portBlind = λ n s. refl;
-  hasBlind = λ n s. refl;
-}
 
 -- the first entry that waits, in the log: no earlier one waits
 record Waiting {A B : Type 0} (K : Kind A) (K′ : Kind B) (S : Slot K) (log : List Entry) (held : List A) (held′ : List B) (p : ℕ) : Type 0 where
@@ -204,10 +115,10 @@ module _ {A B : Type 0} (K : Kind A) (K′ : Kind B) (opposite : Opposite K K′
 -- ---- the queue's part, by kind
 
 right-load-filled : (words x : ℕ) (l : Load) → ltb x words ≡ true → rightLoad words l ≡ true → rightLoad words (loadWithAddress x l) ≡ true
-right-load-filled words x l low h = and-both (and-left (implies (l .taken) (isSome (l .value))) _ h) (and-both (or-right (not (isSome (l .value))) true refl) low)
+right-load-filled words x l low h = and-both (taken-served words l h) (and-both (or-right (not (isSome (l .value))) true refl) low)
 
 right-store-addressed : (words x : ℕ) (s : Store) → ltb x words ≡ true → rightStore words s ≡ true → rightStore words (storeWithAddress x s) ≡ true
-right-store-addressed words x s low h = and-both (go (s .written) (isSome (s .address)) (isSome (s .word)) (and-left (implies (s .written) (isSome (s .address) && isSome (s .word))) _ h)) low
+right-store-addressed words x s low h = and-both (go (s .written) (isSome (s .address)) (isSome (s .word)) (written-full words s h)) low
   where
     go : (w a d : Bool) → implies w (a && d) ≡ true → implies w (true && d) ≡ true
     go false a d k = refl
@@ -215,8 +126,8 @@ right-store-addressed words x s low h = and-both (go (s .written) (isSome (s .ad
 
 right-store-filled : (words x : ℕ) (s : Store) → rightStore words s ≡ true → rightStore words (storeWithWord x s) ≡ true
 right-store-filled words x s h =
-    and-both (go (s .written) (isSome (s .address)) (isSome (s .word)) (and-left (implies (s .written) (isSome (s .address) && isSome (s .word))) _ h))
-    (and-right (implies (s .written) (isSome (s .address) && isSome (s .word))) _ h)
+    and-both (go (s .written) (isSome (s .address)) (isSome (s .word)) (written-full words s h))
+    (store-in-range words s h)
   where
     go : (w a d : Bool) → implies w (a && d) ≡ true → implies w (a && true) ≡ true
     go false a d k = refl
@@ -274,11 +185,11 @@ module _ (groups : List GroupPairs) (memory : List ℕ) (answered : List Answere
   -- finished entries lack nothing
   load-has : (l : Load) → rightLoad (q .memoryLength) l ≡ true → l .taken ≡ true → isSome (l .address) ≡ true
   load-has l r t =
-      implied (isSome (l .value)) (isSome (l .address)) (and-left (implies (isSome (l .value)) (isSome (l .address))) _ (and-right (implies (l .taken) (isSome (l .value))) _ r))
-      (implied (l .taken) (isSome (l .value)) (and-left (implies (l .taken) (isSome (l .value))) _ r) t)
+      implied (isSome (l .value)) (isSome (l .address)) (served-addressed (q .memoryLength) l r)
+      (implied (l .taken) (isSome (l .value)) (taken-served (q .memoryLength) l r) t)
 
   store-has : (s : Store) → rightStore (q .memoryLength) s ≡ true → s .written ≡ true → isSome (s .address) && isSome (s .word) ≡ true
-  store-has s r t = implied (s .written) (isSome (s .address) && isSome (s .word)) (and-left (implies (s .written) (isSome (s .address) && isSome (s .word))) _ r) t
+  store-has s r t = implied (s .written) (isSome (s .address) && isSome (s .word)) (written-full (q .memoryLength) s r) t
 
   -- An accepted argument keeps the invariant.
   given-keeps : (kind : Argument) (q′ : Contents) → give kind q p x ≡ accept q′ → Joined kind q′

@@ -1,7 +1,7 @@
 -- An accepted serve keeps the invariant: the value given is what memory would hold with every earlier store done.
 use Prim.Native.Nat.{ℕ, _<_}
 use mathlib.Core.Path.{_≡_, refl, sym, ap, _∙_, subst}
-use mathlib.Core.Bool.{Bool, true, false, not, _&&_}
+use mathlib.Core.Bool.{Bool, true, false, not}
 use mathlib.Core.List.{List, [], _∷_, _++_, map}
 use mathlib.Core.Option.{Option, none, some}
 use lib.Dec.{eqb}
@@ -17,13 +17,13 @@ use Rattle.queue.specs.Call.{Argument, LoadAddress, StoreAddress, StoreD
 use Rattle.queue.specs.Plain.{rowsOf}
 use Rattle.queue.specs.Demand3.{told, takenAt}
 use Rattle.queue.specs.declared.Counts.{Counts}
-use Rattle.queue.proofs.Lists.{is-none, and-left, and-right, and-both, or-left, or-right, implies, all-left, all-weaken, all-middle}
+use Rattle.queue.proofs.Lists.{is-none, and-left, and-right, and-both, or-left, or-right, all-left, all-weaken, all-middle}
 use Rattle.queue.proofs.Log.{Entry, ofLoad, loads, stores, ownIn, loads-stores, entryOf, Placed, ownIn-append}
 use Rattle.queue.proofs.Window.{Located, Before, locate, before-log, shown}
 use Rattle.queue.proofs.MemoryInvariant.{Agree, known, settled, agree-serve}
 use Rattle.queue.proofs.Rows.{given, valueTaken}
 use Rattle.queue.proofs.Refusals.{need-accepts, have-accepts, andThen-accepts}
-use Rattle.queue.proofs.State.{State, Holds, Seen, rightLoad, rightStore, untaken-unserved}
+use Rattle.queue.proofs.State.{State, Holds, Seen, rightLoad, rightStore, load-in-range, untaken-unserved}
 use Rattle.queue.proofs.Anew.{holds-load, row-kept, seen-anew}
 
 -- what an accepted serve of this load says
@@ -125,9 +125,7 @@ module _ (groups : List GroupPairs) (memory : List ℕ) (answered : List Answere
       right-it = all-middle (rightLoad (q .memoryLength)) (ownIn loads pre) (ownIn loads post) it (rw (l .log-is, ownIn-append loads pre (ofLoad it ∷ post)) at (h .rightLoads))
 
       in-range : addressRight (q .memoryLength) (it .address) ≡ true
-      in-range =
-          and-right (implies (isSome (it .value)) (isSome (it .address))) _
-          (and-right (implies (it .taken) (isSome (it .value))) (implies (isSome (it .value)) (isSome (it .address)) && addressRight (q .memoryLength) (it .address)) right-it)
+      in-range = load-in-range (q .memoryLength) it right-it
 
       unserved : it .value ≡ none
       unserved = is-none (it .value) (s .unserved)

@@ -24,7 +24,7 @@ use Rattle.queue.proofs.Window.{Located, locate, before-log}
 use Rattle.queue.proofs.MemoryInvariant.{agree-change}
 use Rattle.queue.proofs.Rows.{given, valueTaken, cellFor, lacking, row-of-port, none-waits}
 use Rattle.queue.proofs.Refusals.{need-accepts, have-accepts}
-use Rattle.queue.proofs.State.{State, Holds, Seen, rightLoad, served}
+use Rattle.queue.proofs.State.{State, Holds, Seen, rightLoad, taken-served, served-addressed, load-in-range, served}
 use Rattle.queue.proofs.Anew.{holds-load, holds-settled, row-kept, seen-anew}
 
 -- what an accepted take of this load says
@@ -53,7 +53,7 @@ take-cell l port v e f = rw (e, f)
 
 -- a load that is taken, or of another port, does not wait to be taken
 waits-not : (words port : ℕ) (l : Load) → not (untaken port l) ≡ true → rightLoad words l ≡ true → not (lacking (valueTaken port (ofLoad l))) ≡ true
-waits-not words port l t r = go (eqb (l .port) port) (l .taken) (l .value) t (and-left (implies (l .taken) (isSome (l .value))) _ r)
+waits-not words port l t r = go (eqb (l .port) port) (l .taken) (l .value) t (taken-served words l r)
   where
     go : (same taken : Bool) (value : Option ℕ) → not (same && not taken) ≡ true → implies taken (isSome value) ≡ true → not (lacking (cellFor same (pick taken value none))) ≡ true
     go false taken value t₁ t₂ = refl
@@ -94,10 +94,11 @@ module _ (groups : List GroupPairs) (memory : List ℕ) (answered : List Answere
       rightLoads : all (rightLoad (q .memoryLength)) (ownIn loads pre ++ it ∷ ownIn loads post) ≡ true
       rightLoads = rw (l .log-is, ownIn-append loads pre (ofLoad it ∷ post)) at (h .rightLoads)
 
+      right-it : rightLoad (q .memoryLength) it ≡ true
+      right-it = all-middle (rightLoad (q .memoryLength)) (ownIn loads pre) (ownIn loads post) it rightLoads
+
       right : rightLoad (q .memoryLength) (loadTaken it) ≡ true
-      right =
-          and-both {a = isSome (it .value)} (rw (s .has))
-          (and-right (implies (it .taken) (isSome (it .value))) _ (all-middle (rightLoad (q .memoryLength)) (ownIn loads pre) (ownIn loads post) it rightLoads))
+      right = and-both {a = isSome (it .value)} (rw (s .has)) (and-both (served-addressed (q .memoryLength) it right-it) (load-in-range (q .memoryLength) it right-it))
 
       waits : valueTaken port (ofLoad it) ≡ some none
       waits = rw (same-port, fresh)

@@ -16,13 +16,13 @@ use Rattle.queue.specs.Write.{Written, addressApart, loadGivesWay, store
 use Rattle.queue.specs.Call.{Argument, LoadAddress, StoreAddress, StoreData, Write, Machine, Answered}
 use Rattle.queue.specs.Plain.{rowsOf}
 use Rattle.queue.specs.Demand3.{told, takenAt}
-use Rattle.queue.proofs.Lists.{and-left, and-right, and-both, or-left, implies, implied, all-left, all-middle}
+use Rattle.queue.proofs.Lists.{and-both, or-left, implied, all-left, all-middle}
 use Rattle.queue.proofs.Log.{Entry, ofStore, loads, stores, ownIn, stores-loads, ownIn-append}
 use Rattle.queue.proofs.Window.{Located, turned, locate, before-log}
 use Rattle.queue.proofs.MemoryInvariant.{Agree, agree-write}
 use Rattle.queue.proofs.Rows.{given, valueTaken}
 use Rattle.queue.proofs.Refusals.{need-accepts, have-accepts}
-use Rattle.queue.proofs.State.{State, Holds, Seen, rightLoad, rightStore}
+use Rattle.queue.proofs.State.{State, Holds, Seen, rightLoad, rightStore, taken-served, store-in-range}
 use Rattle.queue.proofs.Anew.{holds-store, holds-settled, row-kept, seen-anew}
 
 -- what an accepted write of this store says
@@ -93,12 +93,12 @@ module _ (groups : List GroupPairs) (memory : List ℕ) (answered : List Answere
       right : rightStore (q .memoryLength) (storeDone it) ≡ true
       right =
           and-both {a = isSome (it .address) && isSome (it .word)} (rw (s .addressed, s .worded))
-          (and-right (implies (it .written) (isSome (it .address) && isSome (it .word))) _ (all-middle (rightStore (q .memoryLength)) (ownIn stores pre) (ownIn stores post) it rightStores))
+          (store-in-range (q .memoryLength) it (all-middle (rightStore (q .memoryLength)) (ownIn stores pre) (ownIn stores post) it rightStores))
 
       loadsApart : all (loadGivesWay a) (ownIn loads pre) ≡ true
       loadsApart =
           before-log (l .before′) (loadGivesWay a) (λ n x. refl) (rightLoad (q .memoryLength))
-          (λ x t f. or-left (isSome (x .value)) (addressApart a (x .address)) (implied (x .taken) (isSome (x .value)) (and-left (implies (x .taken) (isSome (x .value))) _ t) f))
+          (λ x t f. or-left (isSome (x .value)) (addressApart a (x .address)) (implied (x .taken) (isSome (x .value)) (taken-served (q .memoryLength) x t) f))
           (all-left (rightLoad (q .memoryLength)) (ownIn loads pre) (ownIn loads post) rightLoads) (s .loadsApart)
 
       storesApart : all (storeGivesWay a) (ownIn stores pre) ≡ true

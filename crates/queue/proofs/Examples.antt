@@ -6,6 +6,7 @@ use mathlib.Core.Option.{Option, none, some}
 use lib.ListN.{replicate}
 use Rattle.table.specs.declared.Pair.{Pair}
 use Rattle.table.specs.Group.{GroupPairs}
+use Rattle.table.specs.Table.{tableFault, groupsFault, groupFault, pairsFault, seeing}
 use Rattle.queue.specs.declared.Counts.{Counts}
 use Rattle.queue.specs.Ruled.{Ruled, refuse, accept}
 use Rattle.queue.specs.Contents.{Contents}
@@ -43,24 +44,24 @@ abbrev valueOf : Answered → Option ℕ
 valueOf a = a .value
 
 k1-numbers : map numberOf (answers k1-start k1-calls) ≡ 0 ∷ 0 ∷ 0 ∷ 0 ∷ 28 ∷ 0 ∷ 0 ∷ 0 ∷ 0 ∷ 0 ∷ 0 ∷ 0 ∷ []
-unfolding pair sound activate loadAddress storeAddress storeData serve write take
+unfolding pair tableFault groupsFault groupFault pairsFault seeing sound activate loadAddress storeAddress storeData serve write take
 k1-numbers = refl
 
 k1-values : map valueOf (answers k1-start k1-calls) ≡ none ∷ none ∷ none ∷ none ∷ none ∷ some 0 ∷ some 0 ∷ none ∷ none ∷ some 1 ∷ none ∷ some 1 ∷ []
-unfolding pair sound activate loadAddress storeAddress storeData serve write take
+unfolding pair tableFault groupsFault groupFault pairsFault seeing sound activate loadAddress storeAddress storeData serve write take
 k1-values = refl
 
 k1-memory : leaves k1-start k1-calls .memory ≡ 0 ∷ 0 ∷ 0 ∷ 1 ∷ []
-unfolding pair sound activate loadAddress storeAddress storeData serve write take
+unfolding pair tableFault groupsFault groupFault pairsFault seeing sound activate loadAddress storeAddress storeData serve write take
 k1-memory = refl
 
 abbrev anyFilling : Filling
 anyFilling = record { address = λ k. 2; word = λ k. 7 }
 
 k1-plain : plainLoads k1 (0 ∷ 0 ∷ 0 ∷ 0 ∷ []) (told (answers k1-start k1-calls)) anyFilling 0 ≡ 0 ∷ 1 ∷ []
-unfolding pair sound activate loadAddress storeAddress storeData serve write take plainLoads
+unfolding pair tableFault groupsFault groupFault pairsFault seeing sound activate loadAddress storeAddress storeData serve write take plainLoads
 k1-plain = refl
 
 k8 : map numberOf (answers k1-start (Activate 0 ∷ Activate 0 ∷ Activate 0 ∷ Give LoadAddress 0 4 ∷ [])) ≡ 0 ∷ 0 ∷ 21 ∷ 23 ∷ []
-unfolding pair sound activate loadAddress storeAddress storeData serve write take
+unfolding pair tableFault groupsFault groupFault pairsFault seeing sound activate loadAddress storeAddress storeData serve write take
 k8 = refl

@@ -1,1 +1,17 @@
 pub mod Examples
+-- demand 3, from the ground up
+pub mod Lists
+pub mod Log
+pub mod Window
+pub mod MemoryInvariant
+pub mod Rows
+pub mod PlainRun
+pub mod Refusals
+pub mod State
+pub mod Anew
+pub mod Slots
+pub mod Steps
+pub mod Run
+pub mod ReachedSound
+pub mod Progress
+pub mod Demand3

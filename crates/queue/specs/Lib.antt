@@ -11,6 +11,7 @@ pub mod Write
 pub mod Take
 pub mod Ready
 pub mod Counts
+pub mod Outcome
 pub mod Call
 pub mod Plain
 pub mod Demand3

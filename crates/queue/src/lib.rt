@@ -2,6 +2,8 @@
 // A call is handed the queue by value and gives back the queue that follows.
 use table::Table;
 
+pub mod refusal;
+
 // A load that was activated. The address means something only where `addressed`, the value only where `served`.
 pub struct LoadEntry {
     pub port: u8,
@@ -54,4 +56,31 @@ pub struct Queue {
 pub struct Counts {
     pub loads: u32,
     pub forwarded: u32,
+}
+
+// The value that a call gives; "no value" is not the value 0.
+pub enum Value {
+    Word(u32),
+    Nothing,
+}
+
+// What a call on a queue hands back: its answer (0, or the refusal number), its value, and the queue that follows.
+pub struct Outcome {
+    pub answer: u8,
+    pub value: Value,
+    pub queue: Queue,
+}
+
+// What opening hands back. The queue of a refused opening means nothing.
+pub struct Opened {
+    pub answer: u8,
+    pub queue: Queue,
+}
+
+// What serving hands back where the counts go in and out by value.
+pub struct Counted {
+    pub answer: u8,
+    pub value: Value,
+    pub queue: Queue,
+    pub counts: Counts,
 }

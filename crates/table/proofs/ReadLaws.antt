@@ -169,10 +169,9 @@ module _ {rule : ℕ → ℕ → ℕ → Bool} {n : ℕ} {seen : List Bool} {s :
           blank-after : (l : List Pair) (j : ℕ) → drop j l ≡ replicate (16 - j) blankPair → j < 16 → drop (suc j) l ≡ replicate (16 - suc j) blankPair
           blank-after l j f k =
               let m : 16 - j ≡ suc (16 - suc j) = omega arith in
-              sym (drop-drop-one l j) ∙ ap (drop 1) (f ∙ rw m)
-            where
-              drop-drop-one : (l : List Pair) (j : ℕ) → drop 1 (drop j l) ≡ drop (suc j) l
-              drop-drop-one l j = drop-drop 1 j l ∙ rw add-one
+              let q : drop 1 (drop j l) ≡ drop (suc j) l = drop-drop 1 j l ∙ rw add-one in
+              let r : drop 1 (replicate (16 - j) blankPair) ≡ replicate (16 - suc j) blankPair = rw m in
+              sym q ∙ ap (drop 1) f ∙ r
 
   pub reading-end : n ≤ 16 → n ≤ i → i ≤ n → (readPairs rule n 0 0 seen (drop start s) ≡ got (take i places) (drop place s)) × (places ≡ take i places ++ replicate (16 - i) blankPair) × (length (take i places) ≡ i)
   unfolding readPairs

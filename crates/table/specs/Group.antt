@@ -22,6 +22,9 @@ listOf ps = held blankPair (ps .count) (ps .places)
 abbrev pub pairsOf : Group → GroupPairs
 pairsOf g = record { loads = listOf (g .loads); stores = listOf (g .stores) }
 
+abbrev pub portOf : Pair → ℕ
+portOf p = p .port
+
 -- An access: a load or a store, of a port.
 pub data Access : Type 0 where
   load : ℕ → Access

@@ -1,0 +1,102 @@
+-- Rules read backwards: what holds where a rule accepts, and that no refusal number is 0.
+use Prim.Native.Nat.{ℕ}
+use mathlib.Core.Path.{_≡_, refl}
+use mathlib.Core.Bool.{Bool, true, false, not}
+use mathlib.Core.List.{List}
+use mathlib.Core.Option.{Option, none, some}
+use lib.Dec.{eqb, ltb}
+use lib.ListN.{length}
+use borrow.Author.Tests.{not-true}
+use Rattle.queue.specs.Ruled.{Ruled, refuse, accept, need, have, andThen, isSome}
+use Rattle.queue.specs.Contents.{Store, Contents, loadPlace, storePlace, firstPlace}
+use Rattle.table.specs.Basics.{any, all, nth}
+use Rattle.queue.specs.Sound.{sound}
+use Rattle.queue.specs.Activate.{activate, room}
+use Rattle.queue.specs.Arguments.{isLoadPort, isStorePort, loadLacksAddress, storeLacksAddress, storeLacksWord, loadAddress, storeAddress, storeData}
+use Rattle.queue.specs.Serve.{hasAddress, nearest, storesBefore, serve, sourceOf}
+use Rattle.queue.specs.Write.{loadGivesWay, storeGivesWay, write}
+use Rattle.queue.specs.Take.{untaken, take}
+use Rattle.queue.specs.Call.{Argument, LoadAddress, StoreAddress, StoreData, give}
+use Rattle.queue.proofs.Lists.{false-true}
+
+module _ {A : Type 0} where
+  pub need-accepts : (b : Bool) (n : ℕ) (rest : Ruled A) {a : A} → need b n rest ≡ accept a → (b ≡ true) × (rest ≡ accept a)
+  need-accepts true n rest h = (refl, h)
+  need-accepts false n rest h = (cc, cc)
+
+  pub have-accepts : {B : Type 0} (o : Option A) (n : ℕ) (rest : A → Ruled B) {b : B} → have o n rest ≡ accept b → (a : A) × (o ≡ some a) × (rest a ≡ accept b)
+  have-accepts none n rest h = let e : false ≡ true = cc in false-true e
+  have-accepts (some a) n rest h = (a, refl, h)
+
+  pub andThen-accepts : {B : Type 0} (r : Ruled A) (rest : A → Ruled B) {b : B} → andThen r rest ≡ accept b → (a : A) × (r ≡ accept a) × (rest a ≡ accept b)
+  andThen-accepts (refuse n) rest h = let e : false ≡ true = cc in false-true e
+  andThen-accepts (accept a) rest h = (a, refl, h)
+
+  -- no refusal is 0
+  abbrev pub proper : Ruled A → Bool
+  proper (refuse n) = not (eqb n 0)
+  proper (accept a) = true
+
+  pub refusal-not-zero : (r : Ruled A) (n : ℕ) → proper r ≡ true → r ≡ refuse n → eqb n 0 ≡ false
+  refusal-not-zero r n h e = not-true (eqb n 0) (rw e at h)
+
+  pub need-proper : (b : Bool) (n : ℕ) (rest : Ruled A) → not (eqb n 0) ≡ true → proper rest ≡ true → proper (need b n rest) ≡ true
+  need-proper true n rest e h = h
+  need-proper false n rest e h = e
+
+pub have-proper : {A B : Type 0} (o : Option A) (n : ℕ) (rest : A → Ruled B) → not (eqb n 0) ≡ true → ((a : A) → proper (rest a) ≡ true) → proper (have o n rest) ≡ true
+have-proper none n rest e h = e
+have-proper (some a) n rest e h = h a
+
+pub andThen-proper : {A B : Type 0} (r : Ruled A) (rest : A → Ruled B) → proper r ≡ true → ((a : A) → proper (rest a) ≡ true) → proper (andThen r rest) ≡ true
+andThen-proper (refuse n) rest e h = e
+andThen-proper (accept a) rest e h = h a
+
+pub activate-proper : (q : Contents) (g : ℕ) → proper (activate q g) ≡ true
+unfolding activate
+activate-proper q g = need-proper (sound q) _ _ refl (have-proper (nth (q .groups) g) _ _ refl λ p. need-proper (room q p) _ _ refl refl)
+
+pub give-proper : (kind : Argument) (q : Contents) (port x : ℕ) → proper (give kind q port x) ≡ true
+unfolding loadAddress storeAddress storeData
+give-proper LoadAddress q port x =
+    need-proper (sound q) _ _ refl
+    (need-proper (any (isLoadPort port) (q .groups)) _ _ refl (need-proper (ltb x (q .memoryLength)) _ _ refl (need-proper (any (loadLacksAddress port) (q .loads)) _ _ refl refl)))
+give-proper StoreAddress q port x =
+    need-proper (sound q) _ _ refl
+    (need-proper (any (isStorePort port) (q .groups)) _ _ refl (need-proper (ltb x (q .memoryLength)) _ _ refl (need-proper (any (storeLacksAddress port) (q .stores)) _ _ refl refl)))
+give-proper StoreData q port x =
+    need-proper (sound q) _ _ refl (need-proper (any (isStorePort port) (q .groups)) _ _ refl (need-proper (any (storeLacksWord port) (q .stores)) _ _ refl refl))
+
+source-proper : (m : List ℕ) (a : ℕ) (found : Option Store) → proper (sourceOf m a found) ≡ true
+source-proper m a none = refl
+source-proper m a (some s) = have-proper (s .word) _ _ refl λ w. refl
+
+pub serve-proper : (q : Contents) (m : List ℕ) (serial : ℕ) → proper (serve q m serial) ≡ true
+unfolding serve
+serve-proper q m serial =
+    need-proper (sound q) _ _ refl
+    (need-proper (eqb (length m) (q .memoryLength)) _ _ refl
+    (have-proper (nth (q .loads) (loadPlace q serial)) _ _ refl λ l.
+    need-proper (not (isSome (l .value))) _ _ refl
+    (have-proper (l .address) _ _ refl λ a.
+    need-proper (all hasAddress (storesBefore q l)) _ _ refl
+    (andThen-proper (sourceOf m a (nearest a none (storesBefore q l))) _ (source-proper m a (nearest a none (storesBefore q l))) λ v. refl))))
+
+pub write-proper : (q : Contents) (m : List ℕ) (serial : ℕ) → proper (write q m serial) ≡ true
+unfolding write
+write-proper q m serial =
+    need-proper (sound q) _ _ refl
+    (need-proper (eqb (length m) (q .memoryLength)) _ _ refl
+    (have-proper (nth (q .stores) (storePlace q serial)) _ _ refl λ s.
+    need-proper (not (s .written)) _ _ refl
+    (have-proper (s .address) _ _ refl λ a.
+    have-proper (s .word) _ _ refl λ w.
+    need-proper (all (loadGivesWay a) (lib.ListN.take (s .before) (q .loads))) _ _ refl
+    (need-proper (all (storeGivesWay a) (lib.ListN.take (storePlace q serial) (q .stores))) _ _ refl refl))))
+
+pub take-proper : (q : Contents) (port : ℕ) → proper (take q port) ≡ true
+unfolding take
+take-proper q port =
+    need-proper (sound q) _ _ refl
+    (need-proper (any (isLoadPort port) (q .groups)) _ _ refl
+    (have-proper (nth (q .loads) (firstPlace (untaken port) (q .loads))) _ _ refl λ l. have-proper (l .value) _ _ refl λ v. refl))

@@ -1,0 +1,68 @@
+-- What a call hands back. "A refusal returns its number and no value; everything handed in or lent keeps its contents": it
+-- hands back the very record that it was handed. An accepted call hands back a queue that holds just what the rule gives;
+-- "places of a record beyond its counts have no meaning", and nothing is said of them.
+use Prim.Native.Nat.{ℕ}
+use mathlib.Core.Path.{_≡_}
+use mathlib.Core.List.{List}
+use Rattle.queue.specs.declared.Value.{Value}
+use Rattle.queue.specs.declared.Value.the-variants.{Word, Nothing}
+use Rattle.queue.specs.declared.Queue.{Queue}
+use Rattle.queue.specs.declared.Counts.{Counts}
+use Rattle.queue.specs.declared.Outcome.{Outcome}
+use Rattle.queue.specs.declared.Opened.{Opened}
+use Rattle.queue.specs.declared.Counted.{Counted}
+use Rattle.queue.specs.Ruled.{Ruled, refuse, accept}
+use Rattle.queue.specs.Contents.{Contents, contentsOf}
+use Rattle.queue.specs.Serve.{Served}
+use Rattle.queue.specs.Write.{Written}
+use Rattle.queue.specs.Take.{Taken}
+use Rattle.queue.specs.Counts.{counted}
+
+-- a refused call
+abbrev pub refused : ℕ → Queue → Outcome
+refused n q = record { answer = n; value = Nothing; queue = q }
+
+-- an accepted call, which gives this value and a queue that holds this
+pub record Accepted (value : Value) (queue : Contents) (r : Outcome) : Type 0 where
+  pub answer : r .answer ≡ 0
+  pub gives : r .value ≡ value
+  pub holds : contentsOf (r .queue) ≡ queue
+
+-- a call that gives no value: activate and the three argument calls
+abbrev pub Moves : Queue → Ruled Contents → Outcome → Type 0
+Moves q (refuse n) r = r ≡ refused n q
+Moves q (accept next) r = Accepted Nothing next r
+
+-- take
+abbrev pub Takes : Queue → Ruled Taken → Outcome → Type 0
+Takes q (refuse n) r = r ≡ refused n q
+Takes q (accept t) r = Accepted (Word (t .value)) (t .queue) r
+
+-- serve, with the counts that were lent
+pub record ServedWell (s : Served) (c : Counts) (r : Counted) : Type 0 where
+  pub answer : r .answer ≡ 0
+  pub gives : r .value ≡ Word (s .value)
+  pub holds : contentsOf (r .queue) ≡ s .queue
+  pub counts : r .counts ≡ counted (s .forwarded) c
+
+abbrev pub Serves : Queue → Counts → Ruled Served → Counted → Type 0
+Serves q c (refuse n) r = r ≡ record { answer = n; value = Nothing; queue = q; counts = c }
+Serves q c (accept s) r = ServedWell s c r
+
+-- write, with the memory as it was lent and as it is left
+pub record WrittenWell (w : Written) (r : Outcome) (memory : List ℕ) : Type 0 where
+  pub outcome : Accepted Nothing (w .queue) r
+  pub memory-is : memory ≡ w .memory
+
+pub record Unwritten (q : Queue) (n : ℕ) (lent : List ℕ) (r : Outcome) (memory : List ℕ) : Type 0 where
+  pub outcome : r ≡ refused n q
+  pub memory-is : memory ≡ lent
+
+abbrev pub Writes : Queue → List ℕ → Ruled Written → Outcome → List ℕ → Type 0
+Writes q lent (refuse n) r memory = Unwritten q n lent r memory
+Writes q lent (accept w) r memory = WrittenWell w r memory
+
+-- opening; a refused one hands back the queue of no table, which means nothing
+abbrev pub Opens : Queue → Ruled Contents → Opened → Type 0
+Opens none (refuse n) r = r ≡ record { answer = n; queue = none }
+Opens none (accept q) r = (r .answer ≡ 0) × (contentsOf (r .queue) ≡ q)

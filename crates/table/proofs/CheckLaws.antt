@@ -9,7 +9,7 @@ use lib.Dec.{leb, ltb, eqb}
 use lib.ListN.{length, getD, take, drop, set, replicate, length-set, length-map, List·getD-map, length-append, length-take, length-replicate, drop-of-length-le}
 use lib.Seq.{getD-take, length-take-le, drop-cons}
 use native.Mathlib.Numerals.{add-one}
-use borrow.Author.Tests.{le-leb, lt-leb, leb-true, leb-false, lt-ltb, le-ltb, ltb-true, ltb-false, eq-eqb, ne-eqb}
+use borrow.Author.Tests.{le-leb, lt-leb, leb-true, leb-false, lt-ltb, le-ltb, ltb-true, ltb-false, eq-eqb, ne-eqb, eqb-true}
 use Rattle.table.specs.declared.Pair.{Pair}
 use Rattle.table.specs.declared.Pairs.{Pairs}
 use Rattle.table.specs.declared.Group.{Group}
@@ -18,7 +18,8 @@ use Rattle.table.specs.Refusal.{badGroupCount, badCounts}
 use Rattle.table.specs.Basics.{pick, held, count, within, check, orElse}
 use Rattle.table.specs.Group.{GroupPairs, blankPair, listOf, pairsOf, beforeStore}
 use Rattle.table.specs.Table.{blankGroup, groupsOf, loadRule, storeRule, pairFault, pairsFault, seeing, countsRight, Seen, noneSeen, seenAfter, groupFault, groupsFault, tableFault}
-use Rattle.table.specs.Internal.{Rising}
+use Rattle.table.specs.declared.check.Rule.{Rule}
+use Rattle.table.specs.Internal.{ruleOf, Rising, RuleRight}
 
 -- ---- what an array and a count hold, where the count is within the array
 module _ {A : Type 0} (blank : A) (n : ℕ) (l : List A) (h : n ≤ length l) where
@@ -238,3 +239,11 @@ module _ (t : Table) where
   pub table-groups : within 1 16 (t .count) ≡ true → (n : ℕ) → n ≡ groupsFault noneSeen (groupsOf t) → n ≡ tableFault (groupsOf t)
   unfolding tableFault
   table-groups e n d = rw (groups-size, e) d
+
+-- a right offset is at most 16
+pub rule-small : (r : Rule) (low i offset : ℕ) → RuleRight r → ruleOf r low i offset ≡ true → offset ≤ 16
+rule-small r low i offset w e = go (r .storing) e
+  where
+    go : (t : Bool) → pick t (storeRule (listOf (r .loads)) low i offset) (loadRule (r .stores) low i offset) ≡ true → offset ≤ 16
+    go true d = omega (arith, eqb-true offset (count (beforeStore i) (listOf (r .loads))) d, count-most (beforeStore i) (listOf (r .loads)), held-length blankPair (r .loads .count) (r .loads .places), w .few)
+    go false d = omega (arith, leb-true offset (r .stores) (and-right (leb low offset) _ d), w .few-stores)

@@ -1,26 +1,31 @@
 -- Laws of reading tables.
 use Prim.Native.Nat.{ℕ, zero, suc, _+_, _-_, _≤_, _<_}
-use mathlib.Core.Path.{_≡_, refl, sym, ap, subst, _∙_}
+use mathlib.Core.Path.{_≡_, refl, sym, ap, ap₂, _∙_}
 use mathlib.Core.Bool.{Bool, true, false, not, _&&_}
-use mathlib.Core.List.{List, [], _∷_, _++_, map, append-nil, append-assoc}
+use mathlib.Core.List.{List, [], _∷_, _++_, map, map-append, append-nil, append-assoc}
 use native.Mathlib.Omega.{arith}
 use native.Mathlib.Numerals.{add-one}
 use native.Mathlib.Nat.{sub-zero}
 use lib.Dec.{eqb, leb, ltb}
 use lib.ListN.{length, getD, take, drop, set, replicate, length-set, length-append, length-replicate, length-map, take-append-drop}
-use lib.Seq.{length-take-le, take-suc-set, drop-set-lt, take-at, set-at, drop-drop}
+use lib.Seq.{length-take-le, take-suc-set, drop-set-lt, take-at, set-at, drop-drop, append-snoc}
 use borrow.Author.Tests.{eqb-true, eqb-false, ne-eqb}
 use Rattle.table.specs.declared.Pair.{Pair}
 use Rattle.table.specs.declared.Pairs.{Pairs}
 use Rattle.table.specs.declared.read.TwoRead.{TwoRead}
+use Rattle.table.specs.declared.Group.{Group}
+use Rattle.table.specs.declared.Table.{Table}
 use Rattle.table.specs.declared.read.PairsRead.{PairsRead}
+use Rattle.table.specs.declared.read.GroupRead.{GroupRead}
+use Rattle.table.specs.declared.read.GroupsRead.{GroupsRead}
 use Rattle.table.specs.Basics.{pick}
-use Rattle.table.specs.Refusal.{tooLarge}
-use Rattle.table.specs.Number.{Got, got, bad, andThen, above, numberUpTo, readNumber, numberAnswer, placeOf}
-use Rattle.table.specs.Group.{blankPair}
-use Rattle.table.specs.Table.{pairFault, seeing}
-use Rattle.table.specs.TableBytes.{unless, pair, before, readPairs, packPairs}
-use Rattle.table.specs.Internal.{Two, two, readTwo, twoAnswer, IsRefusal, PairsFound, PairsResult}
+use Rattle.table.specs.Refusal.{tooLarge, badCounts}
+use Rattle.table.specs.Number.{Got, got, bad, andThen, require, above, numberUpTo, readNumber, numberAnswer, placeOf}
+use Rattle.table.specs.Group.{GroupPairs, blankPair, listOf}
+use Rattle.table.specs.Table.{loadRule, storeRule, pairFault, pairsFault, seeing, countsRight, Seen, noneSeen, seenAfter}
+use Rattle.table.specs.TableBytes.{unless, pair, before, readPairs, readGroup, readGroups, packPairs, packGroup, emptyGroup, pack}
+use Rattle.table.specs.Internal.{Two, two, readTwo, twoAnswer, IsRefusal, PairsFound, PairsResult, found, none, seenOf, GroupFound, GroupResult, group-found, group-none, GroupsFound, GroupsResult, groups-found, groups-none}
+use Rattle.table.proofs.CheckLaws.{held-few}
 use Rattle.table.proofs.NumberLaws.{place-drop, NumberGot, number-got}
 
 -- ---- two numbers
@@ -31,6 +36,7 @@ two-step {A} s k = first (readNumber s)
     second : (x : ℕ) (h : Got ℕ) → (andThen h λ y s₂. k x y s₂) ≡ (andThen (andThen h λ y s₂. got (two x y) s₂) λ t s₂. k (t .first) (t .second) s₂)
     second x (got y s₂) = refl
     second x (bad n) = refl
+
     first : (g : Got ℕ) → (andThen g λ x s₁. andThen (readNumber s₁) λ y s₂. k x y s₂) ≡ (andThen (andThen g λ x s₁. andThen (readNumber s₁) λ y s₂. got (two x y) s₂) λ t s₂. k (t .first) (t .second) s₂)
     first (got x s₁) = second x (readNumber s₁)
     first (bad n) = refl
@@ -55,9 +61,11 @@ two-answer s place {x} {y} {next} e = first (readNumber (drop place s)) refl e
         let q : y ≡ b = cc in
         let r : next ≡ n = cc in
         rw (p, q, r) (two-got s place f g)
+
     second : (a m : ℕ) → NumberGot s place a m → (h : Got ℕ) → readNumber (drop m s) ≡ h → TwoRead.Two x y next ≡ twoAnswer s (andThen h λ b s₂. got (two a b) s₂) → TwoGot s place x y next
     second a m f (got b s₂) g d = both a b m (placeOf s s₂) f (number-got s m (sym (ap (numberAnswer s) g))) d
     second a m f (bad n) g d = let z : _≡_ {A = ℕ} 0 1 = cc in absurd (omega arith)
+
     first : (g : Got ℕ) → readNumber (drop place s) ≡ g → TwoRead.Two x y next ≡ twoAnswer s (andThen g λ a s₁. andThen (readNumber s₁) λ b s₂. got (two a b) s₂) → TwoGot s place x y next
     first (got a s₁) f d =
         let w = number-got s place (sym (ap (numberAnswer s) f)) in
@@ -95,6 +103,7 @@ two-refused s {k} e z = first (readNumber s) refl e
     second : (a : ℕ) (s₁ : List ℕ) (h : Got ℕ) → readNumber s₁ ≡ h → (andThen h λ b s₂. got (two a b) s₂) ≡ bad k → ⊥
     second a s₁ (got b s₂) f d = let q : _≡_ {A = ℕ} 0 1 = cc in omega arith
     second a s₁ (bad n) f d = let q : n ≡ k = cc in number-refused 4 15 s₁ f (q ∙ z)
+
     first : (g : Got ℕ) → readNumber s ≡ g → (andThen g λ a s₁. andThen (readNumber s₁) λ b s₂. got (two a b) s₂) ≡ bad k → ⊥
     first (got a s₁) f d = second a s₁ (readNumber s₁) refl d
     first (bad n) f d = let q : n ≡ k = cc in number-refused 4 15 s f (q ∙ z)
@@ -178,3 +187,201 @@ module _ {rule : ℕ → ℕ → ℕ → Bool} {n : ℕ} {seen : List Bool} {s :
   reading-end few h k =
       let z : n - i ≡ 0 = omega arith in
       (w .is ∙ rw (z, append-nil), sym (take-append-drop i places) ∙ rw (w .blank), length-take-le i places (omega (arith, w .long)))
+
+abbrev pub made : ℕ → List Pair → Pairs
+made n places = record { count = n; places = places }
+
+-- what a caller is told, where the bytes give a refusal and where they give pairs
+pub pairs-refused : {s : List ℕ} {seen : List Bool} {g : Got (List Pair)} {r : PairsRead} {k : ℕ} → g ≡ bad k → r .answer ≡ k → (k ≡ 0 → ⊥) → PairsResult s seen g r
+pairs-refused e f z = rw e (none (record { is = f; some = z }))
+
+pub pairs-found : {s : List ℕ} {seen : List Bool} {g : Got (List Pair)} {r : PairsRead} {ps : List Pair} {rest : List ℕ} → g ≡ got ps rest → PairsFound s seen ps rest r → PairsResult s seen g r
+pairs-found e f = rw e (found f)
+
+-- the record that reading has filled is the one that its pairs make
+pub packed : (n i : ℕ) (places : List Pair) → n ≡ i → places ≡ take i places ++ replicate (16 - i) blankPair → length (take i places) ≡ i → made n places ≡ packPairs (take i places)
+packed n i places e f g = ap₂ made (e ∙ sym g) (f ∙ rw g)
+
+-- ---- what the caller of `read_pairs` learns
+pub pairs-bad : {s : List ℕ} {seen : List Bool} {g : Got (List Pair)} {r : PairsRead} → PairsResult s seen g r → (r .answer ≡ 0 → ⊥) → g ≡ bad (r .answer)
+pairs-bad (found f) z = absurd (z (f .answer))
+pairs-bad (none f) z = rw (f .is)
+
+pub record PairsGot (s : List ℕ) (seen : List Bool) (g : Got (List Pair)) (r : PairsRead) : Type 0 where
+  pub pairs : List Pair
+  pub rest : List ℕ
+  pub is : g ≡ got pairs rest
+  pub told : PairsFound s seen pairs rest r
+
+pub pairs-got : {s : List ℕ} {seen : List Bool} {g : Got (List Pair)} {r : PairsRead} → PairsResult s seen g r → r .answer ≡ 0 → PairsGot s seen g r
+pairs-got (found {ps} {rest} f) z = record { pairs = ps; rest = rest; is = refl; told = f }
+pairs-got (none f) z = absurd (f .some (sym (f .is) ∙ z))
+
+-- ---- pairs that were read are right, and as many as were asked for
+pub read-right : (rule : ℕ → ℕ → ℕ → Bool) (n low i : ℕ) (seen : List Bool) (s : List ℕ) {ps : List Pair} {rest : List ℕ} → readPairs rule n low i seen s ≡ got ps rest → (pairsFault rule low i seen ps ≡ 0) × (length ps ≡ n)
+unfolding readPairs pairsFault
+read-right rule zero low i seen s {ps} {rest} e = go ps e
+  where
+    go : (l : List Pair) → got [] s ≡ got l rest → (pairsFault rule low i seen l ≡ 0) × (length l ≡ 0)
+    go [] d = (refl, refl)
+    go (p ∷ l) d = let z : _≡_ {A = ℕ} 0 1 = cc in absurd (omega arith)
+read-right rule (suc n) low i seen s {ps} {rest} e =
+    both (readTwo s) (λ x y s₂ l r f. read-right rule n x (suc i) (set seen y true) s₂ f)
+    (sym (two-step s (λ x y s₂. unless (pairFault (rule low i x) seen y) (before (pair x y) (readPairs rule n x (suc i) (set seen y true) s₂)))) ∙ e)
+  where
+    put : (x y : ℕ) (g : Got (List Pair)) → ((l : List Pair) (r : List ℕ) → g ≡ got l r → (pairsFault rule x (suc i) (set seen y true) l ≡ 0) × (length l ≡ n)) → pairFault (rule low i x) seen y ≡ 0 → before (pair x y) g ≡ got ps rest → (pairsFault rule low i seen ps ≡ 0) × (length ps ≡ suc n)
+    put x y (got l r) ih f d =
+        let q : pair x y ∷ l ≡ ps = cc in
+        let k = ih l r refl in
+        rw (← q) (rw (f, k .0), ap suc (k .1))
+    put x y (bad k) ih f d = let z : _≡_ {A = ℕ} 0 1 = cc in absurd (omega arith)
+
+    check-pair : (x y : ℕ) (g : Got (List Pair)) → ((l : List Pair) (r : List ℕ) → g ≡ got l r → (pairsFault rule x (suc i) (set seen y true) l ≡ 0) × (length l ≡ n)) → (k : ℕ) → pairFault (rule low i x) seen y ≡ k → unless k (before (pair x y) g) ≡ got ps rest → (pairsFault rule low i seen ps ≡ 0) × (length ps ≡ suc n)
+    check-pair x y g ih zero f d = put x y g ih f d
+    check-pair x y g ih (suc k) f d =
+        let t = ne-eqb (suc k) 0 (λ z. omega arith) in
+        let u : bad (suc k) ≡ got ps rest = rw t at d in
+        let z : _≡_ {A = ℕ} 0 1 = cc in absurd (omega arith)
+
+    both : (g : Got Two) → ((x y : ℕ) (s₂ : List ℕ) (l : List Pair) (r : List ℕ) → readPairs rule n x (suc i) (set seen y true) s₂ ≡ got l r → (pairsFault rule x (suc i) (set seen y true) l ≡ 0) × (length l ≡ n)) → (andThen g λ t s₂. unless (pairFault (rule low i (t .first)) seen (t .second)) (before (pair (t .first) (t .second)) (readPairs rule n (t .first) (suc i) (set seen (t .second) true) s₂))) ≡ got ps rest → (pairsFault rule low i seen ps ≡ 0) × (length ps ≡ suc n)
+    both (got t s₂) ih d = check-pair (t .first) (t .second) (readPairs rule n (t .first) (suc i) (set seen (t .second) true) s₂) (ih (t .first) (t .second) s₂) (pairFault (rule low i (t .first)) seen (t .second)) refl d
+    both (bad k) ih d = let z : _≡_ {A = ℕ} 0 1 = cc in absurd (omega arith)
+
+-- ---- a group
+abbrev pub groupOf : List Pair → List Pair → GroupPairs
+groupOf ls ss = record { loads = ls; stores = ss }
+
+-- what follows both counts
+abbrev groupRest : Seen → ℕ → ℕ → List ℕ → Got GroupPairs
+groupRest seen x y s₂ =
+    require (countsRight x y) badCounts
+    (andThen (readPairs (loadRule y) x 0 0 (seen .loads) s₂) λ ls s₃.
+    andThen (readPairs (storeRule ls) y 0 0 (seen .stores) s₃) λ ss s₄.
+    got (groupOf ls ss) s₄)
+
+group-two : (seen : Seen) (s : List ℕ) → readGroup seen s ≡ (andThen (readTwo s) λ t s₂. groupRest seen (t .first) (t .second) s₂)
+unfolding readGroup
+group-two seen s = two-step s (groupRest seen)
+
+pub group-refused : (seen : Seen) (s : List ℕ) {k : ℕ} → readTwo s ≡ bad k → readGroup seen s ≡ bad k
+group-refused seen s e = group-two seen s ∙ rw e
+
+module _ (s : List ℕ) (place : ℕ) (seen : Seen) {x y next : ℕ} (g : TwoGot s place x y next) where
+  pub group-counts-bad : countsRight x y ≡ false → readGroup seen (drop place s) ≡ bad badCounts
+  group-counts-bad e = group-two seen (drop place s) ∙ rw (g .is, e)
+
+  module _ (right : countsRight x y ≡ true) where
+    pub group-loads-bad : {k : ℕ} → readPairs (loadRule y) x 0 0 (seen .loads) (drop next s) ≡ bad k → readGroup seen (drop place s) ≡ bad k
+    group-loads-bad e = group-two seen (drop place s) ∙ rw (g .is, right, e)
+
+    module _ {ls : List Pair} {s₃ : List ℕ} (l : readPairs (loadRule y) x 0 0 (seen .loads) (drop next s) ≡ got ls s₃) where
+      pub group-stores-bad : {k : ℕ} → readPairs (storeRule ls) y 0 0 (seen .stores) s₃ ≡ bad k → readGroup seen (drop place s) ≡ bad k
+      group-stores-bad e = group-two seen (drop place s) ∙ rw (g .is, right, l, e)
+
+      pub group-read : {ss : List Pair} {s₄ : List ℕ} → readPairs (storeRule ls) y 0 0 (seen .stores) s₃ ≡ got ss s₄ → readGroup seen (drop place s) ≡ got (groupOf ls ss) s₄
+      group-read e = group-two seen (drop place s) ∙ rw (g .is, right, l, e)
+
+-- the pairs that a packed record holds
+pub list-packed : (ls : List Pair) → length ls ≤ 16 → listOf (packPairs ls) ≡ ls
+list-packed ls h =
+    let n : length ls ≤ length (ls ++ replicate (16 - length ls) blankPair) = rw length-append (omega arith) in
+    held-few blankPair (length ls) (ls ++ replicate (16 - length ls) blankPair) n ∙ take-at ls (replicate (16 - length ls) blankPair) (length ls) refl
+
+-- loads that were read into a record make a rule for the stores
+pub store-rule : {s : List ℕ} {seen : List Bool} {ls : List Pair} {rest : List ℕ} {r : PairsRead} → PairsFound s seen ls rest r → length ls ≤ 16 → listOf (r .pairs) ≡ ls
+store-rule {ls = ls} f h = rw (f .pairs) (list-packed ls h)
+
+pub same-stores : {s : List ℕ} {seen : List Bool} {ls : List Pair} {rest : List ℕ} {r : PairsRead} → PairsFound s seen ls rest r → length ls ≤ 16 → (y : ℕ) (marks : List Bool) → readPairs (storeRule ls) y 0 0 marks rest ≡ readPairs (storeRule (listOf (r .pairs))) y 0 0 marks (drop (r .next) s)
+same-stores f h y marks = rw (store-rule f h, f .rest-is)
+
+-- ---- groups, one by one
+pub group-bad : {s : List ℕ} {seen : Seen} {g : Got GroupPairs} {r : GroupRead} → GroupResult s seen g r → (r .answer ≡ 0 → ⊥) → g ≡ bad (r .answer)
+group-bad (group-found f) z = absurd (z (f .answer))
+group-bad (group-none f) z = rw (f .is)
+
+pub record GroupGot (s : List ℕ) (seen : Seen) (g : Got GroupPairs) (r : GroupRead) : Type 0 where
+  pub group : GroupPairs
+  pub rest : List ℕ
+  pub is : g ≡ got group rest
+  pub told : GroupFound s seen group rest r
+
+pub group-got : {s : List ℕ} {seen : Seen} {g : Got GroupPairs} {r : GroupRead} → GroupResult s seen g r → r .answer ≡ 0 → GroupGot s seen g r
+group-got (group-found {g} {rest} f) z = record { group = g; rest = rest; is = refl; told = f }
+group-got (group-none f) z = absurd (f .some (sym (f .is) ∙ z))
+
+abbrev pub tableMade : ℕ → List Group → Table
+tableMade n places = record { count = n; groups = places }
+
+-- the first i of n groups have been read into `places`, whose rest is empty
+pub record Gathering (n : ℕ) (s : List ℕ) (start i : ℕ) (seen : Seen) (place : ℕ) (places : List Group) : Type 0 where
+  pub done : List GroupPairs
+  pub is : readGroups n noneSeen (drop start s) ≡ after done (readGroups (n - i) seen (drop place s))
+  pub many : length done ≡ i
+  pub filled : places ≡ map packGroup done ++ replicate (16 - i) emptyGroup
+  pub inside : place ≤ length s
+
+pub gathering-none : {n : ℕ} {s : List ℕ} {start : ℕ} {places : List Group} → start ≤ length s → places ≡ replicate 16 emptyGroup → Gathering n s start 0 noneSeen start places
+gathering-none {n} {s} {start} h e = record {
+  done = [];
+  is = rw sub-zero (after-nil (readGroups n noneSeen (drop start s)));
+  many = refl;
+  filled = e;
+  inside = h;
+}
+
+module _ {n : ℕ} {s : List ℕ} {start i : ℕ} {seen : Seen} {place : ℕ} {places : List Group} (w : Gathering n s start i seen place places) where
+  next-group : i < n → readGroups (n - i) seen (drop place s) ≡ (andThen (readGroup seen (drop place s)) λ g s₁. before g (readGroups (n - (i + 1)) (seenAfter g seen) s₁))
+  unfolding readGroups
+  next-group h = let e : n - i ≡ suc (n - (i + 1)) = omega arith in rw e
+
+  pub gathering-refused : {k : ℕ} → i < n → readGroup seen (drop place s) ≡ bad k → readGroups n noneSeen (drop start s) ≡ bad k
+  gathering-refused h e = w .is ∙ rw (next-group h, e)
+
+  pub gathering-more : {r : GroupRead} → i < n → n ≤ 16 → GroupGot s seen (readGroup seen (drop place s)) r → Gathering n s start (i + 1) (seenOf (r .seen)) (r .next) (set places i (r .group))
+  gathering-more {r} h few g = record {
+    done = w .done ++ g .group ∷ [];
+    is = w .is ∙ rw (next-group h, g .is, g .told .rest-is, ← g .told .marks) (after-before (w .done) (g .group) (readGroups (n - (i + 1)) (seenOf (r .seen)) (drop (r .next) s)));
+    many = rw (length-append, w .many);
+    filled = rw (w .filled, g .told .group) (fill (w .done) (g .group) i (w .many) (omega arith));
+    inside = g .told .inside;
+  }
+    where
+      fill : (d : List GroupPairs) (x : GroupPairs) (j : ℕ) → length d ≡ j → j < 16 → set (map packGroup d ++ replicate (16 - j) emptyGroup) j (packGroup x) ≡ map packGroup (d ++ x ∷ []) ++ replicate (16 - (j + 1)) emptyGroup
+      fill d x j e k =
+          let m : 16 - j ≡ suc (16 - (j + 1)) = omega arith in
+          let q : length (map packGroup d) ≡ j = length-map d packGroup ∙ e in
+          rw (m, map-append) (set-at (map packGroup d) emptyGroup (replicate (16 - (j + 1)) emptyGroup) (packGroup x) j q ∙ sym (append-snoc (map packGroup d) (packGroup x) (replicate (16 - (j + 1)) emptyGroup)))
+
+  pub gathering-end : n ≤ i → i ≤ n → (readGroups n noneSeen (drop start s) ≡ got (w .done) (drop place s)) × (tableMade n places ≡ pack (w .done))
+  unfolding readGroups
+  gathering-end h k =
+      let z : n - i ≡ 0 = omega arith in
+      let m : n ≡ length (w .done) = omega (arith, w .many) in
+      (w .is ∙ rw (z, append-nil), ap₂ tableMade m (w .filled ∙ rw (w .many)))
+
+pub groups-bad : {s : List ℕ} {g : Got (List GroupPairs)} {r : GroupsRead} → GroupsResult s g r → (r .answer ≡ 0 → ⊥) → g ≡ bad (r .answer)
+groups-bad (groups-found f) z = absurd (z (f .answer))
+groups-bad (groups-none f) z = rw (f .is)
+
+pub record GroupsGot (s : List ℕ) (g : Got (List GroupPairs)) (r : GroupsRead) : Type 0 where
+  pub groups : List GroupPairs
+  pub rest : List ℕ
+  pub is : g ≡ got groups rest
+  pub told : GroupsFound s groups rest r
+
+pub groups-got : {s : List ℕ} {g : Got (List GroupPairs)} {r : GroupsRead} → GroupsResult s g r → r .answer ≡ 0 → GroupsGot s g r
+groups-got (groups-found {gs} {rest} f) z = record { groups = gs; rest = rest; is = refl; told = f }
+groups-got (groups-none f) z = absurd (f .some (sym (f .is) ∙ z))
+
+-- a group's record, made of both kinds
+abbrev pub groupMade : PairsRead → PairsRead → GroupRead
+groupMade l t = record { answer = 0; next = t .next; group = record { loads = l .pairs; stores = t .pairs }; seen = record { loads = l .seen; stores = t .seen } }
+
+pub group-made : {s : List ℕ} {seen : Seen} {ls ss : List Pair} {s₃ s₄ : List ℕ} {l t : PairsRead} → PairsFound s (seen .loads) ls s₃ l → PairsFound s (seen .stores) ss s₄ t → GroupFound s seen (groupOf ls ss) s₄ (groupMade l t)
+group-made f g = record {
+  answer = refl;
+  group = rw (f .pairs, g .pairs);
+  marks = rw (f .marks, g .marks);
+  rest-is = g .rest-is;
+  inside = g .inside;
+}

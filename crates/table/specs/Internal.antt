@@ -8,8 +8,10 @@ use Rattle.table.specs.declared.Pair.{Pair}
 use Rattle.table.specs.declared.check.Rule.{Rule}
 use Rattle.table.specs.declared.read.TwoRead.{TwoRead}
 use Rattle.table.specs.declared.read.PairsRead.{PairsRead}
+use Rattle.table.specs.declared.read.GroupRead.{GroupRead}
+use Rattle.table.specs.declared.read.GroupsRead.{GroupsRead}
 use Rattle.table.specs.Number.{Got, got, bad, andThen, readNumber, placeOf}
-use Rattle.table.specs.TableBytes.{packPairs}
+use Rattle.table.specs.TableBytes.{packPairs, packGroup, pack}
 use Rattle.table.specs.declared.check.Checked.{Checked}
 use Rattle.table.specs.declared.check.Ports.{Ports}
 use Rattle.table.specs.declared.check.Passed.{Passed}
@@ -101,6 +103,27 @@ pub record PairsFound (s : List ℕ) (seen : List Bool) (ps : List Pair) (rest :
   pub rest-is : rest ≡ drop (r .next) s
   pub inside : r .next ≤ length s
 
-abbrev pub PairsResult : List ℕ → List Bool → Got (List Pair) → PairsRead → Type 0
-PairsResult s seen (got ps rest) r = PairsFound s seen ps rest r
-PairsResult s seen (bad k) r = IsRefusal k (r .answer)
+pub data PairsResult (s : List ℕ) (seen : List Bool) : Got (List Pair) → PairsRead → Type 0 where
+  found : {ps : List Pair} {rest : List ℕ} {r : PairsRead} → PairsFound s seen ps rest r → PairsResult s seen (got ps rest) r
+  none : {k : ℕ} {r : PairsRead} → IsRefusal k (r .answer) → PairsResult s seen (bad k) r
+
+pub record GroupFound (s : List ℕ) (seen : Seen) (g : GroupPairs) (rest : List ℕ) (r : GroupRead) : Type 0 where
+  pub answer : r .answer ≡ 0
+  pub group : r .group ≡ packGroup g
+  pub marks : seenOf (r .seen) ≡ seenAfter g seen
+  pub rest-is : rest ≡ drop (r .next) s
+  pub inside : r .next ≤ length s
+
+pub data GroupResult (s : List ℕ) (seen : Seen) : Got GroupPairs → GroupRead → Type 0 where
+  group-found : {g : GroupPairs} {rest : List ℕ} {r : GroupRead} → GroupFound s seen g rest r → GroupResult s seen (got g rest) r
+  group-none : {k : ℕ} {r : GroupRead} → IsRefusal k (r .answer) → GroupResult s seen (bad k) r
+
+pub record GroupsFound (s : List ℕ) (gs : List GroupPairs) (rest : List ℕ) (r : GroupsRead) : Type 0 where
+  pub answer : r .answer ≡ 0
+  pub table : r .table ≡ pack gs
+  pub rest-is : rest ≡ drop (r .next) s
+  pub inside : r .next ≤ length s
+
+pub data GroupsResult (s : List ℕ) : Got (List GroupPairs) → GroupsRead → Type 0 where
+  groups-found : {gs : List GroupPairs} {rest : List ℕ} {r : GroupsRead} → GroupsFound s gs rest r → GroupsResult s (got gs rest) r
+  groups-none : {k : ℕ} {r : GroupsRead} → IsRefusal k (r .answer) → GroupsResult s (bad k) r

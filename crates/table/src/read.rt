@@ -2,9 +2,11 @@
 ghost use mathlib.Core.Path.{_≡_};
 ghost use Prim.Native.Nat.{_≤_};
 ghost use lib.ListN.{length, drop};
-ghost use Rattle.table.specs.TableBytes.{readPairs, packPairs};
-ghost use Rattle.table.specs.Internal.{readTwo, twoAnswer, twoRefusal, ruleOf, RuleRight, PairsResult};
+ghost use Rattle.table.specs.TableBytes.{readPairs, readGroup, readGroups, readTable, tableAnswer, packPairs, pack};
+ghost use Rattle.table.specs.Internal.{readTwo, twoAnswer, twoRefusal, ruleOf, RuleRight, PairsResult, seenOf, GroupResult, GroupsResult};
 ghost use mathlib.Core.List.{[]};
+ghost use Rattle.table.specs.Table.{noneSeen};
+ghost use Rattle.table.specs.Number.{bad};
 use crate::Group;
 use crate::NumberRead;
 use crate::Pair;
@@ -159,4 +161,175 @@ fn read_pairs(bytes: &[u8], at: usize, count: u32, rule: Rule, seen: [bool; 32])
         pairs,
         seen: marks,
     }
+}
+
+// A refused group.
+fn no_group(answer: u8, seen: Ports) -> GroupRead
+    ensures { λ r. ⌜ r .answer ≡ answer ⌝ }
+{
+    let none = no_pairs();
+    let group = Group {
+        loads: none,
+        stores: none,
+    };
+    GroupRead {
+        answer,
+        next: 0,
+        group,
+        seen,
+    }
+}
+
+// Reads a group: both counts, 5, its loads, its stores.
+fn read_group(bytes: &[u8], at: usize, seen: Ports) -> GroupRead
+    ensures { λ r. ⌜ GroupResult (now (bytes .entry)) (seenOf seen) (readGroup (seenOf seen) (drop at (now (bytes .entry)))) r ⌝ }
+{
+    let read = read_two(bytes, at);
+    let TwoRead::Two {
+        first: load_count,
+        second: store_count,
+        next,
+    } = read
+    else {
+        return no_group(two_refusal(read), seen);
+    };
+    if !counts_right(load_count, store_count) {
+        return no_group(BAD_COUNTS, seen);
+    }
+    let none = no_pairs();
+    let load_rule = Rule {
+        storing: false,
+        stores: store_count as u8,
+        loads: none,
+    };
+    let load_marks = seen.loads;
+    let first = read_pairs(bytes, next, load_count, load_rule, load_marks);
+    if first.answer != 0 {
+        return no_group(first.answer, seen);
+    }
+    let loads = first.pairs;
+    let store_rule = Rule {
+        storing: true,
+        stores: store_count as u8,
+        loads,
+    };
+    let store_marks = seen.stores;
+    let second = read_pairs(bytes, first.next, store_count, store_rule, store_marks);
+    if second.answer != 0 {
+        return no_group(second.answer, seen);
+    }
+    let stores = second.pairs;
+    let group = Group { loads, stores };
+    let new_loads = first.seen;
+    let new_stores = second.seen;
+    let marks = Ports {
+        loads: new_loads,
+        stores: new_stores,
+    };
+    GroupRead {
+        answer: 0,
+        next: second.next,
+        group,
+        seen: marks,
+    }
+}
+
+// The table of no groups: what a refused reading holds.
+pub fn no_table() -> Table
+    ensures { λ r. ⌜ r ≡ pack [] ⌝ }
+{
+    let none = no_pairs();
+    let group = Group {
+        loads: none,
+        stores: none,
+    };
+    Table {
+        count: 0,
+        groups: [group; 16],
+    }
+}
+
+// Reads so many groups.
+fn read_groups(bytes: &[u8], at: usize, count: u32) -> GroupsRead
+    requires { ⌜ (count ≤ 16) × (at ≤ length (now bytes)) ⌝ }
+    ensures { λ r. ⌜ GroupsResult (now (bytes .entry)) (readGroups count noneSeen (drop at (now (bytes .entry)))) r ⌝ }
+{
+    let mut table = no_table();
+    let mut seen = Ports {
+        loads: [false; 32],
+        stores: [false; 32],
+    };
+    let mut place = at;
+    let mut i: u32 = 0;
+    while i < count {
+        let read = read_group(bytes, place, seen);
+        if read.answer != 0 {
+            return GroupsRead {
+                answer: read.answer,
+                next: place,
+                table,
+            };
+        }
+        let group = read.group;
+        table.groups[i as usize] = group;
+        seen = read.seen;
+        place = read.next;
+        i += 1;
+    }
+    table.count = count as u8;
+    GroupsRead {
+        answer: 0,
+        next: place,
+        table,
+    }
+}
+
+// A refused table.
+fn refused(answer: u8) -> TableRead
+    ensures { λ r. ⌜ r ≡ tableAnswer (bad answer) ⌝ }
+{
+    TableRead {
+        answer,
+        table: no_table(),
+    }
+}
+
+// Reads a table: the whole of the bytes.
+pub fn read_table(bytes: &[u8]) -> TableRead
+    ensures { λ r. ⌜ r ≡ tableAnswer (readTable (now (bytes .entry))) ⌝ }
+{
+    let read = read_number(bytes, 0);
+    let NumberRead::Number {
+        value: fields,
+        next: place,
+    } = read
+    else {
+        return refused(number_refusal(read));
+    };
+    if fields != 2 {
+        return refused(BAD_FIELDS);
+    }
+    let read = read_number(bytes, place);
+    let NumberRead::Number {
+        value: count,
+        next: place,
+    } = read
+    else {
+        return refused(number_refusal(read));
+    };
+    if count < 1 {
+        return refused(BAD_GROUP_COUNT);
+    }
+    if 16 < count {
+        return refused(BAD_GROUP_COUNT);
+    }
+    let groups = read_groups(bytes, place, count);
+    if groups.answer != 0 {
+        return refused(groups.answer);
+    }
+    if groups.next != bytes.len() {
+        return refused(LEFT_OVER);
+    }
+    let table = groups.table;
+    TableRead { answer: 0, table }
 }

@@ -1,106 +1,125 @@
+-- i pairs have been read into the array; what is left to read is the rest, with the marks and the last offset so far.
+use Prim.Native.Nat.{ℕ, _≤_, _<_, _-_}
+use mathlib.Core.Path.{_≡_, refl, sym, ap, _∙_}
+use mathlib.Core.Bool.{true}
+use native.Mathlib.Omega.{arith}
+use lib.ListN.{length, getD}
+use borrow.Author.Needs.{needs}
+use Rattle.table.specs.declared.Pairs.{Pairs}
+use Rattle.table.specs.Table.{pairFault}
+use Rattle.table.specs.Internal.{ruleOf, twoRefusal}
+use Rattle.table.proofs.CheckLaws.{fault-none, rule-small}
+use Rattle.table.proofs.ReadLaws.{TwoGot, two-answer, two-bad, two-refused, Reading, reading-none, reading-refused, reading-fault, reading-more, reading-end, packed, pairs-refused, pairs-found}
 use Rattle.table.proofs.read.read_pairs.Statement.{statement}
 use Rattle.table.proofs.read.read_pairs.Tie as tie
-use Rattle.table.proofs.read.read_pairs.Reads as reads
-use Rattle.table.proofs.read.read_pairs.Lts as lts
-use Rattle.table.proofs.check.offset_right.Reads as offset-right-reads
-use Rattle.table.proofs.check.pair_fault.Reads as pair-fault-reads
-use Rattle.table.proofs.read.no_pairs.Reads as no-pairs-reads
-use Rattle.table.proofs.read.read_two.Reads as read-two-reads
-use Rattle.table.proofs.read.two_refusal.Reads as two-refusal-reads
 
 abbrev Inv-loop : tie.InvT-loop
-Inv-loop bytes at count rule pairs₀ marks₀ low₀ place₀ i₀ pairs marks low place i = ?
+Inv-loop bytes at count rule pairs₀ marks₀ low₀ place₀ i₀ pairs marks low place i = (i ≤ count) × Reading (ruleOf rule) count marks₀ bytes at i low marks place (pairs .places)
 
 abbrev μ-loop : tie.MeasureT-loop
-μ-loop bytes at count rule pairs₀ marks₀ low₀ place₀ i₀ pairs marks low place i = ?
+μ-loop bytes at count rule pairs₀ marks₀ low₀ place₀ i₀ pairs marks low place i = count - i
 
--- src/read.rt:115:21
 no-pairs-requires : tie.Need-no-pairs-requires Inv-loop μ-loop
-no-pairs-requires c κs = ?
+no-pairs-requires c κs = search needs
 
--- src/read.rt:120:5
 loop-holds : tie.Need-loop-holds Inv-loop μ-loop
-loop-holds c = ?
+loop-holds c = (search needs, reading-none (c .before .before .pre .1) (ap (λ (p : Pairs). p .places) (c .no-pairs .ensures)))
 
--- src/read.rt:121:13
 read-two-requires : tie.Need-read-two-requires Inv-loop μ-loop
-read-two-requires c κs = ?
+read-two-requires c κs = search needs
 
--- src/read.rt:123:20
 enum-known-read : tie.Need-enum-known-read Inv-loop μ-loop
-enum-known-read c = ?
+enum-known-read c = search needs
 
--- src/read.rt:129:25
 enum-told : tie.Need-enum-told Inv-loop μ-loop
-enum-told c = ?
+enum-told c = search needs
 
--- src/read.rt:129:25
 two-refusal-requires : tie.Need-two-refusal-requires Inv-loop μ-loop
-two-refusal-requires c κs = ?
+two-refusal-requires c κs = search needs
 
--- src/read.rt:128:13
 returns : tie.Need-returns Inv-loop μ-loop
-returns c = ?
+returns c =
+    let t = c .before in
+    let l = t .before .before .before in
+    let e = two-bad (l .before .before .before .before .args .bytes .now) (l .before .loop .place) (sym (t .enum-told .given .1) ∙ t .before .before .read-two .ensures) in
+    pairs-refused (reading-refused (l .before .loop .inv .1) (l .loop-test .taken) e) (c .two-refusal .ensures ∙ ap twoRefusal (t .enum-told .given .1)) (two-refused _ e)
 
--- src/read.rt:135:13
 offset-right-requires : tie.Need-offset-right-requires Inv-loop μ-loop
-offset-right-requires c κs = ?
+offset-right-requires c κs = c .before .before .before .before .before .before .before .before .pre .2
 
--- src/read.rt:136:13
 pair-fault-requires : tie.Need-pair-fault-requires Inv-loop μ-loop
-pair-fault-requires c κs = ?
+pair-fault-requires c κs = search needs
 
--- src/read.rt:138:13
+two : (c : tie.After-read Inv-loop μ-loop) → TwoGot (c .before .before .before .before .before .before .before .args .bytes .now) (c .before .before .before .before .loop .place) (c .read .given .0 .0) (c .read .given .0 .1 .0) (c .read .given .0 .1 .1 .0)
+two c = two-answer _ _ (sym (c .read .given .1) ∙ c .before .before .read-two .ensures)
+
+fault : (c : tie.After-pair-fault Inv-loop μ-loop) → c .pair-fault .result ≡ pairFault (ruleOf (c .before .before .before .before .before .before .before .before .before .before .args .rule) (c .before .before .before .before .before .before .before .loop .low) (c .before .before .before .before .before .before .before .loop .i) (c .before .before .before .read .given .0 .0)) (c .before .before .before .before .before .before .before .loop .marks) (c .before .before .before .read .given .0 .1 .0)
+fault c = c .pair-fault .ensures ∙ rw (c .before .offset-right .ensures)
+
 returns-2 : tie.Need-returns-2 Inv-loop μ-loop
-returns-2 c = ?
+returns-2 c =
+    let g = c .before .before .before .before in
+    let l = g .before .before .before in
+    pairs-refused (reading-fault (l .before .loop .inv .1) (l .loop-test .taken) (two g) (fault (c .before)) (c .if1 .taken)) refl (c .if1 .taken)
 
--- src/read.rt:146:21
+no-fault : (c : tie.Else1 Inv-loop μ-loop) → pairFault (ruleOf (c .before .before .before .before .before .before .before .before .before .before .before .args .rule) (c .before .before .before .before .before .before .before .before .loop .low) (c .before .before .before .before .before .before .before .before .loop .i) (c .before .before .before .before .read .given .0 .0)) (c .before .before .before .before .before .before .before .before .loop .marks) (c .before .before .before .before .read .given .0 .1 .0) ≡ 0
+no-fault c = sym (fault (c .before)) ∙ c .if1 .left
+
+small : (c : tie.Else1 Inv-loop μ-loop) → (c .before .before .before .before .read .given .0 .0 ≤ 16) × (c .before .before .before .before .read .given .0 .1 .0 ≤ 31)
+small c =
+    let g = c .before .before .before .before in
+    let l = g .before .before .before .before in
+    let f = fault-none (ruleOf (l .before .before .before .args .rule) (l .loop .low) (l .loop .i) (g .read .given .0 .0)) (l .loop .marks) (g .read .given .0 .1 .0) (no-fault c) in
+    (rule-small (l .before .before .before .args .rule) (l .loop .low) (l .loop .i) (g .read .given .0 .0) (l .before .before .before .pre .2) (f .0), f .1)
+
 cast-t26 : tie.Need-cast-t26 Inv-loop μ-loop
-cast-t26 c = ?
+cast-t26 c = omega (arith, small c .0)
 
--- src/read.rt:147:19
 cast-t27 : tie.Need-cast-t27 Inv-loop μ-loop
-cast-t27 c = ?
+cast-t27 c = omega (arith, small c .1)
 
--- src/read.rt:149:22
 cast-pair : tie.Need-cast-pair Inv-loop μ-loop
-cast-pair c = ?
+cast-pair c = omega arith
 
--- src/read.rt:149:9
 mul-pair : tie.Need-mul-pair Inv-loop μ-loop
-mul-pair c = ?
+mul-pair c = omega arith
 
--- src/read.rt:149:9
 element-set-from-pair : tie.Need-element-set-from-pair Inv-loop μ-loop
-element-set-from-pair c = ?
+element-set-from-pair c = omega arith
 
--- src/read.rt:150:15
 cast-marks : tie.Need-cast-marks Inv-loop μ-loop
-cast-marks c = ?
+cast-marks c = omega (arith, small c .1)
 
--- src/read.rt:150:9
 array-write-marks : tie.Need-array-write-marks Inv-loop μ-loop
-array-write-marks c = ?
+array-write-marks c = omega (arith, small c .1)
 
--- src/read.rt:153:9
 add-i : tie.Need-add-i Inv-loop μ-loop
-add-i c = ?
+add-i c = omega arith
 
--- src/read.rt:120:5
 loop-less : tie.Need-loop-less Inv-loop μ-loop
-loop-less c = ?
+loop-less c = omega arith
 
--- src/read.rt:120:5
 loop-again : tie.Need-loop-again Inv-loop μ-loop
-loop-again c = ?
+loop-again c =
+    let g = c .before .before .before .before in
+    let l = g .before .before .before in
+    (omega arith, reading-more (l .before .loop .inv .1) (l .loop-test .taken) (two g) (l .before .before .before .before .pre .0) (no-fault c))
 
--- src/read.rt:155:19
 cast-pairs : tie.Need-cast-pairs Inv-loop μ-loop
-cast-pairs c = ?
+cast-pairs c = omega arith
 
--- src/read.rt:111:1
 returns-3 : tie.Need-returns-3 Inv-loop μ-loop
-returns-3 c = ?
+returns-3 c =
+    let a = c .before .before .before .before in
+    let w = c .before .loop .inv .1 in
+    let e = reading-end w (a .pre .0) (c .loop-test .left) (c .before .loop .inv .0) in
+    pairs-found (e .0) (record {
+      answer = refl;
+      pairs = packed _ _ _ (omega (arith, c .loop-test .left, c .before .loop .inv .0)) (e .1) (e .2);
+      marks = w .marks-are;
+      rest-is = refl;
+      inside = w .inside;
+    })
 
 pub read-pairs-spec : {M : Type 1} → statement M
 read-pairs-spec =

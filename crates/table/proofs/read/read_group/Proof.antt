@@ -1,0 +1,151 @@
+-- Both counts, then the loads, then the stores, whose rule goes by the loads that were read.
+use Prim.Native.Nat.{ℕ, _≤_}
+use mathlib.Core.Path.{_≡_, refl, sym, ap, subst, _∙_}
+use mathlib.Core.Bool.{true, false, false≢true}
+use native.Mathlib.Omega.{arith}
+use lib.ListN.{length, drop}
+use mathlib.Core.List.{List}
+use borrow.Author.Tests.{not-true, not-false}
+use Rattle.table.specs.declared.Pair.{Pair}
+use Rattle.table.specs.declared.Pairs.{Pairs}
+use Rattle.table.specs.Group.{listOf}
+use Rattle.table.specs.Table.{loadRule, storeRule, pairsFault, countsRight}
+use Rattle.table.specs.TableBytes.{readPairs}
+use Rattle.table.specs.Number.{got, bad}
+use Rattle.table.specs.Internal.{twoRefusal, seenOf, GroupResult, group-none, group-found}
+use Rattle.table.proofs.CheckLaws.{counts-few, rising-checked}
+use Rattle.table.proofs.ReadLaws.{TwoGot, two-answer, two-bad, two-refused, pairs-bad, PairsGot, pairs-got, read-right, group-refused, group-counts-bad, group-loads-bad, group-stores-bad, group-read, store-rule, same-stores, group-made}
+use borrow.Author.Needs.{needs}
+use Rattle.table.proofs.read.read_group.Statement.{statement}
+use Rattle.table.proofs.read.read_group.Tie as tie
+
+counts : (c : tie.After-read) → TwoGot (c .before .before .before .before .args .bytes .now) (c .before .before .before .before .args .at) (c .read .given .0 .0) (c .read .given .0 .1 .0) (c .read .given .0 .1 .1 .0)
+counts c = two-answer _ _ (sym (c .read .given .1) ∙ c .before .before .read-two .ensures)
+
+right : (c : tie.Else1) → countsRight (c .before .before .before .read .given .0 .0) (c .before .before .before .read .given .0 .1 .0) ≡ true
+right c = sym (c .before .counts-right .ensures) ∙ not-false _ (c .if1 .left)
+
+few : (c : tie.Else1) → (c .before .before .before .read .given .0 .0 ≤ 16) × (c .before .before .before .read .given .0 .1 .0 ≤ 16)
+few c = counts-few (c .before .before .before .read .given .0 .0) (c .before .before .before .read .given .0 .1 .0) (right c)
+
+read-two-requires : tie.Need-read-two-requires
+read-two-requires c κs = search needs
+
+enum-known-read : tie.Need-enum-known-read
+enum-known-read c = search needs
+
+enum-told : tie.Need-enum-told
+enum-told c = search needs
+
+two-refusal-requires : tie.Need-two-refusal-requires
+two-refusal-requires c κs = search needs
+
+no-group-requires : tie.Need-no-group-requires
+no-group-requires c κs = search needs
+
+returns : tie.Need-returns
+returns c =
+    let t = c .before .before in
+    let e = two-bad (t .before .before .before .before .args .bytes .now) (t .before .before .before .before .args .at) (sym (t .enum-told .given .1) ∙ t .before .before .read-two .ensures) in
+    rw (group-refused _ _ e) (group-none (record { is = c .no-group .ensures ∙ c .before .two-refusal .ensures ∙ ap twoRefusal (t .enum-told .given .1); some = two-refused _ e }))
+
+counts-right-requires : tie.Need-counts-right-requires
+counts-right-requires c κs = search needs
+
+no-group-requires-2 : tie.Need-no-group-requires-2
+no-group-requires-2 c κs = search needs
+
+returns-2 : tie.Need-returns-2
+returns-2 c =
+    let h = c .before .before in
+    let e = group-counts-bad _ _ (seenOf (h .before .before .before .before .before .before .args .seen)) (counts (h .before .before)) (sym (h .counts-right .ensures) ∙ not-true _ (c .before .if1 .taken)) in
+    rw e (group-none (record { is = c .no-group2 .ensures; some = λ z. omega arith }))
+
+no-pairs-requires : tie.Need-no-pairs-requires
+no-pairs-requires c κs = search needs
+
+cast-t24 : tie.Need-cast-t24
+cast-t24 c = omega (arith, few (c .before) .1)
+
+read-pairs-requires : tie.Need-read-pairs-requires
+read-pairs-requires c κs =
+    let e = c .before .before in
+    (few e .0, counts (e .before .before .before) .inside, record { few = omega (arith, ap (λ (p : Pairs). p .count) (c .before .no-pairs .ensures)); few-stores = few e .1; rising = λ z. absurd (false≢true z) })
+
+no-group-requires-3 : tie.Need-no-group-requires-3
+no-group-requires-3 c κs = search needs
+
+returns-3 : tie.Need-returns-3
+returns-3 c =
+    let e = c .before .before .before .before .before .before in
+    rw (group-loads-bad _ _ (seenOf (e .before .before .before .before .before .before .before .args .seen)) (counts (e .before .before .before)) (right e) (pairs-bad (c .before .before .before .read-pairs .ensures) (c .before .if2 .taken)))
+    (group-none (record { is = c .no-group3 .ensures; some = c .before .if2 .taken }))
+
+-- the loads that were read
+loads : (c : tie.Else2) → PairsGot (c .before .before .before .before .before .before .before .before .before .before .before .before .args .bytes .now) (c .before .before .before .before .before .before .before .before .before .before .before .before .args .seen .loads) (readPairs (loadRule (c .before .before .before .before .before .before .before .before .read .given .0 .1 .0)) (c .before .before .before .before .before .before .before .before .read .given .0 .0) 0 0 (c .before .before .before .before .before .before .before .before .before .before .before .before .args .seen .loads) (drop (c .before .before .before .before .before .before .before .before .read .given .0 .1 .1 .0) (c .before .before .before .before .before .before .before .before .before .before .before .before .args .bytes .now))) (c .before .before .read-pairs .result)
+loads c = pairs-got (c .before .before .read-pairs .ensures) (c .if2 .left)
+
+loads-right : (c : tie.Else2) → (pairsFault (loadRule (c .before .before .before .before .before .before .before .before .read .given .0 .1 .0)) 0 0 (c .before .before .before .before .before .before .before .before .before .before .before .before .args .seen .loads) (loads c .pairs) ≡ 0) × (length (loads c .pairs) ≡ c .before .before .before .before .before .before .before .before .read .given .0 .0)
+loads-right c = read-right _ _ _ _ _ _ (loads c .is)
+
+loads-few : (c : tie.Else2) → length (loads c .pairs) ≤ 16
+loads-few c = omega (arith, loads-right c .1, few (c .before .before .before .before .before) .0)
+
+cast-t24-2 : tie.Need-cast-t24-2
+cast-t24-2 c =
+    omega (arith, few (c .before .before .before .before .before .before) .1)
+
+read-pairs-requires-2 : tie.Need-read-pairs-requires-2
+read-pairs-requires-2 c κs =
+    let l = c .before .before in
+    let e = c .before .before .before .before .before .before .before in (
+      few e .1,
+      loads l .told .inside,
+      record {
+        few = omega (arith, ap (λ (p : Pairs). p .count) (loads l .told .pairs), loads-few l);
+        few-stores = few e .1;
+        rising = λ z. rw (store-rule (loads l .told) (loads-few l)) (rising-checked _ _ _ _ _ (loads-right l .0));
+      },
+    )
+
+no-group-requires-4 : tie.Need-no-group-requires-4
+no-group-requires-4 c κs = search needs
+
+returns-4 : tie.Need-returns-4
+returns-4 c =
+    let l = c .before .before .before .before .before .before in
+    let e = c .before .before .before .before .before .before .before .before .before .before .before in
+    rw (group-stores-bad _ _ (seenOf (e .before .before .before .before .before .before .before .args .seen)) (counts (e .before .before .before)) (right e) (loads l .is) (same-stores (loads l .told) (loads-few l) _ _ ∙ pairs-bad (c .before .before .before .read-pairs2 .ensures) (c .before .if3 .taken)))
+    (group-none (record { is = c .no-group4 .ensures; some = c .before .if3 .taken }))
+
+returns-5 : tie.Need-returns-5
+returns-5 c =
+    let l = c .before .before .before .before .before .before .before .before in
+    let e = c .before .before .before .before .before .before .before .before .before .before .before .before .before in
+    let t = pairs-got (c .before .before .before .before .before .read-pairs2 .ensures) (c .before .before .before .if3 .left) in
+    rw (group-read _ _ (seenOf (e .before .before .before .before .before .before .before .args .seen)) (counts (e .before .before .before)) (right e) (loads l .is) (same-stores (loads l .told) (loads-few l) _ _ ∙ t .is))
+    (group-found (group-made {seen = seenOf (e .before .before .before .before .before .before .before .args .seen)} (loads l .told) (t .told)))
+
+pub read-group-spec : {M : Type 1} → statement M
+read-group-spec =
+    tie.close
+    (tie.spec
+    read-two-requires
+    enum-known-read
+    enum-told
+    two-refusal-requires
+    no-group-requires
+    returns
+    counts-right-requires
+    no-group-requires-2
+    returns-2
+    no-pairs-requires
+    cast-t24
+    read-pairs-requires
+    no-group-requires-3
+    returns-3
+    cast-t24-2
+    read-pairs-requires-2
+    no-group-requires-4
+    returns-4
+    returns-5)

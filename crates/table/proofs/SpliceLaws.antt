@@ -186,3 +186,9 @@ bytes-room ns count i h k =
     let e : take (i + 1) (take count ns) ≡ take (i + 1) ns = take-take (i + 1) count ns (omega arith) in
     let f = rw (e, bytes-next ns i (omega arith), length-append) at (bytes-front (take count ns) (i + 1)) in
     f
+
+-- two numbers put one after the other
+pub put-two : {d : List ℕ} {place : ℕ} {ns out : List ℕ} {end : ℕ} {out₁ out₂ : List ℕ} {end₁ end₂ : ℕ} → Put d place ns out end → (x y : ℕ) → place + length (bytesOf ns) + length (numberBytes x) ≤ length d → out₁ ≡ splice out end (numberBytes x) → end₁ ≡ end + length (numberBytes x) → out₂ ≡ splice out₁ end₁ (numberBytes y) → end₂ ≡ end₁ + length (numberBytes y) → Put d place (ns ++ x ∷ y ∷ []) out₂ end₂
+put-two {d} {place} {ns} w x y h e f e₂ f₂ =
+    let k : place + length (bytesOf (ns ++ x ∷ [])) ≤ length d = rw (bytes-append ns (x ∷ []), length-append, append-nil) (omega arith) in
+    rw append-assoc at (put-one (put-one w x (omega arith) e f) y k e₂ f₂)

@@ -39,6 +39,11 @@ abbrev pub dropWhile : {A : Type 0} → (A → Bool) → List A → List A
 dropWhile p [] = []
 dropWhile p (x ∷ xs) = pick (p x) (dropWhile p xs) (x ∷ xs)
 
+-- what f gives of each element, one after the other
+abbrev pub flat : {A B : Type 0} → (A → List B) → List A → List B
+flat f [] = []
+flat f (x ∷ xs) = f x ++ flat f xs
+
 -- the element at a place, or none past the end
 abbrev pub nth : {A : Type 0} → List A → ℕ → Option A
 nth [] n = none

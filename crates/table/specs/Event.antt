@@ -13,7 +13,7 @@ use Rattle.table.specs.declared.HeaderRead.the-variants.{Leading, NoHead
 use Rattle.table.specs.declared.EventRead.{EventRead}
 use Rattle.table.specs.declared.EventRead.the-variants.{Found, End, NoEvent}
 use Rattle.table.specs.declared.Stepped.{Stepped}
-use Rattle.table.specs.Basics.{pick, within}
+use Rattle.table.specs.Basics.{pick, flat, within}
 use Rattle.table.specs.Refusal.{badKind}
 use Rattle.table.specs.Number.{Got, got, bad, andThen, require, readNumber, placeOf, bytesOf}
 
@@ -84,8 +84,7 @@ abbrev pub eventBytes : Event → List ℕ
 eventBytes e = bytesOf (eventNumbers e)
 
 abbrev pub eventsBytes : List Event → List ℕ
-eventsBytes [] = []
-eventsBytes (e ∷ es) = eventBytes e ++ eventsBytes es
+eventsBytes = flat eventBytes
 
 -- the four leading numbers of a trace
 abbrev pub headerNumbers : Header → List ℕ

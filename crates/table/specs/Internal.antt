@@ -3,8 +3,10 @@ use Prim.Native.Nat.{ℕ, zero, suc, _+_, _*_, _≤_, _<_}
 use mathlib.Core.Path.{_≡_}
 use mathlib.Core.Bool.{Bool, true}
 use mathlib.Core.List.{List, [], _∷_, _++_}
-use lib.ListN.{length, take, drop}
+use lib.ListN.{length, getD, take, drop}
 use Rattle.table.specs.declared.Pair.{Pair}
+use Rattle.table.specs.declared.Group.{Group}
+use Rattle.table.specs.declared.Table.{Table}
 use Rattle.table.specs.declared.check.Rule.{Rule}
 use Rattle.table.specs.declared.read.TwoRead.{TwoRead}
 use Rattle.table.specs.declared.read.PairsRead.{PairsRead}
@@ -17,7 +19,7 @@ use Rattle.table.specs.declared.check.Ports.{Ports}
 use Rattle.table.specs.declared.check.Passed.{Passed}
 use Rattle.table.specs.Basics.{pick}
 use Rattle.table.specs.Group.{GroupPairs, listOf}
-use Rattle.table.specs.Table.{loadRule, storeRule, pairsFault, seeing, Seen, seenAfter, groupFault}
+use Rattle.table.specs.Table.{blankGroup, loadRule, storeRule, pairsFault, seeing, Seen, seenAfter, groupFault}
 use Rattle.table.specs.declared.NumberRead.{NumberRead}
 use Rattle.table.specs.declared.trace.Numbers.{Numbers}
 use Rattle.table.specs.declared.NumberRead.the-variants.{Number, Refused}
@@ -127,3 +129,14 @@ pub record GroupsFound (s : List ℕ) (gs : List GroupPairs) (rest : List ℕ) (
 pub data GroupsResult (s : List ℕ) : Got (List GroupPairs) → GroupsRead → Type 0 where
   groups-found : {gs : List GroupPairs} {rest : List ℕ} {r : GroupsRead} → GroupsFound s gs rest r → GroupsResult s (got gs rest) r
   groups-none : {k : ℕ} {r : GroupsRead} → IsRefusal k (r .answer) → GroupsResult s (bad k) r
+
+-- ---- writing a table
+
+-- counts that stay within the arrays, as a right table's do
+pub record GroupFits (g : Group) : Type 0 where
+  pub loads : g .loads .count ≤ 16
+  pub stores : g .stores .count ≤ 16
+
+pub record TableFits (t : Table) : Type 0 where
+  pub groups : t .count ≤ 16
+  pub each : (i : ℕ) → i < t .count → GroupFits (getD (t .groups) i blankGroup)

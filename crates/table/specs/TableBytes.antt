@@ -11,7 +11,7 @@ use Rattle.table.specs.declared.Group.{Group}
 use Rattle.table.specs.declared.Table.{Table}
 use Rattle.table.specs.declared.TableRead.{TableRead}
 use Rattle.table.specs.declared.Written.the-variants.{Unwritten}
-use Rattle.table.specs.Basics.{pick, within}
+use Rattle.table.specs.Basics.{pick, flat, within}
 use Rattle.table.specs.Refusal.{badFields, badGroupCount, badCounts, leftOver}
 use Rattle.table.specs.Number.{Got, got, bad, andThen, require, readNumber, bytesOf, Wrote, wrote}
 use Rattle.table.specs.Group.{GroupPairs, blankPair}
@@ -81,19 +81,14 @@ tableAnswer (got gs s) = record { answer = 0; table = pack gs }
 tableAnswer (bad n) = record { answer = n; table = pack [] }
 
 -- the numbers of a table, in the order of its bytes
-abbrev pub pairsNumbers : List Pair → List ℕ
-pairsNumbers [] = []
-pairsNumbers (p ∷ ps) = p .offset ∷ p .port ∷ pairsNumbers ps
+abbrev pub pairNumbers : Pair → List ℕ
+pairNumbers p = p .offset ∷ p .port ∷ []
 
 abbrev pub groupNumbers : GroupPairs → List ℕ
-groupNumbers g = length (g .loads) ∷ length (g .stores) ∷ pairsNumbers (g .loads) ++ pairsNumbers (g .stores)
-
-abbrev pub groupsNumbers : List GroupPairs → List ℕ
-groupsNumbers [] = []
-groupsNumbers (g ∷ gs) = groupNumbers g ++ groupsNumbers gs
+groupNumbers g = length (g .loads) ∷ length (g .stores) ∷ flat pairNumbers (g .loads) ++ flat pairNumbers (g .stores)
 
 abbrev pub tableNumbers : List GroupPairs → List ℕ
-tableNumbers gs = 2 ∷ length gs ∷ groupsNumbers gs
+tableNumbers gs = 2 ∷ length gs ∷ flat groupNumbers gs
 
 abbrev pub tableBytes : List GroupPairs → List ℕ
 tableBytes gs = bytesOf (tableNumbers gs)

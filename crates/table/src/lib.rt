@@ -6,6 +6,7 @@ pub mod number;
 pub mod read;
 pub mod refusal;
 pub mod trace;
+pub mod write;
 
 // An access of a group: how many accesses of the other kind come before it in the group, and its port.
 pub struct Pair {

@@ -1,0 +1,66 @@
+use Prim.Native.Nat.{_≤_}
+use mathlib.Core.Path.{_≡_, refl, sym, ap, _∙_}
+use native.Mathlib.Omega.{arith}
+use lib.ListN.{length}
+use Rattle.table.specs.Group.{listOf, pairsOf}
+use Rattle.table.proofs.CheckLaws.{held-length}
+use Rattle.table.proofs.SpliceLaws.{bytes-most}
+use Rattle.table.proofs.WriteLaws.{group-length}
+use borrow.Author.Needs.{needs}
+use Rattle.table.proofs.write.group_length.Statement.{statement}
+use Rattle.table.proofs.write.group_length.Tie as tie
+
+cast-number-length : tie.Need-cast-number-length
+cast-number-length c = search needs
+
+number-length-requires : tie.Need-number-length-requires
+number-length-requires c κs = search needs
+
+cast-number-length-2 : tie.Need-cast-number-length-2
+cast-number-length-2 c = search needs
+
+number-length-requires-2 : tie.Need-number-length-requires-2
+number-length-requires-2 c κs = search needs
+
+five : (c : tie.After-number-length2) → (c .before .before .number-length .result ≤ 5) × (c .number-length2 .result ≤ 5)
+five c =
+    let g = c .before .before .before .before .before .before .args .group in
+    (omega (arith, c .before .before .number-length .ensures .1, bytes-most (g .loads .count)), omega (arith, c .number-length2 .ensures .1, bytes-most (g .stores .count)))
+
+add-counts : tie.Need-add-counts
+add-counts c = omega (arith, five c .0, five c .1)
+
+pairs-length-requires : tie.Need-pairs-length-requires
+pairs-length-requires c κs = c .before .before .before .before .before .before .pre .loads
+
+add-result : tie.Need-add-result
+add-result c = omega (arith, five (c .before) .0, five (c .before) .1, c .pairs-length .ensures .1)
+
+pairs-length-requires-2 : tie.Need-pairs-length-requires-2
+pairs-length-requires-2 c κs = c .before .before .before .before .before .before .before .pre .stores
+
+add-result-2 : tie.Need-add-result-2
+add-result-2 c = omega (arith, five (c .before .before) .0, five (c .before .before) .1, c .before .pairs-length .ensures .1, c .pairs-length2 .ensures .1)
+
+returns : tie.Need-returns
+returns c =
+    let n = c .before .before in
+    let g = n .before .before .before .before .before .before .args .group in
+    let a : length (listOf (g .loads)) ≡ g .loads .count = held-length _ _ _ in
+    let b : length (listOf (g .stores)) ≡ g .stores .count = held-length _ _ _ in
+    (rw (group-length (pairsOf g), a, b) (omega (arith, n .before .before .number-length .ensures .1, n .number-length2 .ensures .1, c .before .pairs-length .ensures .0, c .pairs-length2 .ensures .0)), omega (arith, five n .0, five n .1, c .before .pairs-length .ensures .1, c .pairs-length2 .ensures .1))
+
+pub group-length-spec : {M : Type 1} → statement M
+group-length-spec =
+    tie.close
+    (tie.spec
+    cast-number-length
+    number-length-requires
+    cast-number-length-2
+    number-length-requires-2
+    add-counts
+    pairs-length-requires
+    add-result
+    pairs-length-requires-2
+    add-result-2
+    returns)

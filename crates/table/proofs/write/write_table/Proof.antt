@@ -1,0 +1,73 @@
+-- 4 to 8 first, then the length, and only then the first byte.
+use Prim.Native.Nat.{_≤_}
+use mathlib.Core.Path.{_≡_, refl, sym, ap, _∙_}
+use native.Mathlib.Omega.{arith}
+use lib.ListN.{length}
+use borrow.Author.Tests.{eq-eqb, ne-eqb}
+use Rattle.table.specs.declared.Written.the-variants.{Bytes, Unwritten}
+use Rattle.table.specs.Table.{groupsOf, tableFault}
+use Rattle.table.specs.TableBytes.{tableBytes, wroteTable}
+use Rattle.table.specs.Internal.{TableFits}
+use Rattle.table.proofs.CheckLaws.{long, groups-size}
+use Rattle.table.proofs.SpliceLaws.{wrote-short, wrote-fits}
+use Rattle.table.proofs.WriteLaws.{table-right, table-fits}
+use borrow.Author.Needs.{needs}
+use Rattle.table.proofs.write.write_table.Statement.{statement}
+use Rattle.table.proofs.write.write_table.Tie as tie
+
+right : (c : tie.Else1) → tableFault (groupsOf (c .before .before .before .args .table)) ≡ 0
+right c = sym (c .before .table-fault .ensures) ∙ c .if1 .left
+
+fits : (c : tie.Else1) → TableFits (c .before .before .before .args .table)
+fits c =
+    let e : length (c .before .before .before .args .table .groups) ≡ 16 = search (needs, long) in
+    table-fits (c .before .before .before .args .table) (right c) (omega (arith, table-right (groupsOf (c .before .before .before .args .table)) (right c) .0, groups-size (c .before .before .before .args .table)))
+
+table-fault-requires : tie.Need-table-fault-requires
+table-fault-requires c κs = search needs
+
+returns : tie.Need-returns
+unfolding wroteTable
+returns c =
+    let t = c .before in
+    let e = t .before .before .args in
+    rw (ne-eqb (tableFault (groupsOf (e .table))) 0 (λ z. c .if1 .taken (t .table-fault .ensures ∙ z)), t .table-fault .ensures) (refl, refl)
+
+table-length-requires : tie.Need-table-length-requires
+table-length-requires c κs = fits c
+
+returns-2 : tie.Need-returns-2
+unfolding wroteTable
+returns-2 c =
+    let e = c .before .before in
+    let a = e .before .before .before .args in
+    rw (eq-eqb (tableFault (groupsOf (a .table))) 0 (right e), wrote-short (tableBytes (groupsOf (a .table))) (a .out .now) (omega (arith, c .before .table-length .ensures))) (refl, refl)
+
+put-table-requires : tie.Need-put-table-requires
+put-table-requires c κs =
+    let e = c .before .before .before in
+    (fits e, omega (arith, c .before .before .table-length .ensures))
+
+same-length : tie.Need-same-length
+same-length c = search needs
+
+returns-3 : tie.Need-returns-3
+unfolding wroteTable
+returns-3 c =
+    let p = c .before .before in
+    let l = p .before .before .before in
+    let e = l .before in
+    let a = e .before .before .before .args in
+    rw (eq-eqb (tableFault (groupsOf (a .table))) 0 (right e), wrote-fits (tableBytes (groupsOf (a .table))) (a .out .now) (omega (arith, l .table-length .ensures))) (ap Bytes (l .table-length .ensures), p .put-table .ensures)
+
+pub write-table-spec : {M : Type 1} → statement M
+write-table-spec =
+    tie.close
+    (tie.spec
+    table-fault-requires
+    returns
+    table-length-requires
+    returns-2
+    put-table-requires
+    same-length
+    returns-3)

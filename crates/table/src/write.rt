@@ -1,0 +1,123 @@
+// Writing tables. The length is known before the first byte is written, so a refusal leaves the buffer as it was.
+ghost use mathlib.Core.Path.{_≡_};
+ghost use Prim.Native.Nat.{_+_, _≤_};
+ghost use lib.ListN.{length};
+ghost use Rattle.table.specs.Basics.{flat};
+ghost use Rattle.table.specs.Number.{bytesOf};
+ghost use Rattle.table.specs.Group.{listOf, pairsOf};
+ghost use Rattle.table.specs.Table.{groupsOf};
+ghost use Rattle.table.specs.TableBytes.{pairNumbers, groupNumbers, tableNumbers, wroteTable};
+ghost use Rattle.table.specs.Internal.{splice, GroupFits, TableFits};
+use crate::Group;
+use crate::Pairs;
+use crate::Table;
+use crate::Written;
+use crate::check::table_fault;
+use crate::number::number_length;
+use crate::number::put_number;
+use crate::refusal::TOO_SHORT;
+
+// How many bytes a group's pairs of one kind take.
+fn pairs_length(pairs: Pairs) -> usize
+    requires { ⌜ pairs .count ≤ 16 ⌝ }
+    ensures { λ r. ⌜ (r ≡ length (bytesOf (flat pairNumbers (listOf pairs)))) × (r ≤ 160) ⌝ }
+{
+    let count = pairs.count as usize;
+    let mut total: usize = 0;
+    let mut i: usize = 0;
+    while i < count {
+        let pair = pairs.places[i];
+        total += number_length(pair.offset as u32) + number_length(pair.port as u32);
+        i += 1;
+    }
+    total
+}
+
+// How many bytes a group takes.
+fn group_length(group: Group) -> usize
+    requires { ⌜ GroupFits group ⌝ }
+    ensures { λ r. ⌜ (r ≡ length (bytesOf (groupNumbers (pairsOf group)))) × (r ≤ 330) ⌝ }
+{
+    let loads = group.loads;
+    let stores = group.stores;
+    let counts = number_length(loads.count as u32) + number_length(stores.count as u32);
+    counts + pairs_length(loads) + pairs_length(stores)
+}
+
+// How many bytes a table takes.
+fn table_length(table: Table) -> usize
+    requires { ⌜ TableFits table ⌝ }
+    ensures { λ r. ⌜ r ≡ length (bytesOf (tableNumbers (groupsOf table))) ⌝ }
+{
+    let count = table.count as usize;
+    let mut total: usize = 0;
+    let mut i: usize = 0;
+    while i < count {
+        let group = table.groups[i];
+        total += group_length(group);
+        i += 1;
+    }
+    number_length(2) + number_length(table.count as u32) + total
+}
+
+// Puts a group's pairs of one kind at a place where they fit, and says where they end.
+fn put_pairs(pairs: Pairs, out: &mut [u8], at: usize) -> usize
+    requires { ⌜ (pairs .count ≤ 16) × (at + length (bytesOf (flat pairNumbers (listOf pairs))) ≤ length (now out)) ⌝ }
+    ensures { λ r. ⌜ (r ≡ at + length (bytesOf (flat pairNumbers (listOf pairs)))) × (now (out .exit) ≡ splice (now (out .entry)) at (bytesOf (flat pairNumbers (listOf pairs)))) ⌝ }
+{
+    let count = pairs.count as usize;
+    let mut place = at;
+    let mut i: usize = 0;
+    while i < count {
+        let pair = pairs.places[i];
+        place = put_number(out, place, pair.offset as u32);
+        place = put_number(out, place, pair.port as u32);
+        i += 1;
+    }
+    place
+}
+
+// Puts a group at a place where it fits, and says where it ends.
+fn put_group(group: Group, out: &mut [u8], at: usize) -> usize
+    requires { ⌜ GroupFits group × (at + length (bytesOf (groupNumbers (pairsOf group))) ≤ length (now out)) ⌝ }
+    ensures { λ r. ⌜ (r ≡ at + length (bytesOf (groupNumbers (pairsOf group)))) × (now (out .exit) ≡ splice (now (out .entry)) at (bytesOf (groupNumbers (pairsOf group)))) ⌝ }
+{
+    let loads = group.loads;
+    let stores = group.stores;
+    let after_loads = put_number(out, at, loads.count as u32);
+    let after_counts = put_number(out, after_loads, stores.count as u32);
+    let after_pairs = put_pairs(loads, out, after_counts);
+    put_pairs(stores, out, after_pairs)
+}
+
+// Puts a table at the front of a buffer where it fits.
+fn put_table(table: Table, out: &mut [u8])
+    requires { ⌜ TableFits table × (length (bytesOf (tableNumbers (groupsOf table))) ≤ length (now out)) ⌝ }
+    ensures { λ _. ⌜ now (out .exit) ≡ splice (now (out .entry)) 0 (bytesOf (tableNumbers (groupsOf table))) ⌝ }
+{
+    let count = table.count as usize;
+    let after_fields = put_number(out, 0, 2);
+    let mut place = put_number(out, after_fields, table.count as u32);
+    let mut i: usize = 0;
+    while i < count {
+        let group = table.groups[i];
+        place = put_group(group, out, place);
+        i += 1;
+    }
+}
+
+// Writes a table at the front of a buffer: 4, 5, 8, 6, 7, then 10.
+pub fn write_table(table: Table, out: &mut [u8]) -> Written
+    ensures { λ r. ⌜ (r ≡ wroteTable (groupsOf table) (now (out .entry)) .answer) × (now (out .exit) ≡ wroteTable (groupsOf table) (now (out .entry)) .buffer) ⌝ }
+{
+    let fault = table_fault(table);
+    if fault != 0 {
+        return Written::Unwritten(fault);
+    }
+    let length = table_length(table);
+    if out.len() < length {
+        return Written::Unwritten(TOO_SHORT);
+    }
+    put_table(table, out);
+    Written::Bytes(length)
+}

@@ -6,4 +6,5 @@ pub mod Group
 pub mod Table
 pub mod TableBytes
 pub mod Event
+pub mod Reader
 pub mod Internal

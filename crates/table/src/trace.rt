@@ -5,6 +5,7 @@ ghost use mathlib.Core.List.{List};
 ghost use lib.ListN.{length, take, drop};
 ghost use Rattle.table.specs.Number.{readNumber, bytesOf, wrote};
 ghost use Rattle.table.specs.Event.{readHeader, headerAnswer, headerBytes, headerNumbers, eventOf, hasSecond, readKind, eventAnswer, eventAt, stepAt, eventNumbers, eventBytes};
+ghost use Rattle.table.specs.Reader.{movedTo};
 ghost use Rattle.table.specs.Internal.{splice, listed};
 use crate::Event;
 use crate::EventRead;
@@ -255,4 +256,22 @@ pub fn write_header(header: Header, out: &mut [u8]) -> Written
         values: [loads, stores, serial, words],
     };
     write_numbers(numbers, out)
+}
+
+// A reader that stays attached to a lent trace.
+pub struct Reader<'a> {
+    pub bytes: &'a [u8],
+    pub at: usize,
+}
+
+impl<'a> Reader<'a> {
+    // Yields one event, and moves past it; it stays at the end and where it is refused.
+    pub fn step(&mut self) -> EventRead
+        ensures { λ x. ⌜ (x ≡ stepAt (now (now (self .entry) .bytes)) (now (self .entry) .at) .read)
+            × (now (self .exit) ≡ movedTo (now (self .entry)) (stepAt (now (now (self .entry) .bytes)) (now (self .entry) .at) .next)) ⌝ }
+    {
+        let stepped = step_at(self.bytes, self.at);
+        self.at = stepped.next;
+        stepped.read
+    }
 }

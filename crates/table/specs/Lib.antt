@@ -7,4 +7,5 @@ pub mod Table
 pub mod TableBytes
 pub mod Event
 pub mod Reader
+pub mod RoundTrip
 pub mod Internal

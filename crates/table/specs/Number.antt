@@ -100,7 +100,7 @@ spells more top [] = false
 spells zero top (b ∷ bs) = leb b top && isEmpty bs
 spells (suc more) top (b ∷ bs) = pick (ltb b 128) (isEmpty bs) (spells more top bs)
 
--- the number that they spell
+-- the number that they spell: the last byte is the highest group
 abbrev pub valueOf : List ℕ → ℕ
 valueOf [] = 0
-valueOf (b ∷ bs) = b % 128 + 128 * valueOf bs
+valueOf (b ∷ bs) = pick (isEmpty bs) b (b - 128 + 128 * valueOf bs)

@@ -1,0 +1,80 @@
+-- What reading and writing promise together. Document 01: "writing and reading back returns the same", "a reader accepts
+-- padding; the writer uses the fewest bytes". The proofs are proofs/RoundTrip.antt.
+use Prim.Native.Nat.{ℕ, _+_, _≤_, _<_, _^_}
+use mathlib.Core.Path.{_≡_}
+use mathlib.Core.Bool.{Bool, true}
+use mathlib.Core.List.{List, [], _∷_, _++_}
+use lib.Dec.{ltb}
+use lib.ListN.{length}
+use Rattle.table.specs.declared.Event.{Event}
+use Rattle.table.specs.declared.Header.{Header}
+use Rattle.table.specs.declared.EventRead.the-variants.{Found, End}
+use Rattle.table.specs.declared.HeaderRead.the-variants.{Leading}
+use Rattle.table.specs.Basics.{all}
+use Rattle.table.specs.Number.{got, readNumber, numberBytes, byteCount, significantBits, spells, valueOf}
+use Rattle.table.specs.Group.{GroupPairs}
+use Rattle.table.specs.Table.{tableFault}
+use Rattle.table.specs.TableBytes.{readTable, tableNumbers, tableBytes}
+use Rattle.table.specs.Event.{eventNumbers, readEvent, eventAt, eventsBytes, headerNumbers, headerBytes, headerAnswer, readHeader}
+
+-- Bytes that spell numbers, one after the other, padded or not.
+pub data Spelled : List ℕ → List ℕ → Type 0 where
+  nothing : Spelled [] []
+  next : (bytes : List ℕ) {rest ns : List ℕ} → spells 4 15 bytes ≡ true → Spelled rest ns → Spelled (bytes ++ rest) (valueOf bytes ∷ ns)
+
+-- every number is one of 32 bits
+pub data Fit : List ℕ → Type 0 where
+  none : Fit []
+  one : {n : ℕ} {ns : List ℕ} → n < 2 ^ 32 → Fit ns → Fit (n ∷ ns)
+
+-- Bytes that spell a number are read as it, whatever follows, and nothing else is read as a number.
+abbrev pub NumbersAreSpelled : Type 0
+NumbersAreSpelled = (bytes rest : List ℕ) → spells 4 15 bytes ≡ true → readNumber (bytes ++ rest) ≡ got (valueOf bytes) rest
+
+abbrev pub OnlySpelledNumbers : Type 0
+OnlySpelledNumbers = (s rest : List ℕ) (n : ℕ) → readNumber s ≡ got n rest → (bytes : List ℕ) × (s ≡ bytes ++ rest) × (spells 4 15 bytes ≡ true) × (valueOf bytes ≡ n)
+
+-- What is written is read back; its length is the law's; and no bytes that are read as the number are fewer.
+abbrev pub isByte : ℕ → Bool
+isByte b = ltb b 256
+
+abbrev pub NumbersReadBack : Type 0
+NumbersReadBack = (n : ℕ) → n < 2 ^ 32 → (rest : List ℕ) → readNumber (numberBytes n ++ rest) ≡ got n rest
+
+abbrev pub NumberLength : Type 0
+NumberLength = (n : ℕ) → n < 2 ^ 32 → length (numberBytes n) ≡ byteCount (significantBits n)
+
+abbrev pub FewestBytes : Type 0
+FewestBytes = (s rest : List ℕ) (n : ℕ) → all isByte s ≡ true → readNumber s ≡ got n rest → length (numberBytes n) + length rest ≤ length s
+
+-- Reading a table accepts just the bytes that spell the numbers of a right table, and gives that table.
+abbrev pub TablesAreSpelled : Type 0
+TablesAreSpelled = (gs : List GroupPairs) (bytes : List ℕ) → tableFault gs ≡ 0 → Spelled bytes (tableNumbers gs) → readTable bytes ≡ got gs []
+
+abbrev pub OnlyRightTables : Type 0
+OnlyRightTables = (s rest : List ℕ) (gs : List GroupPairs) → readTable s ≡ got gs rest → (tableFault gs ≡ 0) × (rest ≡ []) × Spelled s (tableNumbers gs)
+
+abbrev pub TablesReadBack : Type 0
+TablesReadBack = (gs : List GroupPairs) → tableFault gs ≡ 0 → readTable (tableBytes gs) ≡ got gs []
+
+-- The same of events: an event's bytes are those that spell its numbers.
+abbrev pub EventsAreSpelled : Type 0
+EventsAreSpelled = (e : Event) (bytes rest : List ℕ) → Spelled bytes (eventNumbers e) → readEvent (bytes ++ rest) ≡ got e rest
+
+abbrev pub OnlySpelledEvents : Type 0
+OnlySpelledEvents = (s rest : List ℕ) (e : Event) → readEvent s ≡ got e rest → (bytes : List ℕ) × (s ≡ bytes ++ rest) × Spelled bytes (eventNumbers e)
+
+-- the events that reading yields from a place on, and then the end
+pub data Yields (s : List ℕ) : ℕ → List Event → Type 0 where
+  ends : {place : ℕ} → eventAt s place ≡ End → Yields s place []
+  yields : {place next : ℕ} {e : Event} {es : List Event} → eventAt s place ≡ Found e next → Yields s next es → Yields s place (e ∷ es)
+
+pub data AllFit : List Event → Type 0 where
+  no-more : AllFit []
+  and-more : {e : Event} {es : List Event} → Fit (eventNumbers e) → AllFit es → AllFit (e ∷ es)
+
+-- A trace that was written, its leading numbers and then its events, is read back: the numbers, the events, and the end.
+abbrev pub TracesReadBack : Type 0
+TracesReadBack =
+    (h : Header) (es : List Event) → Fit (headerNumbers h) → AllFit es →
+    (place : ℕ) × (headerAnswer (headerBytes h ++ eventsBytes es) (readHeader (headerBytes h ++ eventsBytes es)) ≡ Leading h place) × Yields (headerBytes h ++ eventsBytes es) place es

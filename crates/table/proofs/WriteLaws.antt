@@ -58,11 +58,11 @@ pub group-length : (g : GroupPairs) → length (bytesOf (groupNumbers g)) ≡ le
 group-length g = rw (length-append, length-append, bytes-append (flat pairNumbers (g .loads)) (flat pairNumbers (g .stores)), length-append) (omega arith)
 
 -- ---- a table that is right fits its arrays
-or-else-both : (n m : ℕ) → orElse n m ≡ 0 → (n ≡ 0) × (m ≡ 0)
+pub or-else-both : (n m : ℕ) → orElse n m ≡ 0 → (n ≡ 0) × (m ≡ 0)
 or-else-both zero m e = (refl, e)
 or-else-both (suc n) m e = let q = ne-eqb (suc n) 0 (λ z. omega arith) in let d : suc n ≡ 0 = rw q at e in absurd (omega arith)
 
-check-both : (t : Bool) (n m : ℕ) → (n ≡ 0 → ⊥) → check t n m ≡ 0 → (t ≡ true) × (m ≡ 0)
+pub check-both : (t : Bool) (n m : ℕ) → (n ≡ 0 → ⊥) → check t n m ≡ 0 → (t ≡ true) × (m ≡ 0)
 check-both true n m z e = (refl, e)
 check-both false n m z e = absurd (z e)
 

@@ -13,8 +13,8 @@ use Rattle.table.specs.declared.HeaderRead.the-variants.{Leading}
 use Rattle.table.specs.Basics.{all}
 use Rattle.table.specs.Number.{got, readNumber, numberBytes, byteCount, significantBits, spells, valueOf}
 use Rattle.table.specs.Group.{GroupPairs}
-use Rattle.table.specs.Table.{tableFault}
-use Rattle.table.specs.TableBytes.{readTable, tableNumbers, tableBytes}
+use Rattle.table.specs.Table.{groupsOf, tableFault}
+use Rattle.table.specs.TableBytes.{readTable, pack, tableNumbers, tableBytes}
 use Rattle.table.specs.Event.{eventNumbers, readEvent, eventAt, eventsBytes, headerNumbers, headerBytes, headerAnswer, readHeader}
 
 -- Bytes that spell numbers, one after the other, padded or not.
@@ -56,6 +56,10 @@ OnlyRightTables = (s rest : List ℕ) (gs : List GroupPairs) → readTable s ≡
 
 abbrev pub TablesReadBack : Type 0
 TablesReadBack = (gs : List GroupPairs) → tableFault gs ≡ 0 → readTable (tableBytes gs) ≡ got gs []
+
+-- The record that reading gives holds just the groups that were read, in its meaningful places.
+abbrev pub RecordsHoldGroups : Type 0
+RecordsHoldGroups = (gs : List GroupPairs) → tableFault gs ≡ 0 → groupsOf (pack gs) ≡ gs
 
 -- The same of events: an event's bytes are those that spell its numbers.
 abbrev pub EventsAreSpelled : Type 0

@@ -1,0 +1,551 @@
+-- Tables and traces are read back; the statements are specs/RoundTrip.antt.
+use Prim.Native.Nat.{ℕ, zero, suc, _+_, _-_, _≤_, _<_, _^_}
+use mathlib.Core.Path.{_≡_, refl, sym, ap, ap₂, _∙_}
+use mathlib.Core.Bool.{Bool, true, false, true≢false, false≢true}
+use mathlib.Core.List.{List, [], _∷_, _++_, map, append-nil, append-assoc}
+use native.Mathlib.Omega.{arith}
+use lib.Dec.{leb, eqb}
+use lib.ListN.{length, getD, set, drop, replicate, length-append, length-map}
+use lib.Seq.{drop-append-seam, take-at}
+use borrow.Author.Tests.{eq-eqb, le-leb, ne-eqb, leb-true, eqb-true}
+use Rattle.table.specs.declared.Pair.{Pair}
+use Rattle.table.specs.declared.Event.{Event}
+use Rattle.table.specs.declared.Event.the-variants.{Activate, LoadAddress, StoreAddress, StoreData, Serve, Write, Take}
+use Rattle.table.specs.declared.Header.{Header}
+use Rattle.table.specs.declared.EventRead.the-variants.{Found, End}
+use Rattle.table.specs.declared.HeaderRead.the-variants.{Leading}
+use Rattle.table.specs.Basics.{pick, count, flat, within, check, orElse}
+use Rattle.table.specs.Refusal.{badFields, badGroupCount, badCounts, leftOver, badKind}
+use Rattle.table.specs.Number.{Got, got, bad, andThen, require, readNumber, placeOf, numberBytes, bytesOf, spells, valueOf}
+use Rattle.table.specs.Group.{GroupPairs, pairsOf, beforeStore}
+use Rattle.table.specs.Table.{blankGroup, loadRule, storeRule, pairFault, pairsFault, countsRight, Seen, noneSeen, seenAfter, groupFault, groupsFault, tableFault}
+use Rattle.table.specs.TableBytes.{unless, pair, before, readPairs, readGroup, readGroups, readTable, pairNumbers, groupNumbers, tableNumbers, tableBytes, packGroup, emptyGroup}
+use Rattle.table.specs.Event.{eventNumbers, hasSecond, eventOf, readKind, readEvent, eventAnswer, eventAt, eventBytes, eventsBytes, headerNumbers, headerBytes, headerAnswer, readHeader}
+use Rattle.table.specs.RoundTrip.{Spelled, nothing, next, Fit, none, one, TablesAreSpelled, OnlyRightTables, TablesReadBack, RecordsHoldGroups, EventsAreSpelled, OnlySpelledEvents, Yields, ends, yields, AllFit, no-more, and-more, TracesReadBack}
+use Rattle.table.proofs.CheckLaws.{and-left, and-right, fault-none, counts-few, count-most, held-few}
+use Rattle.table.proofs.SpliceLaws.{bytes-some}
+use Rattle.table.proofs.TraceLaws.{event-at-end, event-at-inside}
+use Rattle.table.proofs.ReadLaws.{read-right, groupOf, list-packed}
+use Rattle.table.proofs.WriteLaws.{or-else-both, check-both}
+use Rattle.table.proofs.RoundTripLaws.{spelled-up-to, Spelling, only-up-to, written-up-to}
+
+-- ---- numbers that are spelled are read one by one
+pub record Taken (s : List ℕ) (n : ℕ) (ns : List ℕ) : Type 0 where
+  pub rest : List ℕ
+  pub is : readNumber s ≡ got n rest
+  pub others : Spelled rest ns
+
+pub take-one : {s : List ℕ} {n : ℕ} {ns : List ℕ} → Spelled s (n ∷ ns) → Taken s n ns
+take-one (next bytes {rest} e w) = record { rest = rest; is = spelled-up-to 4 15 bytes rest e; others = w }
+
+-- and a number that was read was spelled
+pub put-back : (s : List ℕ) (n : ℕ) (rest ns : List ℕ) → readNumber s ≡ got n rest → Spelled rest ns → Spelled s (n ∷ ns)
+put-back s n rest ns e w = go (only-up-to 4 15 s n rest e)
+  where
+    go : Spelling 4 15 s n rest → Spelled s (n ∷ ns)
+    go k = rw (k .whole, ← k .value) (next (k .bytes) (k .spell) w)
+
+spelled-none : {s : List ℕ} → Spelled s [] → s ≡ []
+spelled-none nothing = refl
+
+regrouped : {s : List ℕ} (a b c : List ℕ) → Spelled s (a ++ b ++ c) → Spelled s (a ++ (b ++ c))
+regrouped a b c w = rw (append-assoc a b c) at w
+
+with-none : {s : List ℕ} (a : List ℕ) → Spelled s a → Spelled s (a ++ [])
+with-none a w = rw append-nil w
+
+-- the writer spells
+pub written : {ns : List ℕ} → Fit ns → Spelled (bytesOf ns) ns
+written none = nothing
+written (one {n} {ns} h f) =
+    let w = written-up-to 4 n h in
+    let k = next (numberBytes n) (w .0) (written f) in
+    rw (w .1) at k
+
+-- ---- pairs
+pub record PairsTaken (rule : ℕ → ℕ → ℕ → Bool) (low i : ℕ) (seen : List Bool) (s : List ℕ) (ps : List Pair) (ns : List ℕ) : Type 0 where
+  pub rest : List ℕ
+  pub is : readPairs rule (length ps) low i seen s ≡ got ps rest
+  pub others : Spelled rest ns
+
+pub take-pairs : (rule : ℕ → ℕ → ℕ → Bool) (low i : ℕ) (seen : List Bool) (ps : List Pair) (s ns : List ℕ) → pairsFault rule low i seen ps ≡ 0 → Spelled s (flat pairNumbers ps ++ ns) → PairsTaken rule low i seen s ps ns
+unfolding readPairs pairsFault
+take-pairs rule low i seen [] s ns e w = record { rest = s; is = refl; others = w }
+take-pairs rule low i seen (p ∷ ps) s ns e w =
+    let f = or-else-both (pairFault (rule low i (p .offset)) seen (p .port)) _ e in
+    let x = take-one w in
+    let y = take-one (x .others) in
+    let z = take-pairs rule (p .offset) (suc i) (set seen (p .port) true) ps (y .rest) ns (f .1) (y .others) in
+    record { rest = z .rest; is = one-more (x .rest) (y .rest) (z .rest) (x .is) (y .is) (f .0) (z .is); others = z .others }
+  where
+    one-more : (s₁ s₂ r : List ℕ) → readNumber s ≡ got (p .offset) s₁ → readNumber s₁ ≡ got (p .port) s₂ → pairFault (rule low i (p .offset)) seen (p .port) ≡ 0 → readPairs rule (length ps) (p .offset) (suc i) (set seen (p .port) true) s₂ ≡ got ps r → readPairs rule (suc (length ps)) low i seen s ≡ got (p ∷ ps) r
+    one-more s₁ s₂ r a b c d = rw (a, b, c, d)
+
+pub put-pairs : (rule : ℕ → ℕ → ℕ → Bool) (n low i : ℕ) (seen : List Bool) (s : List ℕ) (ps : List Pair) (rest ns : List ℕ) → readPairs rule n low i seen s ≡ got ps rest → Spelled rest ns → Spelled s (flat pairNumbers ps ++ ns)
+unfolding readPairs
+put-pairs rule zero low i seen s ps rest ns e w =
+    let p : [] ≡ ps = cc in
+    let q : s ≡ rest = cc in
+    rw (← p, q) w
+put-pairs rule (suc n) low i seen s ps rest ns e w = first (readNumber s) refl (λ x y s₂ l d. put-pairs rule n x (suc i) (set seen y true) s₂ l rest ns d w) e
+  where
+    put : (x y : ℕ) (s₁ s₂ : List ℕ) (l : List Pair) → readNumber s ≡ got x s₁ → readNumber s₁ ≡ got y s₂ → pair x y ∷ l ≡ ps → Spelled s₂ (flat pairNumbers l ++ ns) → Spelled s (flat pairNumbers ps ++ ns)
+    put x y s₁ s₂ l f g q k = rw (← q) (put-back s x s₁ _ f (put-back s₁ y s₂ _ g k))
+
+    tail : (x y : ℕ) (s₁ s₂ : List ℕ) → readNumber s ≡ got x s₁ → readNumber s₁ ≡ got y s₂ → (g : Got (List Pair)) → ((l : List Pair) → g ≡ got l rest → Spelled s₂ (flat pairNumbers l ++ ns)) → before (pair x y) g ≡ got ps rest → Spelled s (flat pairNumbers ps ++ ns)
+    tail x y s₁ s₂ f h (got l r) ih d =
+        let q : pair x y ∷ l ≡ ps = cc in
+        let r-is : got l r ≡ got l rest = cc in
+        put x y s₁ s₂ l f h q (ih l r-is)
+    tail x y s₁ s₂ f h (bad k) ih d = let z : _≡_ {A = ℕ} 0 1 = cc in absurd (omega arith)
+
+    fault : (x y : ℕ) (s₁ s₂ : List ℕ) → readNumber s ≡ got x s₁ → readNumber s₁ ≡ got y s₂ → (k : ℕ) → (g : Got (List Pair)) → ((l : List Pair) → g ≡ got l rest → Spelled s₂ (flat pairNumbers l ++ ns)) → unless k (before (pair x y) g) ≡ got ps rest → Spelled s (flat pairNumbers ps ++ ns)
+    fault x y s₁ s₂ f h zero g ih d = tail x y s₁ s₂ f h g ih d
+    fault x y s₁ s₂ f h (suc k) g ih d =
+        let t = ne-eqb (suc k) 0 (λ z. omega arith) in
+        let u : bad (suc k) ≡ got ps rest = rw t at d in
+        let z : _≡_ {A = ℕ} 0 1 = cc in absurd (omega arith)
+
+    second : (x : ℕ) (s₁ : List ℕ) → readNumber s ≡ got x s₁ → (g : Got ℕ) → readNumber s₁ ≡ g → ((x y : ℕ) (s₂ : List ℕ) (l : List Pair) → readPairs rule n x (suc i) (set seen y true) s₂ ≡ got l rest → Spelled s₂ (flat pairNumbers l ++ ns)) → (andThen g λ y s₂. unless (pairFault (rule low i x) seen y) (before (pair x y) (readPairs rule n x (suc i) (set seen y true) s₂))) ≡ got ps rest → Spelled s (flat pairNumbers ps ++ ns)
+    second x s₁ f (got y s₂) h ih d = fault x y s₁ s₂ f h (pairFault (rule low i x) seen y) (readPairs rule n x (suc i) (set seen y true) s₂) (ih x y s₂) d
+    second x s₁ f (bad k) h ih d = let z : _≡_ {A = ℕ} 0 1 = cc in absurd (omega arith)
+
+    first : (g : Got ℕ) → readNumber s ≡ g → ((x y : ℕ) (s₂ : List ℕ) (l : List Pair) → readPairs rule n x (suc i) (set seen y true) s₂ ≡ got l rest → Spelled s₂ (flat pairNumbers l ++ ns)) → (andThen g λ x s₁. andThen (readNumber s₁) λ y s₂. unless (pairFault (rule low i x) seen y) (before (pair x y) (readPairs rule n x (suc i) (set seen y true) s₂))) ≡ got ps rest → Spelled s (flat pairNumbers ps ++ ns)
+    first (got x s₁) f ih d = second x s₁ f (readNumber s₁) refl ih d
+    first (bad k) f ih d = let z : _≡_ {A = ℕ} 0 1 = cc in absurd (omega arith)
+
+-- ---- a group
+pub record GroupTaken (seen : Seen) (s : List ℕ) (g : GroupPairs) (ns : List ℕ) : Type 0 where
+  pub rest : List ℕ
+  pub is : readGroup seen s ≡ got g rest
+  pub others : Spelled rest ns
+
+group-fault : (seen : Seen) (g : GroupPairs) → groupFault seen g ≡ 0 → (countsRight (length (g .loads)) (length (g .stores)) ≡ true) × (pairsFault (loadRule (length (g .stores))) 0 0 (seen .loads) (g .loads) ≡ 0) × (pairsFault (storeRule (g .loads)) 0 0 (seen .stores) (g .stores) ≡ 0)
+unfolding groupFault
+group-fault seen g e =
+    let f = check-both (countsRight (length (g .loads)) (length (g .stores))) badCounts _ (λ z. omega arith) e in
+    let h = or-else-both (pairsFault (loadRule (length (g .stores))) 0 0 (seen .loads) (g .loads)) _ (f .1) in
+    (f .0, h .0, h .1)
+
+group-right-of : (seen : Seen) (g : GroupPairs) → countsRight (length (g .loads)) (length (g .stores)) ≡ true → pairsFault (loadRule (length (g .stores))) 0 0 (seen .loads) (g .loads) ≡ 0 → pairsFault (storeRule (g .loads)) 0 0 (seen .stores) (g .stores) ≡ 0 → groupFault seen g ≡ 0
+unfolding groupFault
+group-right-of seen g a b c = rw (a, b, c)
+
+pub take-group : (seen : Seen) (g : GroupPairs) (s ns : List ℕ) → groupFault seen g ≡ 0 → Spelled s (groupNumbers g ++ ns) → GroupTaken seen s g ns
+unfolding readGroup
+take-group seen g s ns e w =
+    let (right, ls, ss) = group-fault seen g e in
+    let x = take-one w in
+    let y = take-one (x .others) in
+    let l = take-pairs (loadRule (length (g .stores))) 0 0 (seen .loads) (g .loads) (y .rest) (flat pairNumbers (g .stores) ++ ns) ls (regrouped (flat pairNumbers (g .loads)) (flat pairNumbers (g .stores)) ns (y .others)) in
+    let t = take-pairs (storeRule (g .loads)) 0 0 (seen .stores) (g .stores) (l .rest) ns ss (l .others) in
+    record { rest = t .rest; is = whole (x .rest) (y .rest) (l .rest) (t .rest) (x .is) (y .is) right (l .is) (t .is); others = t .others }
+  where
+    whole : (s₁ s₂ s₃ r : List ℕ) → readNumber s ≡ got (length (g .loads)) s₁ → readNumber s₁ ≡ got (length (g .stores)) s₂ → countsRight (length (g .loads)) (length (g .stores)) ≡ true → readPairs (loadRule (length (g .stores))) (length (g .loads)) 0 0 (seen .loads) s₂ ≡ got (g .loads) s₃ → readPairs (storeRule (g .loads)) (length (g .stores)) 0 0 (seen .stores) s₃ ≡ got (g .stores) r → readGroup seen s ≡ got g r
+    whole s₁ s₂ s₃ r a b c d f = rw (a, b, c, d, f)
+
+-- what a group that was read says
+pub record GroupPut (seen : Seen) (s : List ℕ) (g : GroupPairs) (rest : List ℕ) : Type 0 where
+  pub right : groupFault seen g ≡ 0
+  pub spelled : (ns : List ℕ) → Spelled rest ns → Spelled s (groupNumbers g ++ ns)
+
+pub put-group : (seen : Seen) (s : List ℕ) (g : GroupPairs) (rest : List ℕ) → readGroup seen s ≡ got g rest → GroupPut seen s g rest
+unfolding readGroup
+put-group seen s g rest e = first (readNumber s) refl e
+  where
+    made : (x y : ℕ) (s₁ s₂ s₃ : List ℕ) (ls ss : List Pair) → readNumber s ≡ got x s₁ → readNumber s₁ ≡ got y s₂ → countsRight x y ≡ true → readPairs (loadRule y) x 0 0 (seen .loads) s₂ ≡ got ls s₃ → readPairs (storeRule ls) y 0 0 (seen .stores) s₃ ≡ got ss rest → record { loads = ls; stores = ss } ≡ g → GroupPut seen s g rest
+    made x y s₁ s₂ s₃ ls ss a b c d f q = rw (← q) (record {
+      right = group-right-of seen (record { loads = ls; stores = ss }) (rw (n, m) c) (rw m (l .0)) (t .0);
+      spelled = λ ns w. rw (n, m) (put-back s x s₁ _ a (put-back s₁ y s₂ _ b (rw (append-assoc (flat pairNumbers ls) (flat pairNumbers ss) ns) (put-pairs (loadRule y) x 0 0 (seen .loads) s₂ ls s₃ _ d (put-pairs (storeRule ls) y 0 0 (seen .stores) s₃ ss rest ns f w)))));
+    })
+      where
+        l : (pairsFault (loadRule y) 0 0 (seen .loads) ls ≡ 0) × (length ls ≡ x)
+        l = read-right (loadRule y) x 0 0 (seen .loads) s₂ d
+
+        t : (pairsFault (storeRule ls) 0 0 (seen .stores) ss ≡ 0) × (length ss ≡ y)
+        t = read-right (storeRule ls) y 0 0 (seen .stores) s₃ f
+
+        n : length ls ≡ x
+        n = l .1
+
+        m : length ss ≡ y
+        m = t .1
+
+    stores : (x y : ℕ) (s₁ s₂ s₃ : List ℕ) (ls : List Pair) → readNumber s ≡ got x s₁ → readNumber s₁ ≡ got y s₂ → countsRight x y ≡ true → readPairs (loadRule y) x 0 0 (seen .loads) s₂ ≡ got ls s₃ → (h : Got (List Pair)) → readPairs (storeRule ls) y 0 0 (seen .stores) s₃ ≡ h → (andThen h λ ss s₄. got (groupOf ls ss) s₄) ≡ got g rest → GroupPut seen s g rest
+    stores x y s₁ s₂ s₃ ls a b c d (got ss s₄) f k =
+        let q : groupOf ls ss ≡ g = cc in
+        let r : s₄ ≡ rest = cc in
+        made x y s₁ s₂ s₃ ls ss a b c d (f ∙ rw r) q
+    stores x y s₁ s₂ s₃ ls a b c d (bad n) f k = let z : _≡_ {A = ℕ} 0 1 = cc in absurd (omega arith)
+
+    loads : (x y : ℕ) (s₁ s₂ : List ℕ) → readNumber s ≡ got x s₁ → readNumber s₁ ≡ got y s₂ → countsRight x y ≡ true → (h : Got (List Pair)) → readPairs (loadRule y) x 0 0 (seen .loads) s₂ ≡ h → (andThen h λ ls s₃. andThen (readPairs (storeRule ls) y 0 0 (seen .stores) s₃) λ ss s₄. got (groupOf ls ss) s₄) ≡ got g rest → GroupPut seen s g rest
+    loads x y s₁ s₂ a b c (got ls s₃) d k = stores x y s₁ s₂ s₃ ls a b c d (readPairs (storeRule ls) y 0 0 (seen .stores) s₃) refl k
+    loads x y s₁ s₂ a b c (bad n) d k = let z : _≡_ {A = ℕ} 0 1 = cc in absurd (omega arith)
+
+    counts : (x y : ℕ) (s₁ s₂ : List ℕ) → readNumber s ≡ got x s₁ → readNumber s₁ ≡ got y s₂ → (t : Bool) → countsRight x y ≡ t → require t badCounts (andThen (readPairs (loadRule y) x 0 0 (seen .loads) s₂) λ ls s₃. andThen (readPairs (storeRule ls) y 0 0 (seen .stores) s₃) λ ss s₄. got (groupOf ls ss) s₄) ≡ got g rest → GroupPut seen s g rest
+    counts x y s₁ s₂ a b true c k = loads x y s₁ s₂ a b c (readPairs (loadRule y) x 0 0 (seen .loads) s₂) refl k
+    counts x y s₁ s₂ a b false c k = let z : _≡_ {A = ℕ} 0 1 = cc in absurd (omega arith)
+
+    second : (x : ℕ) (s₁ : List ℕ) → readNumber s ≡ got x s₁ → (h : Got ℕ) → readNumber s₁ ≡ h → (andThen h λ y s₂. require (countsRight x y) badCounts (andThen (readPairs (loadRule y) x 0 0 (seen .loads) s₂) λ ls s₃. andThen (readPairs (storeRule ls) y 0 0 (seen .stores) s₃) λ ss s₄. got (groupOf ls ss) s₄)) ≡ got g rest → GroupPut seen s g rest
+    second x s₁ a (got y s₂) b k = counts x y s₁ s₂ a b (countsRight x y) refl k
+    second x s₁ a (bad n) b k = let z : _≡_ {A = ℕ} 0 1 = cc in absurd (omega arith)
+
+    first : (h : Got ℕ) → readNumber s ≡ h → (andThen h λ x s₁. andThen (readNumber s₁) λ y s₂. require (countsRight x y) badCounts (andThen (readPairs (loadRule y) x 0 0 (seen .loads) s₂) λ ls s₃. andThen (readPairs (storeRule ls) y 0 0 (seen .stores) s₃) λ ss s₄. got (groupOf ls ss) s₄)) ≡ got g rest → GroupPut seen s g rest
+    first (got x s₁) a k = second x s₁ a (readNumber s₁) refl k
+    first (bad n) a k = let z : _≡_ {A = ℕ} 0 1 = cc in absurd (omega arith)
+
+-- ---- groups
+pub record GroupsTaken (seen : Seen) (s : List ℕ) (gs : List GroupPairs) (ns : List ℕ) : Type 0 where
+  pub rest : List ℕ
+  pub is : readGroups (length gs) seen s ≡ got gs rest
+  pub others : Spelled rest ns
+
+pub take-groups : (seen : Seen) (gs : List GroupPairs) (s ns : List ℕ) → groupsFault seen gs ≡ 0 → Spelled s (flat groupNumbers gs ++ ns) → GroupsTaken seen s gs ns
+unfolding readGroups groupsFault
+take-groups seen [] s ns e w = record { rest = s; is = refl; others = w }
+take-groups seen (g ∷ gs) s ns e w =
+    let f = or-else-both (groupFault seen g) _ e in
+    let x = take-group seen g s (flat groupNumbers gs ++ ns) (f .0) (regrouped (groupNumbers g) (flat groupNumbers gs) ns w) in
+    let y = take-groups (seenAfter g seen) gs (x .rest) ns (f .1) (x .others) in
+    record { rest = y .rest; is = one-more (x .rest) (y .rest) (x .is) (y .is); others = y .others }
+  where
+    one-more : (s₁ r : List ℕ) → readGroup seen s ≡ got g s₁ → readGroups (length gs) (seenAfter g seen) s₁ ≡ got gs r → readGroups (suc (length gs)) seen s ≡ got (g ∷ gs) r
+    one-more s₁ r a b = rw (a, b)
+
+pub record GroupsPut (seen : Seen) (n : ℕ) (s : List ℕ) (gs : List GroupPairs) (rest : List ℕ) : Type 0 where
+  pub right : groupsFault seen gs ≡ 0
+  pub many : length gs ≡ n
+  pub spelled : (ns : List ℕ) → Spelled rest ns → Spelled s (flat groupNumbers gs ++ ns)
+
+pub put-groups : (n : ℕ) (seen : Seen) (s : List ℕ) (gs : List GroupPairs) (rest : List ℕ) → readGroups n seen s ≡ got gs rest → GroupsPut seen n s gs rest
+unfolding readGroups groupsFault
+put-groups zero seen s gs rest e =
+    let p : [] ≡ gs = cc in
+    let q : s ≡ rest = cc in
+    rw (← p, ← q) (record { right = refl; many = refl; spelled = λ ns w. w })
+put-groups (suc n) seen s gs rest e = first (readGroup seen s) refl (λ g s₁ l d. put-groups n (seenAfter g seen) s₁ l rest d) e
+  where
+    made : (g : GroupPairs) (s₁ : List ℕ) (l : List GroupPairs) → GroupPut seen s g s₁ → GroupsPut (seenAfter g seen) n s₁ l rest → g ∷ l ≡ gs → GroupsPut seen (suc n) s gs rest
+    made g s₁ l a b q = rw (← q) (record {
+      right = both (a .right) (b .right);
+      many = ap suc (b .many);
+      spelled = λ ns w. rw (append-assoc (groupNumbers g) (flat groupNumbers l) ns) (a .spelled _ (b .spelled ns w));
+    })
+      where
+        both : groupFault seen g ≡ 0 → groupsFault (seenAfter g seen) l ≡ 0 → groupsFault seen (g ∷ l) ≡ 0
+        both c d = rw (c, d)
+
+    tail : (g : GroupPairs) (s₁ : List ℕ) → readGroup seen s ≡ got g s₁ → (h : Got (List GroupPairs)) → ((l : List GroupPairs) → h ≡ got l rest → GroupsPut (seenAfter g seen) n s₁ l rest) → before g h ≡ got gs rest → GroupsPut seen (suc n) s gs rest
+    tail g s₁ a (got l r) ih d =
+        let q : g ∷ l ≡ gs = cc in
+        let r-is : got l r ≡ got l rest = cc in
+        made g s₁ l (put-group seen s g s₁ a) (ih l r-is) q
+    tail g s₁ a (bad k) ih d = let z : _≡_ {A = ℕ} 0 1 = cc in absurd (omega arith)
+
+    first : (h : Got GroupPairs) → readGroup seen s ≡ h → ((g : GroupPairs) (s₁ : List ℕ) (l : List GroupPairs) → readGroups n (seenAfter g seen) s₁ ≡ got l rest → GroupsPut (seenAfter g seen) n s₁ l rest) → (andThen h λ g s₁. before g (readGroups n (seenAfter g seen) s₁)) ≡ got gs rest → GroupsPut seen (suc n) s gs rest
+    first (got g s₁) a ih d = tail g s₁ a (readGroups n (seenAfter g seen) s₁) (ih g s₁) d
+    first (bad k) a ih d = let z : _≡_ {A = ℕ} 0 1 = cc in absurd (omega arith)
+
+-- ---- tables
+table-fault : (gs : List GroupPairs) → tableFault gs ≡ 0 → (within 1 16 (length gs) ≡ true) × (groupsFault noneSeen gs ≡ 0)
+unfolding tableFault
+table-fault gs e = check-both (within 1 16 (length gs)) badGroupCount (groupsFault noneSeen gs) (λ z. omega arith) e
+
+table-right-of : (gs : List GroupPairs) → within 1 16 (length gs) ≡ true → groupsFault noneSeen gs ≡ 0 → tableFault gs ≡ 0
+unfolding tableFault
+table-right-of gs a b = rw (a, b)
+
+pub tables-are-spelled : TablesAreSpelled
+unfolding readTable
+tables-are-spelled gs bytes e w =
+    let (few, right) = table-fault gs e in
+    let x = take-one w in
+    let y = take-one (x .others) in
+    let g = take-groups noneSeen gs (y .rest) [] right (with-none (flat groupNumbers gs) (y .others)) in
+    whole (x .rest) (y .rest) (g .rest) (x .is) (y .is) few (g .is) (spelled-none (g .others))
+  where
+    whole : (s₁ s₂ s₃ : List ℕ) → readNumber bytes ≡ got 2 s₁ → readNumber s₁ ≡ got (length gs) s₂ → within 1 16 (length gs) ≡ true → readGroups (length gs) noneSeen s₂ ≡ got gs s₃ → s₃ ≡ [] → readTable bytes ≡ got gs []
+    whole s₁ s₂ s₃ a b c d f = rw (a, b, c, d, f)
+
+pub only-right-tables : OnlyRightTables
+unfolding readTable
+only-right-tables s rest gs e = first (readNumber s) refl e
+  where
+    made : (n : ℕ) (s₁ s₂ : List ℕ) → readNumber s ≡ got 2 s₁ → readNumber s₁ ≡ got n s₂ → within 1 16 n ≡ true → GroupsPut noneSeen n s₂ gs rest → rest ≡ [] → (tableFault gs ≡ 0) × (rest ≡ []) × Spelled s (tableNumbers gs)
+    made n s₁ s₂ a b c w z = (right, z, rw (w .many) (put-back s 2 s₁ _ a (put-back s₁ n s₂ _ b (rw (append-nil (flat groupNumbers gs)) at (w .spelled [] (rw z nothing))))))
+      where
+        right : tableFault gs ≡ 0
+        right = table-right-of gs (rw (w .many) c) (w .right)
+
+    end : (n : ℕ) (s₁ s₂ : List ℕ) → readNumber s ≡ got 2 s₁ → readNumber s₁ ≡ got n s₂ → within 1 16 n ≡ true → (h : List GroupPairs) (s₃ : List ℕ) → readGroups n noneSeen s₂ ≡ got h s₃ → (t : Bool) → eqb (length s₃) 0 ≡ t → require t leftOver (got h s₃) ≡ got gs rest → (tableFault gs ≡ 0) × (rest ≡ []) × Spelled s (tableNumbers gs)
+    end n s₁ s₂ a b c h s₃ d true k f =
+        let p : h ≡ gs = cc in
+        let q : s₃ ≡ rest = cc in
+        made n s₁ s₂ a b c (put-groups n noneSeen s₂ gs rest (d ∙ rw (p, q))) (empty rest (rw (← q) (eqb-true (length s₃) 0 k)))
+      where
+        empty : (l : List ℕ) → length l ≡ 0 → l ≡ []
+        empty [] z = refl
+        empty (x ∷ l) z = absurd (omega arith)
+    end n s₁ s₂ a b c h s₃ d false k f = let z : _≡_ {A = ℕ} 0 1 = cc in absurd (omega arith)
+
+    groups : (n : ℕ) (s₁ s₂ : List ℕ) → readNumber s ≡ got 2 s₁ → readNumber s₁ ≡ got n s₂ → within 1 16 n ≡ true → (h : Got (List GroupPairs)) → readGroups n noneSeen s₂ ≡ h → (andThen h λ l s₃. require (eqb (length s₃) 0) leftOver (got l s₃)) ≡ got gs rest → (tableFault gs ≡ 0) × (rest ≡ []) × Spelled s (tableNumbers gs)
+    groups n s₁ s₂ a b c (got l s₃) d f = end n s₁ s₂ a b c l s₃ d (eqb (length s₃) 0) refl f
+    groups n s₁ s₂ a b c (bad k) d f = let z : _≡_ {A = ℕ} 0 1 = cc in absurd (omega arith)
+
+    count : (n : ℕ) (s₁ s₂ : List ℕ) → readNumber s ≡ got 2 s₁ → readNumber s₁ ≡ got n s₂ → (t : Bool) → within 1 16 n ≡ t → require t badGroupCount (andThen (readGroups n noneSeen s₂) λ l s₃. require (eqb (length s₃) 0) leftOver (got l s₃)) ≡ got gs rest → (tableFault gs ≡ 0) × (rest ≡ []) × Spelled s (tableNumbers gs)
+    count n s₁ s₂ a b true c f = groups n s₁ s₂ a b c (readGroups n noneSeen s₂) refl f
+    count n s₁ s₂ a b false c f = let z : _≡_ {A = ℕ} 0 1 = cc in absurd (omega arith)
+
+    second : (s₁ : List ℕ) → readNumber s ≡ got 2 s₁ → (h : Got ℕ) → readNumber s₁ ≡ h → (andThen h λ n s₂. require (within 1 16 n) badGroupCount (andThen (readGroups n noneSeen s₂) λ l s₃. require (eqb (length s₃) 0) leftOver (got l s₃))) ≡ got gs rest → (tableFault gs ≡ 0) × (rest ≡ []) × Spelled s (tableNumbers gs)
+    second s₁ a (got n s₂) b f = count n s₁ s₂ a b (within 1 16 n) refl f
+    second s₁ a (bad k) b f = let z : _≡_ {A = ℕ} 0 1 = cc in absurd (omega arith)
+
+    fields : (x : ℕ) (s₁ : List ℕ) → readNumber s ≡ got x s₁ → (t : Bool) → eqb x 2 ≡ t → require t badFields (andThen (readNumber s₁) λ n s₂. require (within 1 16 n) badGroupCount (andThen (readGroups n noneSeen s₂) λ l s₃. require (eqb (length s₃) 0) leftOver (got l s₃))) ≡ got gs rest → (tableFault gs ≡ 0) × (rest ≡ []) × Spelled s (tableNumbers gs)
+    fields x s₁ a true k f = second s₁ (a ∙ rw (eqb-true x 2 k)) (readNumber s₁) refl f
+    fields x s₁ a false k f = let z : _≡_ {A = ℕ} 0 1 = cc in absurd (omega arith)
+
+    first : (h : Got ℕ) → readNumber s ≡ h → (andThen h λ x s₁. require (eqb x 2) badFields (andThen (readNumber s₁) λ n s₂. require (within 1 16 n) badGroupCount (andThen (readGroups n noneSeen s₂) λ l s₃. require (eqb (length s₃) 0) leftOver (got l s₃)))) ≡ got gs rest → (tableFault gs ≡ 0) × (rest ≡ []) × Spelled s (tableNumbers gs)
+    first (got x s₁) a f = fields x s₁ a (eqb x 2) refl f
+    first (bad k) a f = let z : _≡_ {A = ℕ} 0 1 = cc in absurd (omega arith)
+
+-- a right table's numbers are all small
+fit-pairs : (rule : ℕ → ℕ → ℕ → Bool) → ((low i offset : ℕ) → rule low i offset ≡ true → offset ≤ 16) → (low i : ℕ) (seen : List Bool) (ps : List Pair) {ns : List ℕ} → pairsFault rule low i seen ps ≡ 0 → Fit ns → Fit (flat pairNumbers ps ++ ns)
+unfolding pairsFault
+fit-pairs rule small low i seen [] e w = w
+fit-pairs rule small low i seen (p ∷ ps) e w =
+    let f = or-else-both (pairFault (rule low i (p .offset)) seen (p .port)) _ e in
+    let g = fault-none (rule low i (p .offset)) seen (p .port) (f .0) in
+    one {n = p .offset} (omega (arith, small low i (p .offset) (g .0))) (one {n = p .port} (omega (arith, g .1)) (fit-pairs rule small (p .offset) (suc i) (set seen (p .port) true) ps (f .1) w))
+
+fit-group : (seen : Seen) (g : GroupPairs) {ns : List ℕ} → groupFault seen g ≡ 0 → Fit ns → Fit (groupNumbers g ++ ns)
+fit-group seen g {ns} e w =
+    let (right, ls, ss) = group-fault seen g e in
+    let few = counts-few (length (g .loads)) (length (g .stores)) right in
+    let r : Fit (flat pairNumbers (g .loads) ++ flat pairNumbers (g .stores) ++ ns) = rw (append-assoc (flat pairNumbers (g .loads)) (flat pairNumbers (g .stores)) ns)
+    (fit-pairs (loadRule (length (g .stores))) (λ low i offset f. load-small low offset f (few .1)) 0 0 (seen .loads) (g .loads) ls
+    (fit-pairs (storeRule (g .loads)) (λ low i offset f. store-small i offset f (few .0)) 0 0 (seen .stores) (g .stores) ss w)) in
+    one {n = length (g .loads)} (omega (arith, few .0)) (one {n = length (g .stores)} (omega (arith, few .1)) r)
+  where
+    load-small : (low offset : ℕ) → loadRule (length (g .stores)) low 0 offset ≡ true → length (g .stores) ≤ 16 → offset ≤ 16
+    load-small low offset f h = omega (arith, leb-true offset (length (g .stores)) (and-right (leb low offset) _ f))
+
+    store-small : (i offset : ℕ) → storeRule (g .loads) 0 i offset ≡ true → length (g .loads) ≤ 16 → offset ≤ 16
+    store-small i offset f h = omega (arith, eqb-true offset (count (beforeStore i) (g .loads)) f, count-most (beforeStore i) (g .loads))
+
+fit-groups : (seen : Seen) (gs : List GroupPairs) → groupsFault seen gs ≡ 0 → Fit (flat groupNumbers gs)
+unfolding groupsFault
+fit-groups seen [] e = none
+fit-groups seen (g ∷ gs) e =
+    let f = or-else-both (groupFault seen g) _ e in
+    fit-group seen g (f .0) (fit-groups (seenAfter g seen) gs (f .1))
+
+pub tables-read-back : TablesReadBack
+tables-read-back gs e =
+    let (few, right) = table-fault gs e in
+    let n = leb-true (length gs) 16 (and-right (leb 1 (length gs)) _ few) in
+    tables-are-spelled gs (tableBytes gs) e (written (one {n = 2} (omega arith) (one {n = length gs} (omega arith) (fit-groups noneSeen gs right))))
+
+-- ---- the record of a table that was read
+group-packed : (seen : Seen) (g : GroupPairs) → groupFault seen g ≡ 0 → pairsOf (packGroup g) ≡ g
+group-packed seen g e =
+    let few = counts-few (length (g .loads)) (length (g .stores)) (group-fault seen g e .0) in
+    ap₂ groupOf (list-packed (g .loads) (few .0)) (list-packed (g .stores) (few .1))
+
+groups-packed : (seen : Seen) (gs : List GroupPairs) → groupsFault seen gs ≡ 0 → map pairsOf (map packGroup gs) ≡ gs
+unfolding groupsFault
+groups-packed seen [] e = refl
+groups-packed seen (g ∷ gs) e =
+    let f = or-else-both (groupFault seen g) _ e in
+    ap₂ (λ (x : GroupPairs) (l : List GroupPairs). x ∷ l) (group-packed seen g (f .0)) (groups-packed (seenAfter g seen) gs (f .1))
+
+pub records-hold-groups : RecordsHoldGroups
+records-hold-groups gs e =
+    let (few, right) = table-fault gs e in
+    let n : length (map packGroup gs) ≡ length gs = length-map gs packGroup in
+    let h : length gs ≤ length (map packGroup gs ++ replicate (16 - length gs) emptyGroup) = rw (length-append, n) (omega arith) in
+    ap (map pairsOf) (held-few blankGroup (length gs) (map packGroup gs ++ replicate (16 - length gs) emptyGroup) h ∙ take-at (map packGroup gs) (replicate (16 - length gs) emptyGroup) (length gs) n) ∙ groups-packed noneSeen gs right
+
+-- ---- events
+pub record TakenBefore (bytes rest : List ℕ) (n : ℕ) (ns : List ℕ) : Type 0 where
+  pub left : List ℕ
+  pub is : readNumber (bytes ++ rest) ≡ got n (left ++ rest)
+  pub others : Spelled left ns
+
+take-before : {bytes : List ℕ} (rest : List ℕ) {n : ℕ} {ns : List ℕ} → Spelled bytes (n ∷ ns) → TakenBefore bytes rest n ns
+take-before rest (next bytes {rest = left} e w) = record { left = left; is = rw (append-assoc bytes left rest) (spelled-up-to 4 15 bytes (left ++ rest) e); others = w }
+
+-- an event of one number, of two, whose kind is known
+one-number : (kind x : ℕ) (bytes rest : List ℕ) → leb kind 6 ≡ true → hasSecond kind ≡ false → Spelled bytes (kind ∷ x ∷ []) → readEvent (bytes ++ rest) ≡ got (eventOf kind x 0) rest
+unfolding readEvent
+one-number kind x bytes rest h k w = go (take-before rest w)
+  where
+    last : (l m : List ℕ) → readNumber (bytes ++ rest) ≡ got kind (l ++ rest) → readNumber (l ++ rest) ≡ got x (m ++ rest) → m ≡ [] → readEvent (bytes ++ rest) ≡ got (eventOf kind x 0) rest
+    last l m a b z = rw (a, h, b, k, z)
+
+    more : (l : List ℕ) → readNumber (bytes ++ rest) ≡ got kind (l ++ rest) → TakenBefore l rest x [] → readEvent (bytes ++ rest) ≡ got (eventOf kind x 0) rest
+    more l a t = last l (t .left) a (t .is) (spelled-none (t .others))
+
+    go : TakenBefore bytes rest kind (x ∷ []) → readEvent (bytes ++ rest) ≡ got (eventOf kind x 0) rest
+    go t = more (t .left) (t .is) (take-before rest (t .others))
+
+two-numbers : (kind x y : ℕ) (bytes rest : List ℕ) → leb kind 6 ≡ true → hasSecond kind ≡ true → Spelled bytes (kind ∷ x ∷ y ∷ []) → readEvent (bytes ++ rest) ≡ got (eventOf kind x y) rest
+unfolding readEvent
+two-numbers kind x y bytes rest h k w = go (take-before rest w)
+  where
+    last : (l m n : List ℕ) → readNumber (bytes ++ rest) ≡ got kind (l ++ rest) → readNumber (l ++ rest) ≡ got x (m ++ rest) → readNumber (m ++ rest) ≡ got y (n ++ rest) → n ≡ [] → readEvent (bytes ++ rest) ≡ got (eventOf kind x y) rest
+    last l m n a b c z = rw (a, h, b, k, c, z)
+
+    third : (l m : List ℕ) → readNumber (bytes ++ rest) ≡ got kind (l ++ rest) → readNumber (l ++ rest) ≡ got x (m ++ rest) → TakenBefore m rest y [] → readEvent (bytes ++ rest) ≡ got (eventOf kind x y) rest
+    third l m a b t = last l m (t .left) a b (t .is) (spelled-none (t .others))
+
+    more : (l : List ℕ) → readNumber (bytes ++ rest) ≡ got kind (l ++ rest) → TakenBefore l rest x (y ∷ []) → readEvent (bytes ++ rest) ≡ got (eventOf kind x y) rest
+    more l a t = third l (t .left) a (t .is) (take-before rest (t .others))
+
+    go : TakenBefore bytes rest kind (x ∷ y ∷ []) → readEvent (bytes ++ rest) ≡ got (eventOf kind x y) rest
+    go t = more (t .left) (t .is) (take-before rest (t .others))
+
+pub events-are-spelled : EventsAreSpelled
+events-are-spelled (Activate group) bytes rest w = one-number 0 group bytes rest refl refl w
+events-are-spelled (LoadAddress port address) bytes rest w = two-numbers 1 port address bytes rest refl refl w
+events-are-spelled (StoreAddress port address) bytes rest w = two-numbers 2 port address bytes rest refl refl w
+events-are-spelled (StoreData port word) bytes rest w = two-numbers 3 port word bytes rest refl refl w
+events-are-spelled (Serve serial) bytes rest w = one-number 4 serial bytes rest refl refl w
+events-are-spelled (Write serial) bytes rest w = one-number 5 serial bytes rest refl refl w
+events-are-spelled (Take port) bytes rest w = one-number 6 port bytes rest refl refl w
+
+-- the numbers of the event that a kind and its numbers make
+numbers-of-one : (kind x : ℕ) → leb kind 6 ≡ true → hasSecond kind ≡ false → eventNumbers (eventOf kind x 0) ≡ kind ∷ x ∷ []
+numbers-of-one zero x h k = refl
+numbers-of-one (suc zero) x h k = absurd (true≢false k)
+numbers-of-one (suc (suc zero)) x h k = absurd (true≢false k)
+numbers-of-one (suc (suc (suc zero))) x h k = absurd (true≢false k)
+numbers-of-one (suc (suc (suc (suc zero)))) x h k = refl
+numbers-of-one (suc (suc (suc (suc (suc zero))))) x h k = refl
+numbers-of-one (suc (suc (suc (suc (suc (suc zero)))))) x h k = refl
+numbers-of-one (suc (suc (suc (suc (suc (suc (suc n))))))) x h k = absurd (omega (arith, leb-true (suc (suc (suc (suc (suc (suc (suc n))))))) 6 h))
+
+numbers-of-two : (kind x y : ℕ) → hasSecond kind ≡ true → eventNumbers (eventOf kind x y) ≡ kind ∷ x ∷ y ∷ []
+numbers-of-two zero x y k = absurd (false≢true k)
+numbers-of-two (suc zero) x y k = refl
+numbers-of-two (suc (suc zero)) x y k = refl
+numbers-of-two (suc (suc (suc zero))) x y k = refl
+numbers-of-two (suc (suc (suc (suc n)))) x y k = absurd (omega (arith, leb-true (suc (suc (suc (suc n)))) 3 (and-right (leb 1 (suc (suc (suc (suc n))))) _ k)))
+
+-- a number that was read is spelled before what follows it
+spelling-before : (s rest : List ℕ) (n : ℕ) → readNumber s ≡ got n rest → (bytes : List ℕ) × (s ≡ bytes ++ rest) × ((l ns : List ℕ) → Spelled l ns → Spelled (bytes ++ l) (n ∷ ns))
+spelling-before s rest n e = go (only-up-to 4 15 s n rest e)
+  where
+    go : Spelling 4 15 s n rest → (bytes : List ℕ) × (s ≡ bytes ++ rest) × ((l ns : List ℕ) → Spelled l ns → Spelled (bytes ++ l) (n ∷ ns))
+    go k = (k .bytes, k .whole, λ l ns w. rw (← k .value) (next (k .bytes) (k .spell) w))
+
+abbrev SpelledBefore : List ℕ → List ℕ → List ℕ → Type 0
+SpelledBefore s rest ns = (bytes : List ℕ) × (s ≡ bytes ++ rest) × Spelled bytes ns
+
+cons-before : (s s₁ rest : List ℕ) (n : ℕ) (ns : List ℕ) → readNumber s ≡ got n s₁ → SpelledBefore s₁ rest ns → SpelledBefore s rest (n ∷ ns)
+cons-before s s₁ rest n ns e (l, p, w) = go (spelling-before s s₁ n e)
+  where
+    go : (bytes : List ℕ) × (s ≡ bytes ++ s₁) × ((m ms : List ℕ) → Spelled m ms → Spelled (bytes ++ m) (n ∷ ms)) → SpelledBefore s rest (n ∷ ns)
+    go (b, q, f) = (b ++ l, q ∙ ap (λ (x : List ℕ). b ++ x) p ∙ sym (append-assoc b l rest), f l ns w)
+
+pub only-spelled-events : OnlySpelledEvents
+unfolding readEvent
+only-spelled-events s rest e d = first (readNumber s) refl d
+  where
+    here : SpelledBefore rest rest []
+    here = ([], refl, nothing)
+
+    single : (kind x : ℕ) (s₁ s₂ : List ℕ) → readNumber s ≡ got kind s₁ → readNumber s₁ ≡ got x s₂ → leb kind 6 ≡ true → hasSecond kind ≡ false → got (eventOf kind x 0) s₂ ≡ got e rest → SpelledBefore s rest (eventNumbers e)
+    single kind x s₁ s₂ a b h k f =
+        let p : eventOf kind x 0 ≡ e = cc in
+        let q : s₂ ≡ rest = cc in
+        rw (← p, numbers-of-one kind x h k) (cons-before s s₁ rest kind (x ∷ []) a (cons-before s₁ rest rest x [] (b ∙ rw q) here))
+
+    double : (kind x y : ℕ) (s₁ s₂ s₃ : List ℕ) → readNumber s ≡ got kind s₁ → readNumber s₁ ≡ got x s₂ → readNumber s₂ ≡ got y s₃ → hasSecond kind ≡ true → got (eventOf kind x y) s₃ ≡ got e rest → SpelledBefore s rest (eventNumbers e)
+    double kind x y s₁ s₂ s₃ a b c k f =
+        let p : eventOf kind x y ≡ e = cc in
+        let q : s₃ ≡ rest = cc in
+        rw (← p, numbers-of-two kind x y k) (cons-before s s₁ rest kind (x ∷ y ∷ []) a (cons-before s₁ s₂ rest x (y ∷ []) b (cons-before s₂ rest rest y [] (c ∙ rw q) here)))
+
+    third : (kind x : ℕ) (s₁ s₂ : List ℕ) → readNumber s ≡ got kind s₁ → readNumber s₁ ≡ got x s₂ → hasSecond kind ≡ true → (g : Got ℕ) → readNumber s₂ ≡ g → (andThen g λ y s₃. got (eventOf kind x y) s₃) ≡ got e rest → SpelledBefore s rest (eventNumbers e)
+    third kind x s₁ s₂ a b k (got y s₃) c f = double kind x y s₁ s₂ s₃ a b c k f
+    third kind x s₁ s₂ a b k (bad n) c f = let z : _≡_ {A = ℕ} 0 1 = cc in absurd (omega arith)
+
+    kinds : (kind x : ℕ) (s₁ s₂ : List ℕ) → readNumber s ≡ got kind s₁ → readNumber s₁ ≡ got x s₂ → leb kind 6 ≡ true → (t : Bool) → hasSecond kind ≡ t → pick t (andThen (readNumber s₂) λ y s₃. got (eventOf kind x y) s₃) (got (eventOf kind x 0) s₂) ≡ got e rest → SpelledBefore s rest (eventNumbers e)
+    kinds kind x s₁ s₂ a b h true k f = third kind x s₁ s₂ a b k (readNumber s₂) refl f
+    kinds kind x s₁ s₂ a b h false k f = single kind x s₁ s₂ a b h k f
+
+    second : (kind : ℕ) (s₁ : List ℕ) → readNumber s ≡ got kind s₁ → leb kind 6 ≡ true → (g : Got ℕ) → readNumber s₁ ≡ g → (andThen g λ x s₂. pick (hasSecond kind) (andThen (readNumber s₂) λ y s₃. got (eventOf kind x y) s₃) (got (eventOf kind x 0) s₂)) ≡ got e rest → SpelledBefore s rest (eventNumbers e)
+    second kind s₁ a h (got x s₂) b f = kinds kind x s₁ s₂ a b h (hasSecond kind) refl f
+    second kind s₁ a h (bad n) b f = let z : _≡_ {A = ℕ} 0 1 = cc in absurd (omega arith)
+
+    known : (kind : ℕ) (s₁ : List ℕ) → readNumber s ≡ got kind s₁ → (t : Bool) → leb kind 6 ≡ t → require t badKind (andThen (readNumber s₁) λ x s₂. pick (hasSecond kind) (andThen (readNumber s₂) λ y s₃. got (eventOf kind x y) s₃) (got (eventOf kind x 0) s₂)) ≡ got e rest → SpelledBefore s rest (eventNumbers e)
+    known kind s₁ a true h f = second kind s₁ a h (readNumber s₁) refl f
+    known kind s₁ a false h f = let z : _≡_ {A = ℕ} 0 1 = cc in absurd (omega arith)
+
+    first : (g : Got ℕ) → readNumber s ≡ g → andThen g readKind ≡ got e rest → SpelledBefore s rest (eventNumbers e)
+    first (got kind s₁) a f = known kind s₁ a (leb kind 6) refl f
+    first (bad n) a f = let z : _≡_ {A = ℕ} 0 1 = cc in absurd (omega arith)
+
+-- ---- traces
+event-some : (e : Event) → 0 < length (eventBytes e)
+event-some e = go (eventNumbers e) (some-numbers e)
+  where
+    some-numbers : (ev : Event) → 0 < length (eventNumbers ev)
+    some-numbers (Activate group) = omega arith
+    some-numbers (LoadAddress port address) = omega arith
+    some-numbers (StoreAddress port address) = omega arith
+    some-numbers (StoreData port word) = omega arith
+    some-numbers (Serve serial) = omega arith
+    some-numbers (Write serial) = omega arith
+    some-numbers (Take port) = omega arith
+
+    go : (ns : List ℕ) → 0 < length ns → 0 < length (bytesOf ns)
+    go [] h = h
+    go (n ∷ ns) h = rw length-append (omega (arith, bytes-some 4 n))
+
+yields-from : (prefix : List ℕ) (es : List Event) → AllFit es → (s : List ℕ) → s ≡ prefix ++ eventsBytes es → Yields s (length prefix) es
+yields-from prefix [] no-more s e = ends (event-at-end s (length prefix) (rw (e, append-nil) (omega arith)))
+yields-from prefix (ev ∷ es) (and-more f w) s e =
+    let t : Yields s (length prefix + length (eventBytes ev)) es = rw (← long) (yields-from (prefix ++ eventBytes ev) es w s (e ∙ sym (append-assoc prefix (eventBytes ev) (eventsBytes es)))) in
+    yields (found (events-are-spelled ev (eventBytes ev) (eventsBytes es) (written f))) t
+  where
+    long : length (prefix ++ eventBytes ev) ≡ length prefix + length (eventBytes ev)
+    long = length-append prefix (eventBytes ev)
+
+    rest-place : placeOf s (eventsBytes es) ≡ length prefix + length (eventBytes ev)
+    rest-place = rw (e, length-append, length-append) (omega arith)
+
+    some-bytes : 0 < length (eventBytes ev)
+    some-bytes = event-some ev
+
+    found : readEvent (eventBytes ev ++ eventsBytes es) ≡ got ev (eventsBytes es) → eventAt s (length prefix) ≡ Found ev (length prefix + length (eventBytes ev))
+    found r =
+        let d : drop (length prefix) s ≡ eventBytes ev ++ eventsBytes es = rw e (drop-append-seam prefix (eventBytes ev ++ eventsBytes es)) in
+        event-at-inside s (length prefix) (rw (e, length-append, length-append) (omega (arith, some-bytes))) ∙ rw (d, r, rest-place)
+
+header-read : (h : Header) (bytes rest : List ℕ) → Spelled bytes (headerNumbers h) → readHeader (bytes ++ rest) ≡ got h rest
+unfolding readHeader
+header-read h bytes rest w = first (take-before rest w)
+  where
+    whole : (a b c d : List ℕ) → readNumber (bytes ++ rest) ≡ got (h .loads) (a ++ rest) → readNumber (a ++ rest) ≡ got (h .stores) (b ++ rest) → readNumber (b ++ rest) ≡ got (h .serial) (c ++ rest) → readNumber (c ++ rest) ≡ got (h .words) (d ++ rest) → d ≡ [] → readHeader (bytes ++ rest) ≡ got h rest
+    whole a b c d p q r t z = rw (p, q, r, t, z)
+
+    fourth : (a b c : List ℕ) → readNumber (bytes ++ rest) ≡ got (h .loads) (a ++ rest) → readNumber (a ++ rest) ≡ got (h .stores) (b ++ rest) → readNumber (b ++ rest) ≡ got (h .serial) (c ++ rest) → TakenBefore c rest (h .words) [] → readHeader (bytes ++ rest) ≡ got h rest
+    fourth a b c p q r t = whole a b c (t .left) p q r (t .is) (spelled-none (t .others))
+
+    third : (a b : List ℕ) → readNumber (bytes ++ rest) ≡ got (h .loads) (a ++ rest) → readNumber (a ++ rest) ≡ got (h .stores) (b ++ rest) → TakenBefore b rest (h .serial) (h .words ∷ []) → readHeader (bytes ++ rest) ≡ got h rest
+    third a b p q t = fourth a b (t .left) p q (t .is) (take-before rest (t .others))
+
+    second : (a : List ℕ) → readNumber (bytes ++ rest) ≡ got (h .loads) (a ++ rest) → TakenBefore a rest (h .stores) (h .serial ∷ h .words ∷ []) → readHeader (bytes ++ rest) ≡ got h rest
+    second a p t = third a (t .left) p (t .is) (take-before rest (t .others))
+
+    first : TakenBefore bytes rest (h .loads) (h .stores ∷ h .serial ∷ h .words ∷ []) → readHeader (bytes ++ rest) ≡ got h rest
+    first t = second (t .left) (t .is) (take-before rest (t .others))
+
+pub traces-read-back : TracesReadBack
+traces-read-back h es f w = (length (headerBytes h), header (headerBytes h) (eventsBytes es) (header-read h (headerBytes h) (eventsBytes es) (written f)), yields-from (headerBytes h) es w (headerBytes h ++ eventsBytes es) refl)
+  where
+    header : (bytes rest : List ℕ) → readHeader (bytes ++ rest) ≡ got h rest → headerAnswer (bytes ++ rest) (readHeader (bytes ++ rest)) ≡ Leading h (length bytes)
+    header bytes rest e =
+        let k : placeOf (bytes ++ rest) rest ≡ length bytes = rw length-append (omega arith) in
+        rw (e, k)

@@ -15,3 +15,4 @@ pub mod Run
 pub mod ReachedSound
 pub mod Progress
 pub mod Demand3
+pub mod RecordsDemand3

@@ -1,0 +1,58 @@
+-- Demand 3 of the records themselves. A run of calls on queue records: each call is handed the record and the memory that the
+-- last one left, and hands back what its contract says. Nothing is said of places beyond the counts, so there may be many such
+-- runs; demand 3 holds of every one of them. The proof is proofs/RecordsDemand3.antt.
+use Prim.Native.Nat.{ℕ, _<_, _^_}
+use mathlib.Core.Path.{_≡_}
+use mathlib.Core.List.{List, [], _∷_}
+use mathlib.Core.Option.{Option, none, some}
+use lib.ListN.{length}
+use Rattle.table.specs.declared.Table.{Table}
+use Rattle.table.specs.Table.{groupsOf}
+use Rattle.queue.specs.declared.Value.{Value}
+use Rattle.queue.specs.declared.Value.the-variants.{Word, Nothing}
+use Rattle.queue.specs.declared.Queue.{Queue}
+use Rattle.queue.specs.declared.Counts.{Counts}
+use Rattle.queue.specs.declared.Outcome.{Outcome}
+use Rattle.queue.specs.declared.Opened.{Opened}
+use Rattle.queue.specs.declared.Counted.{Counted}
+use Rattle.queue.specs.Ruled.{number}
+use Rattle.queue.specs.Contents.{contentsOf}
+use Rattle.queue.specs.Open.{openQueue}
+use Rattle.queue.specs.Activate.{activate}
+use Rattle.queue.specs.Serve.{serve}
+use Rattle.queue.specs.Write.{write}
+use Rattle.queue.specs.Take.{take}
+use Rattle.queue.specs.Outcome.{Moves, Takes, Serves, Writes, Opens}
+use Rattle.queue.specs.Call.{Argument, Side, Call, Activate, Give, Serve, Write, Take, Ready, give, ready, Machine, Answered}
+use Rattle.queue.specs.Plain.{Filling}
+use Rattle.queue.specs.Demand3.{Sequential}
+
+abbrev pub valueIn : Value → Option ℕ
+valueIn (Word w) = some w
+valueIn Nothing = none
+
+-- a call with the answer and the value that it handed back
+abbrev pub answered : Call → ℕ → Value → Answered
+answered c n v = record { call = c; number = n; value = valueIn v }
+
+-- Calls on a queue and a memory, with their answers, up to the queue and the memory that they leave.
+pub data Runs : Queue → List ℕ → List Call → List Answered → Queue → List ℕ → Type 0 where
+  done : {q : Queue} {m : List ℕ} → Runs q m [] [] q m
+  activates : {q q₂ : Queue} {m m₂ : List ℕ} {g : ℕ} {cs : List Call} {log : List Answered} (r : Outcome) → Moves q (activate (contentsOf q) g) r → Runs (r .queue) m cs log q₂ m₂ → Runs q m (Activate g ∷ cs) (answered (Activate g) (r .answer) (r .value) ∷ log) q₂ m₂
+  gives : {q q₂ : Queue} {m m₂ : List ℕ} {kind : Argument} {port x : ℕ} {cs : List Call} {log : List Answered} (r : Outcome) → Moves q (give kind (contentsOf q) port x) r → Runs (r .queue) m cs log q₂ m₂ → Runs q m (Give kind port x ∷ cs) (answered (Give kind port x) (r .answer) (r .value) ∷ log) q₂ m₂
+  serves : {q q₂ : Queue} {m m₂ : List ℕ} {c : Counts} {s : ℕ} {cs : List Call} {log : List Answered} (r : Counted) → Serves q c (serve (contentsOf q) m s) r → Runs (r .queue) m cs log q₂ m₂ → Runs q m (Serve c s ∷ cs) (answered (Serve c s) (r .answer) (r .value) ∷ log) q₂ m₂
+  writes : {q q₂ : Queue} {m m₁ m₂ : List ℕ} {s : ℕ} {cs : List Call} {log : List Answered} (r : Outcome) → Writes q m (write (contentsOf q) m s) r m₁ → Runs (r .queue) m₁ cs log q₂ m₂ → Runs q m (Write s ∷ cs) (answered (Write s) (r .answer) (r .value) ∷ log) q₂ m₂
+  takes : {q q₂ : Queue} {m m₂ : List ℕ} {p : ℕ} {cs : List Call} {log : List Answered} (r : Outcome) → Takes q (take (contentsOf q) p) r → Runs (r .queue) m cs log q₂ m₂ → Runs q m (Take p ∷ cs) (answered (Take p) (r .answer) (r .value) ∷ log) q₂ m₂
+  readies : {q q₂ : Queue} {m m₂ : List ℕ} {side : Side} {run : List ℕ} {cs : List Call} {log : List Answered} → Runs q m cs log q₂ m₂ → Runs q m (Ready side run ∷ cs) (answered (Ready side run) (number (ready side (contentsOf q) run)) Nothing ∷ log) q₂ m₂
+
+abbrev pub machineOf : Queue → List ℕ → Machine
+machineOf q m = record { queue = contentsOf q; memory = m }
+
+-- DEMAND 3, of records: an accepted opening for memories of this length, any memory of that length, any run of calls from there.
+abbrev pub RecordsDemand3 : Type 0
+RecordsDemand3 =
+    (table : Table) (loadDepth storeDepth first : ℕ) (refused : Queue) (o : Opened) (memory : List ℕ) →
+    first < 2 ^ 32 → Opens refused (openQueue (groupsOf table) loadDepth storeDepth first (length memory)) o → o .answer ≡ 0 →
+    (calls : List Call) (log : List Answered) (q : Queue) (m : List ℕ) → Runs (o .queue) memory calls log q m →
+    (fill : Filling) → ((k : ℕ) → fill .address k < length memory) →
+    Sequential (groupsOf table) memory log (machineOf q m) fill

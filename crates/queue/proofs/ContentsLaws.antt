@@ -16,6 +16,7 @@ use Rattle.queue.specs.declared.Loads.{Loads}
 use Rattle.queue.specs.declared.Stores.{Stores}
 use Rattle.queue.specs.declared.Queue.{Queue}
 use Rattle.queue.specs.Contents.{Load, Store, Contents, loadOf, storeOf, blankLoad, blankStore, contentsOf, withLoads, withStores, updateAt}
+use Rattle.queue.specs.Internal.{sideOf, loadsOf, storesOf}
 
 -- ---- a list's places
 module _ {A : Type 0} where
@@ -41,9 +42,6 @@ module _ {A : Type 0} where
   map-set {B} f (y ∷ l) (suc i) x = ap (λ (t : List B). f y ∷ t) (map-set f l i x)
 
 -- ---- one side: what a count and an array of entries hold
-abbrev pub sideOf : {A B : Type 0} → (A → B) → A → ℕ → List A → List B
-sideOf f blank n l = map f (held blank n l)
-
 module _ {A B : Type 0} (f : A → B) (blank : A) (n : ℕ) (l : List A) where
   -- as long as the count, whatever the record
   pub side-length : length (sideOf f blank n l) ≡ n
@@ -70,12 +68,6 @@ module _ {A B : Type 0} (f : A → B) (blank : A) (n : ℕ) (l : List A) where
     side-update g i x k e = side-set i x k ∙ rw (update-set g (sideOf f blank n l) i (f blank), side-at i k, e)
 
 -- ---- both sides of a queue
-abbrev pub loadsOf : Loads → List Load
-loadsOf side = sideOf loadOf blankLoad (side .count) (side .entries)
-
-abbrev pub storesOf : Stores → List Store
-storesOf side = sideOf storeOf blankStore (side .count) (side .entries)
-
 module _ (q : Queue) where
   pub loads-held : contentsOf q .loads ≡ loadsOf (q .loads)
   unfolding contentsOf

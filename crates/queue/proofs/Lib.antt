@@ -1,6 +1,8 @@
 pub mod Examples
 -- what a record holds
 pub mod ContentsLaws
+pub mod WalkLaws
+pub mod SoundLaws
 -- demand 3, from the ground up
 pub mod Lists
 pub mod Log

@@ -15,3 +15,4 @@ pub mod Outcome
 pub mod Call
 pub mod Plain
 pub mod Demand3
+pub mod Internal

@@ -3,6 +3,7 @@
 use table::Table;
 
 pub mod refusal;
+pub mod sound;
 
 // A load that was activated. The address means something only where `addressed`, the value only where `served`.
 pub struct LoadEntry {

@@ -1,4 +1,6 @@
 pub mod Examples
+-- what a record holds
+pub mod ContentsLaws
 -- demand 3, from the ground up
 pub mod Lists
 pub mod Log

@@ -1,0 +1,117 @@
+-- What a queue's record holds, by its places: the entries below a count, one entry made anew, a side put in place of another.
+use Prim.Native.Nat.{ℕ, zero, suc, _≤_, _<_}
+use native.Mathlib.Nat.{not-suc-le-zero, le-of-suc-le-suc}
+use native.Mathlib.Omega.{arith}
+use mathlib.Core.Path.{_≡_, refl, sym, ap, _∙_}
+use mathlib.Core.List.{List, [], _∷_, _++_, map}
+use mathlib.Core.Option.{Option, none, some}
+use lib.ListN.{length, getD, take, set, length-map, length-set, List·getD-map}
+use lib.Seq.{getD-take, take-set-lt, length-take-le}
+use Rattle.table.specs.Basics.{held, nth}
+use Rattle.table.specs.Table.{groupsOf}
+use Rattle.table.proofs.CheckLaws.{held-few, held-at, held-length}
+use Rattle.queue.specs.declared.LoadEntry.{LoadEntry}
+use Rattle.queue.specs.declared.StoreEntry.{StoreEntry}
+use Rattle.queue.specs.declared.Loads.{Loads}
+use Rattle.queue.specs.declared.Stores.{Stores}
+use Rattle.queue.specs.declared.Queue.{Queue}
+use Rattle.queue.specs.Contents.{Load, Store, Contents, loadOf, storeOf, blankLoad, blankStore, contentsOf, withLoads, withStores, updateAt}
+
+-- ---- a list's places
+module _ {A : Type 0} where
+  pub nth-getD : (l : List A) (i : ℕ) (d : A) → i < length l → nth l i ≡ some (getD l i d)
+  nth-getD [] i d h = absurd (not-suc-le-zero h)
+  nth-getD (x ∷ l) zero d h = refl
+  nth-getD (x ∷ l) (suc i) d h = nth-getD l i d (le-of-suc-le-suc h)
+
+  pub nth-past : (l : List A) (i : ℕ) → length l ≤ i → nth l i ≡ none
+  nth-past [] i h = refl
+  nth-past (x ∷ l) zero h = absurd (not-suc-le-zero h)
+  nth-past (x ∷ l) (suc i) h = nth-past l i (le-of-suc-le-suc h)
+
+  -- an element made anew is one put in its place
+  pub update-set : (f : A → A) (l : List A) (i : ℕ) (d : A) → updateAt f i l ≡ set l i (f (getD l i d))
+  update-set f [] i d = refl
+  update-set f (x ∷ l) zero d = refl
+  update-set f (x ∷ l) (suc i) d = rw (update-set f l i d)
+
+  pub map-set : {B : Type 0} (f : A → B) (l : List A) (i : ℕ) (x : A) → map f (set l i x) ≡ set (map f l) i (f x)
+  map-set f [] i x = refl
+  map-set f (y ∷ l) zero x = refl
+  map-set {B} f (y ∷ l) (suc i) x = ap (λ (t : List B). f y ∷ t) (map-set f l i x)
+
+-- ---- one side: what a count and an array of entries hold
+abbrev pub sideOf : {A B : Type 0} → (A → B) → A → ℕ → List A → List B
+sideOf f blank n l = map f (held blank n l)
+
+module _ {A B : Type 0} (f : A → B) (blank : A) (n : ℕ) (l : List A) where
+  -- as long as the count, whatever the record
+  pub side-length : length (sideOf f blank n l) ≡ n
+  side-length = length-map (held blank n l) f ∙ held-length blank n l
+
+  module _ (h : n ≤ length l) where
+    pub side-few : sideOf f blank n l ≡ map f (take n l)
+    side-few = rw (held-few blank n l h)
+
+    pub side-at : (i : ℕ) → i < n → getD (sideOf f blank n l) i (f blank) ≡ f (getD l i blank)
+    side-at i k = List·getD-map f (held blank n l) i blank ∙ rw (held-at blank n l h i blank k)
+
+    pub side-nth : (i : ℕ) → i < n → nth (sideOf f blank n l) i ≡ some (f (getD l i blank))
+    side-nth i k = nth-getD (sideOf f blank n l) i (f blank) (rw side-length k) ∙ rw (side-at i k)
+
+    -- one entry put in its place
+    pub side-set : (i : ℕ) (x : A) → i < n → sideOf f blank n (set l i x) ≡ set (sideOf f blank n l) i (f x)
+    side-set i x k =
+        rw (held-few blank n (set l i x) (rw length-set h), held-few blank n l h, ← map-set f (take n l) i x)
+        (ap (map f) (take-set-lt n l i x k))
+
+    -- one entry made anew, as `g` makes what it holds anew
+    pub side-update : (g : B → B) (i : ℕ) (x : A) → i < n → f x ≡ g (f (getD l i blank)) → sideOf f blank n (set l i x) ≡ updateAt g i (sideOf f blank n l)
+    side-update g i x k e = side-set i x k ∙ rw (update-set g (sideOf f blank n l) i (f blank), side-at i k, e)
+
+-- ---- both sides of a queue
+abbrev pub loadsOf : Loads → List Load
+loadsOf side = sideOf loadOf blankLoad (side .count) (side .entries)
+
+abbrev pub storesOf : Stores → List Store
+storesOf side = sideOf storeOf blankStore (side .count) (side .entries)
+
+module _ (q : Queue) where
+  pub loads-held : contentsOf q .loads ≡ loadsOf (q .loads)
+  unfolding contentsOf
+  loads-held = refl
+
+  pub stores-held : contentsOf q .stores ≡ storesOf (q .stores)
+  unfolding contentsOf
+  stores-held = refl
+
+  pub loads-count : length (contentsOf q .loads) ≡ q .loads .count
+  loads-count = ap length loads-held ∙ side-length loadOf blankLoad (q .loads .count) (q .loads .entries)
+
+  pub stores-count : length (contentsOf q .stores) ≡ q .stores .count
+  stores-count = ap length stores-held ∙ side-length storeOf blankStore (q .stores .count) (q .stores .entries)
+
+  -- the queue with another load side, with another store side: same depth, same next serial
+  pub loads-changed : (side : Loads) (ls : List Load) → side .depth ≡ q .loads .depth → side .next ≡ q .loads .next → loadsOf side ≡ ls
+      → contentsOf (record { table = q .table; words = q .words; loads = side; stores = q .stores }) ≡ withLoads (contentsOf q) ls
+  unfolding contentsOf
+  loads-changed side ls d n e = rw (d, n, e)
+
+  pub stores-changed : (side : Stores) (ss : List Store) → side .depth ≡ q .stores .depth → side .next ≡ q .stores .next → storesOf side ≡ ss
+      → contentsOf (record { table = q .table; words = q .words; loads = q .loads; stores = side }) ≡ withStores (contentsOf q) ss
+  unfolding contentsOf
+  stores-changed side ss d n e = rw (d, n, e)
+
+-- a queue's contents, part by part
+pub contents-parts : (q : Queue) → contentsOf q ≡ record {
+  groups = groupsOf (q .table);
+  memoryLength = q .words;
+  loadDepth = q .loads .depth;
+  nextLoad = q .loads .next;
+  loads = loadsOf (q .loads);
+  storeDepth = q .stores .depth;
+  nextStore = q .stores .next;
+  stores = storesOf (q .stores);
+}
+unfolding contentsOf
+contents-parts q = refl

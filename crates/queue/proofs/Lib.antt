@@ -1,6 +1,9 @@
 pub mod Examples
 -- what a record holds
 pub mod ContentsLaws
+-- walks over a side's entries
+pub mod WalkLaws
+pub mod SupplyLaws
 -- demand 3, from the ground up
 pub mod Lists
 pub mod Log

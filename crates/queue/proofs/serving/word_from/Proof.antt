@@ -1,14 +1,10 @@
 use borrow.Author.Needs.{needs}
 use Rattle.queue.proofs.serving.word_from.Statement.{statement}
 use Rattle.queue.proofs.serving.word_from.Tie as tie
-use Rattle.queue.proofs.serving.word_from.Reads as reads
-use Rattle.queue.proofs.serving.word_from.Lts as lts
 
--- src/serving.rt:26:1
 returns : tie.Need-returns
-returns c = ?
+returns c = rw (c .if1 .taken)
 
--- src/serving.rt:26:1
 returns-2 : tie.Need-returns-2
 returns-2 c = search needs
 

@@ -1,0 +1,80 @@
+-- Walks over what the first n entries of an array hold, from the oldest on. Each invariant is a record, so that a law finds
+-- its arguments from it; `here` says which entry the walk has come to.
+use Prim.Native.Nat.{ℕ, zero, suc, _+_, _≤_, _<_}
+use native.Mathlib.Nat.{zero-add, add-zero, add-suc, suc-add}
+use native.Mathlib.Numerals.{add-one}
+use native.Mathlib.Omega.{arith}
+use mathlib.Core.Path.{_≡_, refl, sym, ap, _∙_}
+use mathlib.Core.Bool.{Bool, true, false}
+use mathlib.Core.List.{List, [], _∷_, map}
+use lib.ListN.{length, getD, take, drop, length-map, drop-of-length-le, List·getD-map}
+use lib.Seq.{drop-cons, getD-take, length-take-le}
+use Rattle.table.specs.Basics.{pick, all, takeWhile}
+use Rattle.queue.specs.Contents.{firstPlace}
+use Rattle.queue.specs.Write.{leaving}
+
+module _ {A B : Type 0} (f : A → B) (n : ℕ) (l : List A) (h : n ≤ length l) where
+  pub front-length : length (map f (take n l)) ≡ n
+  front-length = length-map (take n l) f ∙ length-take-le n l h
+
+  pub front-here : (i : ℕ) (d : A) → i < n → drop i (map f (take n l)) ≡ f (getD l i d) ∷ drop (i + 1) (map f (take n l))
+  front-here i d k = drop-cons (map f (take n l)) i (f d) (rw front-length k) ∙ rw (add-one, List·getD-map f (take n l) i d, getD-take n l i d k)
+
+  pub front-end : (i : ℕ) → n ≤ i → drop i (map f (take n l)) ≡ []
+  front-end i k =
+      let q : length (map f (take n l)) ≤ i = rw front-length k in
+      drop-of-length-le (map f (take n l)) q
+
+-- ---- every entry passes
+pub record AllYet {B : Type 0} (p : B → Bool) (l : List B) (i : ℕ) : Type 0 where
+  pub is : all p l ≡ all p (drop i l)
+
+pub all-none : {B : Type 0} {p : B → Bool} {l : List B} → AllYet p l 0
+all-none = record { is = refl }
+
+module _ {B : Type 0} {p : B → Bool} {l : List B} {i : ℕ} (w : AllYet p l i) where
+  module _ {x : B} (here : drop i l ≡ x ∷ drop (i + 1) l) where
+    pub all-on : p x ≡ true → AllYet p l (i + 1)
+    all-on e = record { is = w .is ∙ rw (here, e) }
+
+    pub all-stop : p x ≡ false → false ≡ all p l
+    all-stop e = rw (w .is, here, e)
+
+  pub all-end : drop i l ≡ [] → true ≡ all p l
+  all-end e = rw (w .is, e)
+
+-- ---- the first entry that passes
+pub record Seeking {B : Type 0} (p : B → Bool) (l : List B) (i : ℕ) : Type 0 where
+  pub is : firstPlace p l ≡ i + firstPlace p (drop i l)
+
+pub seeking-none : {B : Type 0} {p : B → Bool} {l : List B} → Seeking p l 0
+seeking-none = record { is = sym (zero-add _) }
+
+module _ {B : Type 0} {p : B → Bool} {l : List B} {i : ℕ} (w : Seeking p l i) where
+  module _ {x : B} (here : drop i l ≡ x ∷ drop (i + 1) l) where
+    pub seeking-on : p x ≡ false → Seeking p l (i + 1)
+    seeking-on e = record { is = w .is ∙ rw (here, e, add-one, add-suc, suc-add) }
+
+    pub seeking-stop : p x ≡ true → i ≡ firstPlace p l
+    seeking-stop e = rw (w .is, here, e) (sym (add-zero i))
+
+  pub seeking-end : drop i l ≡ [] → i ≡ firstPlace p l
+  seeking-end e = rw (w .is, e) (sym (add-zero i))
+
+-- ---- finished entries at the oldest end
+pub record Leaving {B : Type 0} (p : B → Bool) (l : List B) (i : ℕ) : Type 0 where
+  pub is : leaving p l ≡ i + leaving p (drop i l)
+
+pub leaving-none : {B : Type 0} {p : B → Bool} {l : List B} → Leaving p l 0
+leaving-none = record { is = sym (zero-add _) }
+
+module _ {B : Type 0} {p : B → Bool} {l : List B} {i : ℕ} (w : Leaving p l i) where
+  module _ {x : B} (here : drop i l ≡ x ∷ drop (i + 1) l) where
+    pub leaving-on : p x ≡ true → Leaving p l (i + 1)
+    leaving-on e = record { is = w .is ∙ rw (here, e, add-one, add-suc, suc-add) }
+
+    pub leaving-stop : p x ≡ false → i ≡ leaving p l
+    leaving-stop e = rw (w .is, here, e) (sym (add-zero i))
+
+  pub leaving-end : drop i l ≡ [] → i ≡ leaving p l
+  leaving-end e = rw (w .is, e) (sym (add-zero i))

@@ -1,12 +1,12 @@
 -- What a queue's record holds, by its places: the entries below a count, one entry made anew, a side put in place of another.
-use Prim.Native.Nat.{ℕ, zero, suc, _≤_, _<_}
+use Prim.Native.Nat.{ℕ, zero, suc, _+_, _≤_, _<_}
 use native.Mathlib.Nat.{not-suc-le-zero, le-of-suc-le-suc}
-use native.Mathlib.Omega.{arith}
+use native.Mathlib.Numerals.{add-one}
 use mathlib.Core.Path.{_≡_, refl, sym, ap, _∙_}
 use mathlib.Core.List.{List, [], _∷_, _++_, map}
 use mathlib.Core.Option.{Option, none, some}
-use lib.ListN.{length, getD, take, set, length-map, length-set, List·getD-map}
-use lib.Seq.{getD-take, take-set-lt, length-take-le}
+use lib.ListN.{length, getD, take, drop, set, length-map, length-set, List·getD-map, drop-of-length-le}
+use lib.Seq.{take-set-lt, drop-cons}
 use Rattle.table.specs.Basics.{held, nth}
 use Rattle.table.specs.Table.{groupsOf}
 use Rattle.table.proofs.CheckLaws.{held-few, held-at, held-length}
@@ -66,6 +66,17 @@ module _ {A B : Type 0} (f : A → B) (blank : A) (n : ℕ) (l : List A) where
     -- one entry made anew, as `g` makes what it holds anew
     pub side-update : (g : B → B) (i : ℕ) (x : A) → i < n → f x ≡ g (f (getD l i blank)) → sideOf f blank n (set l i x) ≡ updateAt g i (sideOf f blank n l)
     side-update g i x k e = side-set i x k ∙ rw (update-set g (sideOf f blank n l) i (f blank), side-at i k, e)
+
+  -- the entries from the ith on: what a walk over the side comes to
+  pub side-here : n ≤ length l → (i : ℕ) → i < n → drop i (sideOf f blank n l) ≡ f (getD l i blank) ∷ drop (i + 1) (sideOf f blank n l)
+  side-here h i k =
+      rw (add-one, ← side-at h i k)
+      (drop-cons (sideOf f blank n l) i (f blank) (rw side-length k))
+
+  pub side-end : (i : ℕ) → n ≤ i → drop i (sideOf f blank n l) ≡ []
+  side-end i k =
+      let e : length (sideOf f blank n l) ≤ i = rw side-length k in
+      drop-of-length-le (sideOf f blank n l) e
 
 -- ---- both sides of a queue
 module _ (q : Queue) where

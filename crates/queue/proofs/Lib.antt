@@ -1,8 +1,10 @@
 pub mod Examples
 -- what a record holds
 pub mod ContentsLaws
+-- walks over a side's entries
 pub mod WalkLaws
 pub mod SoundLaws
+pub mod SupplyLaws
 -- demand 3, from the ground up
 pub mod Lists
 pub mod Log

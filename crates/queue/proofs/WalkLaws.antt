@@ -1,76 +1,80 @@
--- Walks of a side's entries from the oldest. What is known after i of them is a record, so that a law finds its arguments from it.
+-- Walks over what the first n entries of an array hold, from the oldest on. Each invariant is a record, so that a law finds
+-- its arguments from it; `here` says which entry the walk has come to.
 use Prim.Native.Nat.{ℕ, zero, suc, _+_, _≤_, _<_}
-use native.Mathlib.Nat.{add-zero, add-suc, suc-add, zero-add}
+use native.Mathlib.Nat.{zero-add, add-zero, add-suc, suc-add}
 use native.Mathlib.Numerals.{add-one}
 use native.Mathlib.Omega.{arith}
 use mathlib.Core.Path.{_≡_, refl, sym, ap, _∙_}
 use mathlib.Core.Bool.{Bool, true, false}
-use mathlib.Core.List.{List, [], _∷_, _++_, map}
-use lib.ListN.{length, getD, take, drop, drop-of-length-le}
-use lib.Seq.{drop-cons}
-use Rattle.table.specs.Basics.{pick, any, all, held}
+use mathlib.Core.List.{List, [], _∷_, map}
+use lib.ListN.{length, getD, take, drop, length-map, drop-of-length-le, List·getD-map}
+use lib.Seq.{drop-cons, getD-take, length-take-le}
+use Rattle.table.specs.Basics.{pick, all, takeWhile}
 use Rattle.queue.specs.Contents.{firstPlace}
-use Rattle.queue.specs.Internal.{sideOf}
-use Rattle.queue.proofs.ContentsLaws.{side-length, side-at}
+use Rattle.queue.specs.Write.{leaving}
 
-module _ {A B : Type 0} (f : A → B) (blank : A) (n : ℕ) (l : List A) (i : ℕ) where
-  -- the entries from the ith on
-  pub side-from : n ≤ length l → i < n → drop i (sideOf f blank n l) ≡ f (getD l i blank) ∷ drop (i + 1) (sideOf f blank n l)
-  side-from h k =
-      rw (add-one, ← side-at f blank n l h i k)
-      (drop-cons (sideOf f blank n l) i (f blank) (rw (side-length f blank n l) k))
+module _ {A B : Type 0} (f : A → B) (n : ℕ) (l : List A) (h : n ≤ length l) where
+  pub front-length : length (map f (take n l)) ≡ n
+  front-length = length-map (take n l) f ∙ length-take-le n l h
 
-  pub side-end : n ≤ i → drop i (sideOf f blank n l) ≡ []
-  side-end k =
-      let e : length (sideOf f blank n l) ≤ i = rw (side-length f blank n l) k in
-      drop-of-length-le (sideOf f blank n l) e
+  pub front-here : (i : ℕ) (d : A) → i < n → drop i (map f (take n l)) ≡ f (getD l i d) ∷ drop (i + 1) (map f (take n l))
+  front-here i d k = drop-cons (map f (take n l)) i (f d) (rw front-length k) ∙ rw (add-one, List·getD-map f (take n l) i d, getD-take n l i d k)
 
--- ---- every entry passed the test so far
-pub record AllYet {A B : Type 0} (p : B → Bool) (f : A → B) (blank : A) (n : ℕ) (l : List A) (i : ℕ) : Type 0 where
-  pub is : all p (sideOf f blank n l) ≡ all p (drop i (sideOf f blank n l))
+  pub front-end : (i : ℕ) → n ≤ i → drop i (map f (take n l)) ≡ []
+  front-end i k =
+      let q : length (map f (take n l)) ≤ i = rw front-length k in
+      drop-of-length-le (map f (take n l)) q
 
-module _ {A B : Type 0} {p : B → Bool} {f : A → B} {blank : A} {n : ℕ} {l : List A} where
-  pub all-none : AllYet p f blank n l 0
-  all-none = record { is = refl }
+-- ---- every entry passes
+pub record AllYet {B : Type 0} (p : B → Bool) (l : List B) (i : ℕ) : Type 0 where
+  pub is : all p l ≡ all p (drop i l)
 
-  module _ {i : ℕ} (w : AllYet p f blank n l i) where
-    pub all-end : n ≤ i → true ≡ all p (sideOf f blank n l)
-    all-end k = rw (w .is, side-end f blank n l i k)
+pub all-none : {B : Type 0} {p : B → Bool} {l : List B} → AllYet p l 0
+all-none = record { is = refl }
 
-    module _ (h : n ≤ length l) (k : i < n) where
-      pub all-on : p (f (getD l i blank)) ≡ true → AllYet p f blank n l (i + 1)
-      all-on e = record { is = w .is ∙ rw (side-from f blank n l i h k, e) }
+module _ {B : Type 0} {p : B → Bool} {l : List B} {i : ℕ} (w : AllYet p l i) where
+  module _ {x : B} (here : drop i l ≡ x ∷ drop (i + 1) l) where
+    pub all-on : p x ≡ true → AllYet p l (i + 1)
+    all-on e = record { is = w .is ∙ rw (here, e) }
 
-      pub all-stop : p (f (getD l i blank)) ≡ false → false ≡ all p (sideOf f blank n l)
-      all-stop e = rw (w .is, side-from f blank n l i h k, e)
+    pub all-stop : p x ≡ false → false ≡ all p l
+    all-stop e = rw (w .is, here, e)
 
--- ---- no entry passed the test so far: what is found is found from the ith on
-pub record NoneYet {A B : Type 0} (p : B → Bool) (f : A → B) (blank : A) (n : ℕ) (l : List A) (i : ℕ) : Type 0 where
-  pub some-left : any p (sideOf f blank n l) ≡ any p (drop i (sideOf f blank n l))
-  pub place : firstPlace p (sideOf f blank n l) ≡ i + firstPlace p (drop i (sideOf f blank n l))
+  pub all-end : drop i l ≡ [] → true ≡ all p l
+  all-end e = rw (w .is, e)
 
-module _ {A B : Type 0} {p : B → Bool} {f : A → B} {blank : A} {n : ℕ} {l : List A} where
-  pub none-none : NoneYet p f blank n l 0
-  none-none = record { some-left = refl; place = sym (zero-add _) }
+-- ---- the first entry that passes
+pub record Seeking {B : Type 0} (p : B → Bool) (l : List B) (i : ℕ) : Type 0 where
+  pub is : firstPlace p l ≡ i + firstPlace p (drop i l)
 
-  module _ {i : ℕ} (w : NoneYet p f blank n l i) where
-    -- none passes, and the place is past the end
-    pub none-end : n ≤ i → any p (sideOf f blank n l) ≡ false
-    none-end k = rw (w .some-left, side-end f blank n l i k)
+pub seeking-none : {B : Type 0} {p : B → Bool} {l : List B} → Seeking p l 0
+seeking-none = record { is = sym (zero-add _) }
 
-    pub place-end : n ≤ i → firstPlace p (sideOf f blank n l) ≡ i
-    place-end k = rw (w .place, side-end f blank n l i k) (add-zero i)
+module _ {B : Type 0} {p : B → Bool} {l : List B} {i : ℕ} (w : Seeking p l i) where
+  module _ {x : B} (here : drop i l ≡ x ∷ drop (i + 1) l) where
+    pub seeking-on : p x ≡ false → Seeking p l (i + 1)
+    seeking-on e = record { is = w .is ∙ rw (here, e, add-one, add-suc, suc-add) }
 
-    module _ (h : n ≤ length l) (k : i < n) where
-      pub none-on : p (f (getD l i blank)) ≡ false → NoneYet p f blank n l (i + 1)
-      none-on e = record {
-        some-left = w .some-left ∙ rw (side-from f blank n l i h k, e);
-        place = w .place ∙ rw (side-from f blank n l i h k, e, add-suc, add-one, suc-add);
-      }
+    pub seeking-stop : p x ≡ true → i ≡ firstPlace p l
+    seeking-stop e = rw (w .is, here, e) (sym (add-zero i))
 
-      -- the ith passes: it is the first
-      pub none-stop : p (f (getD l i blank)) ≡ true → any p (sideOf f blank n l) ≡ true
-      none-stop e = rw (w .some-left, side-from f blank n l i h k, e)
+  pub seeking-end : drop i l ≡ [] → i ≡ firstPlace p l
+  seeking-end e = rw (w .is, e) (sym (add-zero i))
 
-      pub place-stop : p (f (getD l i blank)) ≡ true → firstPlace p (sideOf f blank n l) ≡ i
-      place-stop e = rw (w .place, side-from f blank n l i h k, e) (add-zero i)
+-- ---- finished entries at the oldest end
+pub record Leaving {B : Type 0} (p : B → Bool) (l : List B) (i : ℕ) : Type 0 where
+  pub is : leaving p l ≡ i + leaving p (drop i l)
+
+pub leaving-none : {B : Type 0} {p : B → Bool} {l : List B} → Leaving p l 0
+leaving-none = record { is = sym (zero-add _) }
+
+module _ {B : Type 0} {p : B → Bool} {l : List B} {i : ℕ} (w : Leaving p l i) where
+  module _ {x : B} (here : drop i l ≡ x ∷ drop (i + 1) l) where
+    pub leaving-on : p x ≡ true → Leaving p l (i + 1)
+    leaving-on e = record { is = w .is ∙ rw (here, e, add-one, add-suc, suc-add) }
+
+    pub leaving-stop : p x ≡ false → i ≡ leaving p l
+    leaving-stop e = rw (w .is, here, e) (sym (add-zero i))
+
+  pub leaving-end : drop i l ≡ [] → i ≡ leaving p l
+  leaving-end e = rw (w .is, e) (sym (add-zero i))

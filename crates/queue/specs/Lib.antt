@@ -12,6 +12,7 @@ pub mod Take
 pub mod Ready
 pub mod Counts
 pub mod Outcome
+pub mod InternalServe
 pub mod Call
 pub mod Plain
 pub mod Demand3

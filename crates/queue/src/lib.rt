@@ -3,6 +3,8 @@
 use table::Table;
 
 pub mod refusal;
+pub mod serial;
+pub mod serving;
 pub mod sound;
 
 // A load that was activated. The address means something only where `addressed`, the value only where `served`.

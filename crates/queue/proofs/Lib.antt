@@ -5,6 +5,7 @@ pub mod ContentsLaws
 pub mod WalkLaws
 pub mod SoundLaws
 pub mod SupplyLaws
+pub mod SettleLaws
 -- demand 3, from the ground up
 pub mod Lists
 pub mod Log

@@ -1,29 +1,15 @@
--- Walks over what the first n entries of an array hold, from the oldest on. Each invariant is a record, so that a law finds
+-- Walks over entries, from the oldest on. Each invariant is a record, so that a law finds
 -- its arguments from it; `here` says which entry the walk has come to.
-use Prim.Native.Nat.{ℕ, zero, suc, _+_, _≤_, _<_}
+use Prim.Native.Nat.{ℕ, _+_}
 use native.Mathlib.Nat.{zero-add, add-zero, add-suc, suc-add}
 use native.Mathlib.Numerals.{add-one}
-use native.Mathlib.Omega.{arith}
-use mathlib.Core.Path.{_≡_, refl, sym, ap, _∙_}
+use mathlib.Core.Path.{_≡_, refl, sym, _∙_}
 use mathlib.Core.Bool.{Bool, true, false}
-use mathlib.Core.List.{List, [], _∷_, map}
-use lib.ListN.{length, getD, take, drop, length-map, drop-of-length-le, List·getD-map}
-use lib.Seq.{drop-cons, getD-take, length-take-le}
-use Rattle.table.specs.Basics.{pick, all, takeWhile}
+use mathlib.Core.List.{List, [], _∷_}
+use lib.ListN.{drop}
+use Rattle.table.specs.Basics.{all}
 use Rattle.queue.specs.Contents.{firstPlace}
 use Rattle.queue.specs.Write.{leaving}
-
-module _ {A B : Type 0} (f : A → B) (n : ℕ) (l : List A) (h : n ≤ length l) where
-  pub front-length : length (map f (take n l)) ≡ n
-  front-length = length-map (take n l) f ∙ length-take-le n l h
-
-  pub front-here : (i : ℕ) (d : A) → i < n → drop i (map f (take n l)) ≡ f (getD l i d) ∷ drop (i + 1) (map f (take n l))
-  front-here i d k = drop-cons (map f (take n l)) i (f d) (rw front-length k) ∙ rw (add-one, List·getD-map f (take n l) i d, getD-take n l i d k)
-
-  pub front-end : (i : ℕ) → n ≤ i → drop i (map f (take n l)) ≡ []
-  front-end i k =
-      let q : length (map f (take n l)) ≤ i = rw front-length k in
-      drop-of-length-le (map f (take n l)) q
 
 -- ---- every entry passes
 pub record AllYet {B : Type 0} (p : B → Bool) (l : List B) (i : ℕ) : Type 0 where

@@ -12,8 +12,9 @@ pub mod Take
 pub mod Ready
 pub mod Counts
 pub mod Outcome
-pub mod InternalServe
 pub mod Call
 pub mod Plain
 pub mod Demand3
 pub mod Internal
+pub mod InternalServe
+pub mod InternalWrite

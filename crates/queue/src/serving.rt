@@ -1,12 +1,10 @@
 // Serving loads: "a served load gets the data of the nearest earlier unwritten store to its address, and counts as forwarded;
 // with no such store it gets the memory word".
 ghost use mathlib.Core.Path.{_≡_};
-ghost use mathlib.Core.List.{map};
-ghost use mathlib.Core.Option.{none};
-ghost use Prim.Native.Nat.{_≤_, _<_};
-ghost use lib.ListN.{take};
-ghost use Rattle.queue.specs.Contents.{storeOf};
-ghost use Rattle.queue.specs.Serve.{supplies, nearest};
+ghost use Prim.Native.Nat.{_≤_};
+ghost use Rattle.queue.specs.Contents.{storeOf, blankStore};
+ghost use Rattle.queue.specs.Serve.{supplies};
+ghost use Rattle.queue.specs.Internal.{sideOf};
 ghost use Rattle.queue.specs.InternalServe.{wordFrom, supplyFrom};
 use crate::StoreEntry;
 use crate::Stores;
@@ -50,7 +48,7 @@ fn supplies_address(store: StoreEntry, address: u16) -> bool
 // address takes the place of an earlier one, or the load would get another tally.
 pub(crate) fn supply_for(stores: Stores, n: usize, address: u16) -> Supply
     requires { ⌜ n ≤ 64 ⌝ }
-    ensures { λ r. ⌜ r ≡ supplyFrom address (map storeOf (take n (stores .entries))) ⌝ }
+    ensures { λ r. ⌜ r ≡ supplyFrom address (sideOf storeOf blankStore n (stores .entries)) ⌝ }
 {
     let mut found = Supply::NoStore;
     let mut i: usize = 0;

@@ -2,21 +2,22 @@
 use Prim.Native.Nat.{ℕ, _≤_, _<_, _-_, _+_}
 use mathlib.Core.Path.{_≡_, refl, sym, ap, _∙_}
 use mathlib.Core.Bool.{Bool, true, false}
-use mathlib.Core.List.{List, _∷_, map}
+use mathlib.Core.List.{List, _∷_}
 use native.Mathlib.Omega.{arith}
-use lib.ListN.{length, take, drop, getD}
+use lib.ListN.{length, drop, getD}
 use borrow.Author.Needs.{needs}
 use Rattle.table.proofs.CheckLaws.{long}
 use Rattle.queue.specs.declared.StoreEntry.{StoreEntry}
 use Rattle.queue.specs.Contents.{Store, storeOf, blankStore}
 use Rattle.queue.specs.Serve.{hasAddress}
-use Rattle.queue.proofs.WalkLaws.{front-here, front-end}
+use Rattle.queue.specs.Internal.{sideOf}
+use Rattle.queue.proofs.ContentsLaws.{side-here, side-end}
 use Rattle.queue.proofs.SupplyLaws.{address-lacking, address-known, Supplying, supplying-none, supplying-stop, supplying-more, supplying-on, supplying-end}
 use Rattle.queue.proofs.serving.supply_for.Statement.{statement}
 use Rattle.queue.proofs.serving.supply_for.Tie as tie
 
 abbrev Inv-loop : tie.InvT-loop
-Inv-loop n address stores found₀ i₀ found i = (i ≤ n) × Supplying address (map storeOf (take n (stores .entries))) i found
+Inv-loop n address stores found₀ i₀ found i = (i ≤ n) × Supplying address (sideOf storeOf blankStore n (stores .entries)) i found
 
 abbrev μ-loop : tie.MeasureT-loop
 μ-loop n address stores found₀ i₀ found i = n - i
@@ -28,13 +29,13 @@ room c =
 
 -- the stores that are walked, and the one that the walk has come to
 abbrev walked : tie.Start Inv-loop μ-loop → List Store
-walked c = map storeOf (take (c .args .n) (c .args .t1 .entries))
+walked c = sideOf storeOf blankStore (c .args .n) (c .args .t1 .entries)
 
 abbrev this : tie.At-loop Inv-loop μ-loop → StoreEntry
 this c = getD (c .before .args .t1 .entries) (c .loop .i) blankStore
 
 here : (c : tie.In-loop Inv-loop μ-loop) → drop (c .before .loop .i) (walked (c .before .before)) ≡ storeOf (this (c .before)) ∷ drop (c .before .loop .i + 1) (walked (c .before .before))
-here c = front-here storeOf _ _ (room (c .before .before)) _ blankStore (c .loop-test .taken)
+here c = side-here storeOf blankStore _ _ (room (c .before .before)) _ (c .loop-test .taken)
 
 known : (c : tie.Else1 Inv-loop μ-loop) → hasAddress (storeOf (this (c .before .before .before .before))) ≡ true
 known c = address-known (this (c .before .before .before .before)) (c .if1 .left)
@@ -82,7 +83,7 @@ loop-again-2 c =
     (omega arith, supplying-on (l .before .loop .inv .1) (here l) (known (c .before .before)) (sym (c .before .supplies-address .ensures) ∙ c .if2 .left))
 
 returns-2 : tie.Need-returns-2 Inv-loop μ-loop
-returns-2 c = supplying-end (c .before .loop .inv .1) (front-end storeOf _ _ (room (c .before .before)) _ (c .loop-test .left))
+returns-2 c = supplying-end (c .before .loop .inv .1) (side-end storeOf blankStore _ (c .before .before .args .t1 .entries) _ (c .loop-test .left))
 
 pub supply-for-spec : {M : Type 1} → statement M
 supply-for-spec =

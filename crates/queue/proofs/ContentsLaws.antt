@@ -1,12 +1,12 @@
 -- What a queue's record holds, by its places: the entries below a count, one entry made anew, a side put in place of another.
 use Prim.Native.Nat.{ℕ, zero, suc, _+_, _≤_, _<_}
-use native.Mathlib.Nat.{not-suc-le-zero, le-of-suc-le-suc}
+use native.Mathlib.Nat.{not-suc-le-zero, le-of-suc-le-suc, le-trans}
 use native.Mathlib.Numerals.{add-one}
 use mathlib.Core.Path.{_≡_, refl, sym, ap, _∙_}
 use mathlib.Core.List.{List, [], _∷_, _++_, map}
 use mathlib.Core.Option.{Option, none, some}
 use lib.ListN.{length, getD, take, drop, set, length-map, length-set, List·getD-map, drop-of-length-le}
-use lib.Seq.{take-set-lt, drop-cons}
+use lib.Seq.{take-take, take-set-lt, drop-cons}
 use Rattle.table.specs.Basics.{held, nth}
 use Rattle.table.specs.Table.{groupsOf}
 use Rattle.table.proofs.CheckLaws.{held-few, held-at, held-length}
@@ -17,6 +17,7 @@ use Rattle.queue.specs.declared.Stores.{Stores}
 use Rattle.queue.specs.declared.Queue.{Queue}
 use Rattle.queue.specs.Contents.{Load, Store, Contents, loadOf, storeOf, blankLoad, blankStore, contentsOf, withLoads, withStores, updateAt}
 use Rattle.queue.specs.Internal.{sideOf, loadsOf, storesOf}
+use Rattle.queue.proofs.Lists.{take-map}
 
 -- ---- a list's places
 module _ {A : Type 0} where
@@ -50,6 +51,10 @@ module _ {A B : Type 0} (f : A → B) (blank : A) (n : ℕ) (l : List A) where
   module _ (h : n ≤ length l) where
     pub side-few : sideOf f blank n l ≡ map f (take n l)
     side-few = rw (held-few blank n l h)
+
+    -- the oldest of them
+    pub side-take : (m : ℕ) → m ≤ n → take m (sideOf f blank n l) ≡ sideOf f blank m l
+    side-take m k = ap (take m) side-few ∙ take-map f m (take n l) ∙ rw (take-take m n l k) (sym (ap (map f) (held-few blank m l (le-trans k h))))
 
     pub side-at : (i : ℕ) → i < n → getD (sideOf f blank n l) i (f blank) ≡ f (getD l i blank)
     side-at i k = List·getD-map f (held blank n l) i blank ∙ rw (held-at blank n l h i blank k)

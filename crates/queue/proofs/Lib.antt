@@ -6,6 +6,7 @@ pub mod WalkLaws
 pub mod SoundLaws
 pub mod SupplyLaws
 pub mod SettleLaws
+pub mod ServeLaws
 -- demand 3, from the ground up
 pub mod Lists
 pub mod Log

@@ -15,7 +15,7 @@ use Rattle.queue.specs.declared.StoreEntry.{StoreEntry}
 use Rattle.queue.specs.declared.Loads.{Loads}
 use Rattle.queue.specs.declared.Stores.{Stores}
 use Rattle.queue.specs.declared.Queue.{Queue}
-use Rattle.queue.specs.Contents.{Load, Store, Contents, loadOf, storeOf, blankLoad, blankStore, contentsOf, withLoads, withStores, updateAt}
+use Rattle.queue.specs.Contents.{Load, Store, Contents, loadOf, storeOf, blankLoad, blankStore, contentsOf, withLoads, withStores, updateAt, age, oldest, loadPlace, storePlace}
 use Rattle.queue.specs.Internal.{sideOf, loadsOf, storesOf}
 use Rattle.queue.proofs.Lists.{take-map}
 
@@ -93,11 +93,24 @@ module _ (q : Queue) where
   unfolding contentsOf
   stores-held = refl
 
+  pub words-held : contentsOf q .memoryLength ≡ q .words
+  unfolding contentsOf
+  words-held = refl
+
   pub loads-count : length (contentsOf q .loads) ≡ q .loads .count
   loads-count = ap length loads-held ∙ side-length loadOf blankLoad (q .loads .count) (q .loads .entries)
 
   pub stores-count : length (contentsOf q .stores) ≡ q .stores .count
   stores-count = ap length stores-held ∙ side-length storeOf blankStore (q .stores .count) (q .stores .entries)
+
+  -- the place that a serial names
+  pub load-place : (serial : ℕ) → loadPlace (contentsOf q) serial ≡ age (oldest (q .loads .next) (q .loads .count)) serial
+  unfolding contentsOf
+  load-place serial = rw (side-length loadOf blankLoad (q .loads .count) (q .loads .entries))
+
+  pub store-place : (serial : ℕ) → storePlace (contentsOf q) serial ≡ age (oldest (q .stores .next) (q .stores .count)) serial
+  unfolding contentsOf
+  store-place serial = rw (side-length storeOf blankStore (q .stores .count) (q .stores .entries))
 
   -- the queue with another load side, with another store side: same depth, same next serial
   pub loads-changed : (side : Loads) (ls : List Load) → side .depth ≡ q .loads .depth → side .next ≡ q .loads .next → loadsOf side ≡ ls

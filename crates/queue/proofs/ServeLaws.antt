@@ -6,18 +6,20 @@ use mathlib.Core.Bool.{Bool, true, false}
 use mathlib.Core.List.{List, map}
 use mathlib.Core.Option.{Option, none, some}
 use lib.ListN.{length, getD, take}
+use borrow.Author.Tests.{eq-eqb, ne-eqb}
 use Rattle.table.specs.Basics.{pick, all, nth}
 use Rattle.queue.specs.declared.serving.Supply.{Supply}
 use Rattle.queue.specs.declared.serving.Supply.the-variants.{Unknown, NoStore, NoWord, Forwarded}
 use Rattle.queue.specs.declared.LoadEntry.{LoadEntry}
 use Rattle.queue.specs.declared.Queue.{Queue}
-use Rattle.queue.specs.Refusal.{noSerial, alreadyDone, noAddress, earlierStoreUnknown, noData}
+use Rattle.queue.specs.Refusal.{unsound, wrongMemory, noSerial, alreadyDone, noAddress, earlierStoreUnknown, noData}
 use Rattle.queue.specs.Ruled.{Ruled, refuse, accept, need, andThen}
-use Rattle.queue.specs.Contents.{Store, Contents, loadOf, storeOf, blankLoad, blankStore, contentsOf}
-use Rattle.queue.specs.Serve.{Served, hasAddress, nearest, sourceOf}
+use Rattle.queue.specs.Contents.{Store, Contents, loadOf, storeOf, blankLoad, blankStore, contentsOf, age, oldest}
+use Rattle.queue.specs.Sound.{sound}
+use Rattle.queue.specs.Serve.{Served, hasAddress, nearest, sourceOf, serve}
 use Rattle.queue.specs.Internal.{sideOf}
 use Rattle.queue.specs.InternalServe.{wordIn, supplyOf, supplyFrom, servedWith, serveAt}
-use Rattle.queue.proofs.ContentsLaws.{nth-past, side-nth, side-take, loads-held, stores-held, loads-count}
+use Rattle.queue.proofs.ContentsLaws.{nth-past, side-nth, side-take, loads-held, stores-held, loads-count, words-held, load-place}
 
 -- the answer by what the earlier stores supply
 abbrev pub bySupply : Contents → List ℕ → ℕ → ℕ → Supply → Ruled Served
@@ -60,3 +62,18 @@ module _ (q : Queue) (memory : List ℕ) (place : ℕ) where
         let t : take (e .before) (contentsOf q .stores) ≡ sideOf storeOf blankStore (e .before) (q .stores .entries) =
         ap (take (e .before)) (stores-held q) ∙ side-take storeOf blankStore (q .stores .count) (q .stores .entries) v (e .before) b in
         rw (here, s, a, t) (by-supply (contentsOf q) memory place (e .address) (sideOf storeOf blankStore (e .before) (q .stores .entries)))
+
+-- ---- 40 and 30, and the place that a serial names
+module _ (q : Queue) (memory : List ℕ) (serial : ℕ) where
+  pub serve-unsound : sound (contentsOf q) ≡ false → serve (contentsOf q) memory serial ≡ refuse unsound
+  unfolding serve
+  serve-unsound e = rw e
+
+  module _ (right : sound (contentsOf q) ≡ true) where
+    pub serve-memory : (length memory ≡ q .words → ⊥) → serve (contentsOf q) memory serial ≡ refuse wrongMemory
+    unfolding serve
+    serve-memory e = rw (right, words-held q, ne-eqb (length memory) (q .words) e)
+
+    pub serve-place : length memory ≡ q .words → serve (contentsOf q) memory serial ≡ serveAt (contentsOf q) memory (age (oldest (q .loads .next) (q .loads .count)) serial)
+    unfolding serve
+    serve-place e = rw (right, eq-eqb (length memory) (contentsOf q .memoryLength) (e ∙ sym (words-held q))) (ap (serveAt (contentsOf q) memory) (load-place q serial))

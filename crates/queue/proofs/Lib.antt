@@ -4,6 +4,7 @@ pub mod ContentsLaws
 -- walks over a side's entries
 pub mod WalkLaws
 pub mod SoundLaws
+pub mod GroupLaws
 pub mod SupplyLaws
 -- demand 3, from the ground up
 pub mod Lists

@@ -4,6 +4,7 @@ pub mod Ruled
 pub mod Contents
 pub mod Sound
 pub mod Open
+pub mod NoQueue
 pub mod Activate
 pub mod Arguments
 pub mod Serve

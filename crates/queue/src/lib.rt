@@ -2,6 +2,7 @@
 // A call is handed the queue by value and gives back the queue that follows.
 use table::Table;
 
+pub mod opening;
 pub mod refusal;
 pub mod serial;
 pub mod serving;

@@ -5,6 +5,8 @@ pub mod ContentsLaws
 pub mod WalkLaws
 pub mod SoundLaws
 pub mod GroupLaws
+pub mod AppendLaws
+pub mod ActivateLaws
 pub mod SupplyLaws
 -- demand 3, from the ground up
 pub mod Lists

@@ -18,3 +18,4 @@ pub mod Call
 pub mod Plain
 pub mod Demand3
 pub mod Internal
+pub mod InternalActivate

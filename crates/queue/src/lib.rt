@@ -2,6 +2,8 @@
 // A call is handed the queue by value and gives back the queue that follows.
 use table::Table;
 
+pub mod activation;
+pub mod answering;
 pub mod opening;
 pub mod refusal;
 pub mod serial;

@@ -4,6 +4,9 @@ pub mod ContentsLaws
 -- walks over a side's entries
 pub mod WalkLaws
 pub mod SoundLaws
+pub mod GroupLaws
+pub mod AppendLaws
+pub mod ActivateLaws
 pub mod SupplyLaws
 pub mod SettleLaws
 pub mod ServeLaws

@@ -8,7 +8,7 @@ use mathlib.Core.Option.{Option, none, some}
 use lib.Dec.{leb, ltb, eqb}
 use lib.ListN.{length, getD}
 use borrow.Author.Tests.{leb-true, ltb-true, eqb-true}
-use Rattle.table.specs.Basics.{pick, all}
+use Rattle.table.specs.Basics.{pick, all, within}
 use Rattle.table.specs.Table.{groupsOf, tableFault}
 use Rattle.queue.specs.declared.LoadEntry.{LoadEntry}
 use Rattle.queue.specs.declared.StoreEntry.{StoreEntry}
@@ -18,6 +18,12 @@ use Rattle.queue.specs.Sound.{depthRight, memoryRight, addressRight, loa
 use Rattle.queue.specs.Internal.{sideOf, loadsOf, storesOf}
 use Rattle.queue.proofs.Lists.{false-true, and-left, and-right}
 use Rattle.queue.proofs.ContentsLaws.{side-length, side-at}
+
+pub within-least : (lo hi n : ℕ) → within lo hi n ≡ true → lo ≤ n
+within-least lo hi n h = leb-true lo n (and-left (leb lo n) (leb n hi) h)
+
+pub within-most : (lo hi n : ℕ) → within lo hi n ≡ true → n ≤ hi
+within-most lo hi n h = leb-true n hi (and-right (leb lo n) (leb n hi) h)
 
 -- the check, on the record
 pub sound-record : (q : Queue) →
@@ -81,22 +87,22 @@ module _ (q : Queue) (s : sound (contentsOf q) ≡ true) where
   parted = parts _ _ _ _ _ _ _ _ (sym (sound-record q) ∙ s)
 
   pub load-depth-least : 1 ≤ q .loads .depth
-  load-depth-least = leb-true _ _ (and-left (leb 1 (q .loads .depth)) _ (parted .part1))
+  load-depth-least = within-least 1 64 (q .loads .depth) (parted .part1)
 
   pub load-depth-most : q .loads .depth ≤ 64
-  load-depth-most = leb-true _ _ (and-right (leb 1 (q .loads .depth)) _ (parted .part1))
+  load-depth-most = within-most 1 64 (q .loads .depth) (parted .part1)
 
   pub store-depth-least : 1 ≤ q .stores .depth
-  store-depth-least = leb-true _ _ (and-left (leb 1 (q .stores .depth)) _ (parted .part2))
+  store-depth-least = within-least 1 64 (q .stores .depth) (parted .part2)
 
   pub store-depth-most : q .stores .depth ≤ 64
-  store-depth-most = leb-true _ _ (and-right (leb 1 (q .stores .depth)) _ (parted .part2))
+  store-depth-most = within-most 1 64 (q .stores .depth) (parted .part2)
 
   pub words-least : 1 ≤ q .words
-  words-least = leb-true _ _ (and-left (leb 1 (q .words)) _ (parted .part3))
+  words-least = within-least 1 4096 (q .words) (parted .part3)
 
   pub words-most : q .words ≤ 4096
-  words-most = leb-true _ _ (and-right (leb 1 (q .words)) _ (parted .part3))
+  words-most = within-most 1 4096 (q .words) (parted .part3)
 
   pub loads-in-depth : q .loads .count ≤ q .loads .depth
   loads-in-depth = leb-true _ _ (parted .part4)

@@ -2,8 +2,10 @@
 // A call is handed the queue by value and gives back the queue that follows.
 use table::Table;
 
+pub mod activation;
 pub mod answering;
 pub mod counting;
+pub mod opening;
 pub mod refusal;
 pub mod serial;
 pub mod serving;

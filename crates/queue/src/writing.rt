@@ -1,17 +1,33 @@
 // Writing stores, and how finished entries leave: "a written store puts its data in memory"; "after each write or take,
 // finished entries (stores written, loads taken) leave each side from its oldest end until an unfinished one is oldest".
 ghost use mathlib.Core.Path.{_≡_};
+ghost use mathlib.Core.Bool.{true};
 ghost use Prim.Native.Nat.{_≤_, _<_, _-_};
+ghost use lib.ListN.{length, getD};
 ghost use Rattle.table.specs.Basics.{all};
-ghost use Rattle.queue.specs.Contents.{loadOf, storeOf, blankLoad, blankStore, contentsOf};
-ghost use Rattle.queue.specs.Write.{loadGivesWay, storeGivesWay, loadFinished, storeFinished, leaving, settle};
+ghost use Rattle.queue.specs.Contents.{loadOf, storeOf, blankLoad, blankStore, contentsOf, withStores, updateAt};
+ghost use Rattle.queue.specs.Write.{loadGivesWay, storeGivesWay, loadFinished, storeFinished, leaving, storeDone, settle, write};
+ghost use Rattle.queue.specs.Sound.{sound};
+ghost use Rattle.queue.specs.Ruled.{number};
+ghost use Rattle.queue.specs.Outcome.{Accepted, Writes};
 ghost use Rattle.queue.specs.Internal.{sideOf, loadsOf, storesOf};
-ghost use Rattle.queue.specs.InternalWrite.{LoadsMoved, StoresMoved};
+ghost use Rattle.queue.specs.InternalWrite.{LoadsMoved, StoresMoved, mayWriteAt, writeAt};
 use crate::LoadEntry;
 use crate::Loads;
+use crate::Outcome;
 use crate::Queue;
 use crate::StoreEntry;
 use crate::Stores;
+use crate::Value;
+use crate::refusal::ALREADY_DONE;
+use crate::refusal::EARLIER_LOAD_IN_WAY;
+use crate::refusal::EARLIER_STORE_IN_WAY;
+use crate::refusal::NO_ADDRESS;
+use crate::refusal::NO_DATA;
+use crate::refusal::NO_SERIAL;
+use crate::refusal::UNSOUND;
+use crate::refusal::WRONG_MEMORY;
+use crate::serial::place_of;
 
 // A load that is served, or is known to be of another word, gives way to a write to the address. Writing past an unserved
 // load of the word would spoil that load.
@@ -70,6 +86,30 @@ fn stores_give_way(stores: Stores, n: usize, address: u16) -> bool
         i += 1;
     }
     true
+}
+
+// Why the store at a place may not be written, or 0: 26, 27, 29, 31, 32.
+pub(crate) fn write_fault(loads: Loads, stores: Stores, at: usize) -> u8
+    requires { ⌜ (at < 64) × (getD (stores .entries) at blankStore .before ≤ 64) ⌝ }
+    ensures { λ r. ⌜ r ≡ number (mayWriteAt loads stores at) ⌝ }
+{
+    let store = stores.entries[at];
+    if store.written {
+        return ALREADY_DONE;
+    }
+    if !store.addressed {
+        return NO_ADDRESS;
+    }
+    if !store.filled {
+        return NO_DATA;
+    }
+    if !loads_give_way(loads, store.before as usize, store.address) {
+        return EARLIER_LOAD_IN_WAY;
+    }
+    if !stores_give_way(stores, at, store.address) {
+        return EARLIER_STORE_IN_WAY;
+    }
+    0
 }
 
 // How many loads at the oldest end are taken. A taken load behind an untaken one keeps its place.
@@ -170,5 +210,57 @@ impl Queue {
             loads: new_loads,
             stores: new_stores,
         }
+    }
+
+    // The store at a place is written, and finished entries leave.
+    fn written(mut self, at: usize) -> Outcome
+        requires { ⌜ (at < self .stores .count) × (self .loads .count ≤ 64) × (self .stores .count ≤ 64) ⌝ }
+        ensures { λ r. ⌜ Accepted Value.Nothing (settle (withStores (contentsOf self) (updateAt storeDone at (contentsOf self .stores)))) r ⌝ }
+    {
+        let mut stores = self.stores;
+        let mut store = stores.entries[at];
+        store.written = true;
+        stores.entries[at] = store;
+        self.stores = stores;
+        Outcome {
+            answer: 0,
+            value: Value::Nothing,
+            queue: self.settled(),
+        }
+    }
+
+    // Write the store at a place: 25, 26, 27, 29, 31, 32.
+    fn write_at(self, memory: &mut [u32], place: u32) -> Outcome
+        requires { ⌜ (sound (contentsOf self) ≡ true) × (length (now memory) ≡ self .words) ⌝ }
+        ensures { λ r. ⌜ Writes self (now (memory .entry)) (writeAt (contentsOf self) (now (memory .entry)) place) r (now (memory .exit)) ⌝ }
+    {
+        let stores = self.stores;
+        if stores.count as u32 <= place {
+            return self.refused(NO_SERIAL);
+        }
+        let at = place as usize;
+        let loads = self.loads;
+        let answer = write_fault(loads, stores, at);
+        if answer != 0 {
+            return self.refused(answer);
+        }
+        let store = stores.entries[at];
+        memory[store.address as usize] = store.word;
+        self.written(at)
+    }
+
+    // Write the store with this serial: its data goes to memory, and finished entries leave.
+    pub fn write(self, memory: &mut [u32], serial: u32) -> Outcome
+        ensures { λ r. ⌜ Writes self (now (memory .entry)) (write (contentsOf self) (now (memory .entry)) serial) r (now (memory .exit)) ⌝ }
+    {
+        if !self.sound() {
+            return self.refused(UNSOUND);
+        }
+        if memory.len() != self.words as usize {
+            return self.refused(WRONG_MEMORY);
+        }
+        let stores = self.stores;
+        let place = place_of(stores.next, stores.count, serial);
+        self.write_at(memory, place)
     }
 }

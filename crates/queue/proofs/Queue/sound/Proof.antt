@@ -4,13 +4,12 @@ use mathlib.Core.Path.{_≡_, sym, _∙_}
 use mathlib.Core.Bool.{true, false, _&&_}
 use native.Mathlib.Nat.{le-trans}
 use lib.Dec.{leb}
-use borrow.Author.Tests.{not-true, not-false, le-leb, lt-leb, leb-true}
+use borrow.Author.Tests.{not-true, not-false, le-leb, lt-leb}
 use Rattle.table.specs.Basics.{all}
 use Rattle.queue.specs.declared.Queue.{Queue}
 use Rattle.queue.specs.Sound.{depthRight, memoryRight, loadRight, storeRight}
 use Rattle.queue.specs.Internal.{loadsOf, storesOf}
-use Rattle.queue.proofs.Lists.{and-right}
-use Rattle.queue.proofs.SoundLaws.{sound-record}
+use Rattle.queue.proofs.SoundLaws.{within-most, sound-record}
 use borrow.Author.Needs.{needs}
 use Rattle.queue.proofs.Queue.sound.Statement.{statement}
 use Rattle.queue.proofs.Queue.sound.Tie as tie
@@ -55,12 +54,12 @@ few-loads : (c : tie.Else5) → at5 c .loads .count ≤ 64
 few-loads c =
     let o = c .before .before in
     let r = o .before .before .before .before .before in
-    le-trans (o .if4 .left) (leb-true _ _ (and-right (leb 1 (at5 c .loads .depth)) _ (load-depth (r .before .before .before))))
+    le-trans (o .if4 .left) (within-most 1 64 (at5 c .loads .depth) (load-depth (r .before .before .before)))
 
 few-stores : (c : tie.Else5) → at5 c .stores .count ≤ 64
 few-stores c =
     let r = c .before .before .before .before .before .before .before in
-    le-trans (c .if5 .left) (leb-true _ _ (and-right (leb 1 (at5 c .stores .depth)) _ (store-depth r)))
+    le-trans (c .if5 .left) (within-most 1 64 (at5 c .stores .depth) (store-depth r))
 
 loads : (c : tie.Else6) → all (loadRight (at6 c .words) (at6 c .stores .count)) (loadsOf (at6 c .loads)) ≡ true
 loads c = sym (c .before .loads-right .ensures) ∙ not-false _ (c .if6 .left)

@@ -123,6 +123,33 @@ module _ (q : Queue) where
   unfolding contentsOf
   stores-changed side ss d n e = rw (d, n, e)
 
+  -- one entry made anew, as `g` makes what it holds anew
+  pub load-anew : (g : Load → Load) (i : ℕ) (x : LoadEntry) → q .loads .count ≤ length (q .loads .entries) → i < q .loads .count
+      → loadOf x ≡ g (loadOf (getD (q .loads .entries) i blankLoad))
+      → contentsOf (record {
+        table = q .table;
+        words = q .words;
+        loads = record { depth = q .loads .depth; count = q .loads .count; next = q .loads .next; entries = set (q .loads .entries) i x };
+        stores = q .stores;
+      }) ≡ withLoads (contentsOf q) (updateAt g i (contentsOf q .loads))
+  load-anew g i x w k e =
+      let side : Loads = record { depth = q .loads .depth; count = q .loads .count; next = q .loads .next; entries = set (q .loads .entries) i x } in
+      loads-changed side (updateAt g i (loadsOf (q .loads))) refl refl (side-update loadOf blankLoad (q .loads .count) (q .loads .entries) w g i x k e)
+      ∙ ap (λ (l : List Load). withLoads (contentsOf q) (updateAt g i l)) (sym loads-held)
+
+  pub store-anew : (g : Store → Store) (i : ℕ) (x : StoreEntry) → q .stores .count ≤ length (q .stores .entries) → i < q .stores .count
+      → storeOf x ≡ g (storeOf (getD (q .stores .entries) i blankStore))
+      → contentsOf (record {
+        table = q .table;
+        words = q .words;
+        loads = q .loads;
+        stores = record { depth = q .stores .depth; count = q .stores .count; next = q .stores .next; entries = set (q .stores .entries) i x };
+      }) ≡ withStores (contentsOf q) (updateAt g i (contentsOf q .stores))
+  store-anew g i x w k e =
+      let side : Stores = record { depth = q .stores .depth; count = q .stores .count; next = q .stores .next; entries = set (q .stores .entries) i x } in
+      stores-changed side (updateAt g i (storesOf (q .stores))) refl refl (side-update storeOf blankStore (q .stores .count) (q .stores .entries) w g i x k e)
+      ∙ ap (λ (l : List Store). withStores (contentsOf q) (updateAt g i l)) (sym stores-held)
+
 -- a queue's contents, part by part
 pub contents-parts : (q : Queue) → contentsOf q ≡ record {
   groups = groupsOf (q .table);

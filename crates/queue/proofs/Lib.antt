@@ -10,6 +10,7 @@ pub mod ActivateLaws
 pub mod SupplyLaws
 pub mod SettleLaws
 pub mod ServeLaws
+pub mod WriteLaws
 -- demand 3, from the ground up
 pub mod Lists
 pub mod Log

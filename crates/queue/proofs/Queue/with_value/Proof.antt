@@ -3,9 +3,8 @@ use mathlib.Core.Path.{_≡_, refl}
 use native.Mathlib.Omega.{arith}
 use lib.ListN.{length}
 use Rattle.table.proofs.CheckLaws.{long}
-use Rattle.queue.specs.Contents.{loadOf, blankLoad, contentsOf}
 use Rattle.queue.specs.Serve.{loadWithValue}
-use Rattle.queue.proofs.ContentsLaws.{loads-changed, side-update, loads-held}
+use Rattle.queue.proofs.ContentsLaws.{load-anew}
 use borrow.Author.Needs.{needs}
 use Rattle.queue.proofs.Queue.with_value.Statement.{statement}
 use Rattle.queue.proofs.Queue.with_value.Tie as tie
@@ -27,7 +26,7 @@ returns c =
     let s = c .before .before in
     let q = s .args .self in
     let e : length (q .loads .entries) ≡ 64 = search (long, s .good .0 .1 .1 .1 .1 .0 .1 .1 .1 .1 .1 .0 .1 .0 .1) in
-    rw (loads-held q) (loads-changed q _ _ refl refl (side-update loadOf blankLoad (q .loads .count) (q .loads .entries) (omega (arith, s .pre .1)) (loadWithValue (s .args .value)) (s .args .place) _ (s .pre .0) refl))
+    load-anew q (loadWithValue (s .args .value)) (s .args .place) _ (omega (arith, s .pre .1)) (s .pre .0) refl
 
 pub with-value-spec : {M : Type 1} → statement M
 with-value-spec =

@@ -1,52 +1,54 @@
+use mathlib.Core.Path.{_≡_, refl, sym, ap, _∙_}
+use mathlib.Core.Bool.{true}
+use borrow.Author.Tests.{not-true, not-false}
+use Rattle.queue.specs.Contents.{contentsOf}
+use Rattle.queue.specs.Sound.{sound}
+use Rattle.queue.proofs.WriteLaws.{write-unsound, write-memory, write-place}
 use borrow.Author.Needs.{needs}
 use Rattle.queue.proofs.Queue.write.Statement.{statement}
 use Rattle.queue.proofs.Queue.write.Tie as tie
-use Rattle.queue.proofs.Queue.write.Reads as reads
-use Rattle.queue.proofs.Queue.write.Lts as lts
-use Rattle.queue.proofs.Queue.refused.Reads as refused-reads
-use Rattle.queue.proofs.Queue.sound.Reads as sound-reads
-use Rattle.queue.proofs.Queue.write_at.Reads as write-at-reads
-use Rattle.queue.proofs.serial.place_of.Reads as place-of-reads
 
--- src/writing.rt:256:13
 sound-requires : tie.Need-sound-requires
 sound-requires c κs = search needs
 
--- src/writing.rt:257:13
+right : (c : tie.Else1) → sound (contentsOf (c .before .before .before .args .self)) ≡ true
+right c = sym (c .before .sound .ensures) ∙ not-false _ (c .if1 .left)
+
 refused-requires : tie.Need-refused-requires
 refused-requires c κs = search needs
 
--- src/writing.rt:257:13
 returns : tie.Need-returns
-returns c = ?
+returns c =
+    let s = c .before .before .before .before in
+    rw (write-unsound (s .args .self) (s .args .memory .now) (s .args .serial) (sym (c .before .before .sound .ensures) ∙ not-true _ (c .before .if1 .taken))) (record { outcome = c .refused .ensures; memory-is = refl })
 
--- src/writing.rt:259:28
 cast-if2 : tie.Need-cast-if2
 cast-if2 c = search needs
 
--- src/writing.rt:260:13
 refused-requires-2 : tie.Need-refused-requires-2
 refused-requires-2 c κs = search needs
 
--- src/writing.rt:260:13
 returns-2 : tie.Need-returns-2
-returns-2 c = ?
+returns-2 c =
+    let e1 = c .before .before .before in
+    let s = e1 .before .before .before in
+    rw (write-memory (s .args .self) (s .args .memory .now) (s .args .serial) (right e1) (c .before .if2 .taken)) (record { outcome = c .refused2 .ensures; memory-is = refl })
 
--- src/writing.rt:263:13
 place-of-requires : tie.Need-place-of-requires
 place-of-requires c κs = search needs
 
--- src/writing.rt:264:9
 write-at-requires : tie.Need-write-at-requires
-write-at-requires c κs = ?
+write-at-requires c κs = (right (c .before .before .before .before .before), c .before .before .before .if2 .left)
 
--- src/writing.rt:253:5
 same-length : tie.Need-same-length
 same-length c = search needs
 
--- src/writing.rt:253:5
 returns-3 : tie.Need-returns-3
-returns-3 c = ?
+returns-3 c =
+    let e2 = c .before .before .before .before .before .before in
+    let e1 = e2 .before .before in
+    let s = e1 .before .before .before in
+    rw (write-place (s .args .self) (s .args .memory .now) (s .args .serial) (right e1) (e2 .if2 .left), ← c .before .before .before .before .place-of .ensures) (c .before .before .write-at .ensures)
 
 pub write-spec : {M : Type 1} → statement M
 write-spec =

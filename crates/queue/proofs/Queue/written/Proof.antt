@@ -1,33 +1,41 @@
+use mathlib.Core.Path.{_≡_, refl, sym, ap, _∙_}
+use native.Mathlib.Omega.{arith}
+use lib.ListN.{length}
+use Rattle.table.proofs.CheckLaws.{long}
+use Rattle.queue.specs.Write.{storeDone, settle}
+use Rattle.queue.proofs.ContentsLaws.{store-anew}
 use borrow.Author.Needs.{needs}
 use Rattle.queue.proofs.Queue.written.Statement.{statement}
 use Rattle.queue.proofs.Queue.written.Tie as tie
-use Rattle.queue.proofs.Queue.written.Reads as reads
-use Rattle.queue.proofs.Queue.written.Lts as lts
-use Rattle.queue.proofs.Queue.settled.Reads as settled-reads
 
--- src/writing.rt:221:25
+stores-long : (s : tie.Start) → length (s .args .self .stores .entries) ≡ 64
+stores-long s = search (long, s .good .0 .1 .1 .1 .1 .1 .0 .1 .1 .1 .1 .1 .0 .1 .0 .1)
+
 mul-store : tie.Need-mul-store
 mul-store c = search needs
 
--- src/writing.rt:221:25
 element-copy-out-store : tie.Need-element-copy-out-store
 element-copy-out-store c = search needs
 
--- src/writing.rt:223:9
 mul-store-2 : tie.Need-mul-store-2
 mul-store-2 c = search needs
 
--- src/writing.rt:223:9
 element-set-from-store : tie.Need-element-set-from-store
 element-set-from-store c = search needs
 
--- src/writing.rt:228:20
 settled-requires : tie.Need-settled-requires
 settled-requires c κs = search needs
 
--- src/writing.rt:216:5
 returns : tie.Need-returns
-returns c = ?
+returns c =
+    let s = c .before .before .before in
+    let q = s .args .self in
+    let e = stores-long s in
+    record {
+      answer = refl;
+      gives = refl;
+      holds = c .settled .ensures ∙ ap settle (store-anew q storeDone (s .args .at) _ (omega (arith, s .pre .2)) (s .pre .0) refl);
+    }
 
 pub written-spec : {M : Type 1} → statement M
 written-spec =

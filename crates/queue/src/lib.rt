@@ -5,6 +5,7 @@ use table::Table;
 pub mod activation;
 pub mod answering;
 pub mod opening;
+pub mod ports;
 pub mod refusal;
 pub mod serial;
 pub mod serving;

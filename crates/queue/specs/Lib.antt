@@ -19,3 +19,4 @@ pub mod Plain
 pub mod Demand3
 pub mod Internal
 pub mod InternalActivate
+pub mod InternalArguments

@@ -4,6 +4,7 @@ use table::Table;
 
 pub mod activation;
 pub mod answering;
+pub mod arguments;
 pub mod opening;
 pub mod ports;
 pub mod refusal;

@@ -12,8 +12,8 @@ use Rattle.table.specs.declared.Pairs.{Pairs}
 use Rattle.table.specs.declared.Group.{Group}
 use Rattle.table.specs.Group.{GroupPairs, blankPair, listOf, pairsOf, Access, load, store, order}
 use Rattle.table.specs.Table.{blankGroup, groupsOf}
-use Rattle.table.proofs.CheckLaws.{groups-size, group-at}
-use Rattle.table.proofs.OrderOffsets.{loadPairs, storePairs, GroupRight, table-group-right}
+use Rattle.table.proofs.CheckLaws.{groups-size}
+use Rattle.table.proofs.OrderOffsets.{loadPairs, storePairs, GroupRight}
 use Rattle.queue.specs.declared.Loads.{Loads}
 use Rattle.queue.specs.declared.Stores.{Stores}
 use Rattle.queue.specs.declared.Queue.{Queue}
@@ -24,9 +24,9 @@ use Rattle.queue.specs.Sound.{sound}
 use Rattle.queue.specs.Activate.{newLoads, newStores, room, withGroup, activate}
 use Rattle.queue.specs.InternalActivate.{loadAfter, storeAfter, PairsFit, LoadsAppended, StoresAppended, withPairs}
 use Rattle.queue.proofs.Lists.{and-left, and-right}
-use Rattle.queue.proofs.ContentsLaws.{nth-past, side-length, side-nth}
+use Rattle.queue.proofs.ContentsLaws.{nth-past, side-length}
 use Rattle.queue.proofs.SoundLaws.{load-depth-most, store-depth-most, table-right}
-use Rattle.queue.proofs.GroupLaws.{pairs-count, groups-few}
+use Rattle.queue.proofs.GroupLaws.{pairs-count, group-nth}
 
 -- ---- the new entries by their offsets
 new-loads-offsets : (n k : ℕ) (xs : List Access) → newLoads (n + k) xs ≡ map (loadAfter n) (loadPairs k xs)
@@ -96,15 +96,7 @@ module _ (q : Queue) (group : ℕ) (s : sound (contentsOf q) ≡ true) where
       rw (s, nth-past (groupsOf (q .table)) group e)
 
   module _ (whole : length (q .table .groups) ≡ 16) (k : group < q .table .count) where
-    in-table : q .table .count ≤ length (q .table .groups)
-    in-table = rw whole (groups-few (q .table) (table-right q s))
-
     pub activate-group : activate (contentsOf q) group
         ≡ need (room (contentsOf q) (pairsOf (getD (q .table .groups) group blankGroup))) noPlace (accept (withGroup (contentsOf q) (pairsOf (getD (q .table .groups) group blankGroup))))
     unfolding activate contentsOf
-    activate-group = rw (s, side-nth pairsOf blankGroup (q .table .count) (q .table .groups) in-table group k)
-
-    pub group-right : GroupRight (pairsOf (getD (q .table .groups) group blankGroup))
-    group-right =
-        rw (group-at (q .table) in-table group k) at
-        (table-group-right (groupsOf (q .table)) (table-right q s) group (pairsOf blankGroup) (rw (groups-size (q .table)) k))
+    activate-group = rw (s, group-nth (q .table) (table-right q s) whole group k)

@@ -7,6 +7,7 @@ pub mod SoundLaws
 pub mod GroupLaws
 pub mod AppendLaws
 pub mod ActivateLaws
+pub mod ArgumentLaws
 pub mod SupplyLaws
 pub mod SettleLaws
 pub mod ServeLaws

@@ -1,5 +1,5 @@
--- Walks over entries, from the oldest on. Each invariant is a record, so that a law finds
--- its arguments from it; `here` says which entry the walk has come to.
+-- Walks over entries, from the oldest on. Each invariant is a record, so that a law finds its arguments from it;
+-- `here` says which entry the walk has come to.
 use Prim.Native.Nat.{ℕ, _+_}
 use native.Mathlib.Nat.{zero-add, add-zero, add-suc, suc-add}
 use native.Mathlib.Numerals.{add-one}
@@ -7,7 +7,7 @@ use mathlib.Core.Path.{_≡_, refl, sym, _∙_}
 use mathlib.Core.Bool.{Bool, true, false}
 use mathlib.Core.List.{List, [], _∷_}
 use lib.ListN.{drop}
-use Rattle.table.specs.Basics.{all}
+use Rattle.table.specs.Basics.{any, all}
 use Rattle.queue.specs.Contents.{firstPlace}
 use Rattle.queue.specs.Write.{leaving}
 
@@ -28,6 +28,24 @@ module _ {B : Type 0} {p : B → Bool} {l : List B} {i : ℕ} (w : AllYet p l i)
 
   pub all-end : drop i l ≡ [] → true ≡ all p l
   all-end e = rw (w .is, e)
+
+-- ---- no entry passes
+pub record NoneYet {B : Type 0} (p : B → Bool) (l : List B) (i : ℕ) : Type 0 where
+  pub is : any p l ≡ any p (drop i l)
+
+pub none-none : {B : Type 0} {p : B → Bool} {l : List B} → NoneYet p l 0
+none-none = record { is = refl }
+
+module _ {B : Type 0} {p : B → Bool} {l : List B} {i : ℕ} (w : NoneYet p l i) where
+  module _ {x : B} (here : drop i l ≡ x ∷ drop (i + 1) l) where
+    pub none-on : p x ≡ false → NoneYet p l (i + 1)
+    none-on e = record { is = w .is ∙ rw (here, e) }
+
+    pub none-stop : p x ≡ true → true ≡ any p l
+    none-stop e = rw (w .is, here, e)
+
+  pub none-end : drop i l ≡ [] → false ≡ any p l
+  none-end e = rw (w .is, e)
 
 -- ---- the first entry that passes
 pub record Seeking {B : Type 0} (p : B → Bool) (l : List B) (i : ℕ) : Type 0 where

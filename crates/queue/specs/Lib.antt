@@ -18,5 +18,6 @@ pub mod Plain
 pub mod Demand3
 pub mod Internal
 pub mod InternalActivate
+pub mod InternalArguments
 pub mod InternalServe
 pub mod InternalWrite

@@ -4,8 +4,10 @@ use table::Table;
 
 pub mod activation;
 pub mod answering;
+pub mod arguments;
 pub mod counting;
 pub mod opening;
+pub mod ports;
 pub mod refusal;
 pub mod serial;
 pub mod serving;

@@ -14,8 +14,8 @@ use Rattle.queue.specs.Contents.{contentsOf}
 use Rattle.queue.specs.Sound.{sound}
 use Rattle.queue.specs.Activate.{room}
 use Rattle.queue.proofs.SoundLaws.{table-right}
-use Rattle.queue.proofs.GroupLaws.{groups-few}
-use Rattle.queue.proofs.ActivateLaws.{with-group-is, group-fits, activate-unsound, activate-no-group, activate-group, group-right}
+use Rattle.queue.proofs.GroupLaws.{groups-few, group-right}
+use Rattle.queue.proofs.ActivateLaws.{with-group-is, group-fits, activate-unsound, activate-no-group, activate-group}
 use borrow.Author.Needs.{needs}
 use Rattle.queue.proofs.Queue.activate.Statement.{statement}
 use Rattle.queue.proofs.Queue.activate.Tie as tie
@@ -36,7 +36,7 @@ whole c = search (needs, long)
 good-group : (c : tie.After-chosen) → GroupRight (pairsOf (group c))
 good-group c =
     let e = c .before .before .before in
-    group-right (queue c) (e .before .before .args .group) (right e) (whole c) (c .before .if2 .left)
+    group-right (queue c .table) (table-right (queue c) (right e)) (whole c) (e .before .before .args .group) (c .before .if2 .left)
 
 has-place : (c : tie.Else3) → room (contentsOf (queue (c .before .before))) (pairsOf (group (c .before .before))) ≡ true
 has-place c = sym (c .before .has-room .ensures) ∙ not-false _ (c .if3 .left)

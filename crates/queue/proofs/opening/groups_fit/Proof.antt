@@ -9,7 +9,8 @@ use Rattle.table.specs.Group.{pairsOf}
 use Rattle.table.specs.Table.{blankGroup, groupsOf}
 use Rattle.table.proofs.CheckLaws.{long}
 use Rattle.queue.specs.Open.{groupFits}
-use Rattle.queue.proofs.ContentsLaws.{side-here, side-end}
+use Rattle.queue.proofs.ContentsLaws.{side-here}
+use Rattle.queue.proofs.GroupLaws.{groups-end}
 use Rattle.queue.proofs.WalkLaws.{AllYet, all-none, all-on, all-stop, all-end}
 use Rattle.queue.proofs.opening.groups_fit.Statement.{statement}
 use Rattle.queue.proofs.opening.groups_fit.Tie as tie
@@ -60,7 +61,7 @@ loop-again c =
 returns-2 : tie.Need-returns-2 Inv-loop μ-loop
 returns-2 c =
     let t = c .before .before .args .t1 in
-    all-end (c .before .loop .inv .1) (side-end pairsOf blankGroup (t .count) (t .groups) (c .before .loop .i) (c .loop-test .left))
+    all-end (c .before .loop .inv .1) (groups-end t (c .before .loop .i) (c .loop-test .left))
 
 pub groups-fit-spec : {M : Type 1} → statement M
 groups-fit-spec =

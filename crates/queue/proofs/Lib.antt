@@ -1,4 +1,17 @@
 pub mod Examples
+-- what a record holds
+pub mod ContentsLaws
+-- walks over a side's entries
+pub mod WalkLaws
+pub mod SoundLaws
+pub mod GroupLaws
+pub mod AppendLaws
+pub mod ActivateLaws
+pub mod ArgumentLaws
+pub mod SupplyLaws
+pub mod SettleLaws
+pub mod ServeLaws
+pub mod WriteLaws
 -- demand 3, from the ground up
 pub mod Lists
 pub mod Log

@@ -4,6 +4,7 @@ pub mod Ruled
 pub mod Contents
 pub mod Sound
 pub mod Open
+pub mod NoQueue
 pub mod Activate
 pub mod Arguments
 pub mod Serve
@@ -16,3 +17,8 @@ pub mod Call
 pub mod Plain
 pub mod Demand3
 pub mod Records
+pub mod Internal
+pub mod InternalActivate
+pub mod InternalArguments
+pub mod InternalServe
+pub mod InternalWrite

@@ -2,7 +2,17 @@
 // A call is handed the queue by value and gives back the queue that follows.
 use table::Table;
 
+pub mod activation;
+pub mod answering;
+pub mod arguments;
+pub mod counting;
+pub mod opening;
+pub mod ports;
 pub mod refusal;
+pub mod serial;
+pub mod serving;
+pub mod sound;
+pub mod writing;
 
 // A load that was activated. The address means something only where `addressed`, the value only where `served`.
 pub struct LoadEntry {

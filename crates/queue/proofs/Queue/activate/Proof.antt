@@ -1,0 +1,114 @@
+-- Each test that is left behind is a step of the rule; the test that fails is its refusal.
+use mathlib.Core.Path.{_≡_, refl, sym, _∙_}
+use mathlib.Core.Bool.{true}
+use native.Mathlib.Omega.{arith}
+use lib.ListN.{length, getD}
+use borrow.Author.Tests.{not-true, not-false}
+use Rattle.table.specs.declared.Group.{Group}
+use Rattle.table.specs.Group.{pairsOf}
+use Rattle.table.specs.Table.{blankGroup}
+use Rattle.table.proofs.CheckLaws.{long}
+use Rattle.table.proofs.OrderOffsets.{GroupRight}
+use Rattle.queue.specs.declared.Queue.{Queue}
+use Rattle.queue.specs.Contents.{contentsOf}
+use Rattle.queue.specs.Sound.{sound}
+use Rattle.queue.specs.Activate.{room}
+use Rattle.queue.proofs.SoundLaws.{table-right}
+use Rattle.queue.proofs.GroupLaws.{groups-few, group-right}
+use Rattle.queue.proofs.ActivateLaws.{with-group-is, group-fits, activate-unsound, activate-no-group, activate-group}
+use borrow.Author.Needs.{needs}
+use Rattle.queue.proofs.Queue.activate.Statement.{statement}
+use Rattle.queue.proofs.Queue.activate.Tie as tie
+
+right : (c : tie.Else1) → sound (contentsOf (c .before .before .args .self)) ≡ true
+right c = sym (c .before .sound .ensures) ∙ not-false _ (c .if1 .left)
+
+-- the queue and the group where a group was chosen
+abbrev queue : tie.After-chosen → Queue
+queue c = c .before .before .before .before .before .args .self
+
+abbrev group : tie.After-chosen → Group
+group c = getD (queue c .table .groups) (c .before .before .before .before .before .args .group) blankGroup
+
+whole : (c : tie.After-chosen) → length (queue c .table .groups) ≡ 16
+whole c = search (needs, long)
+
+good-group : (c : tie.After-chosen) → GroupRight (pairsOf (group c))
+good-group c =
+    let e = c .before .before .before in
+    group-right (queue c .table) (table-right (queue c) (right e)) (whole c) (e .before .before .args .group) (c .before .if2 .left)
+
+has-place : (c : tie.Else3) → room (contentsOf (queue (c .before .before))) (pairsOf (group (c .before .before))) ≡ true
+has-place c = sym (c .before .has-room .ensures) ∙ not-false _ (c .if3 .left)
+
+sound-requires : tie.Need-sound-requires
+sound-requires c κs = search needs
+
+refused-requires : tie.Need-refused-requires
+refused-requires c κs = search needs
+
+returns : tie.Need-returns
+returns c =
+    let s = c .before .before in
+    rw (activate-unsound (contentsOf (s .before .args .self)) (s .before .args .group) (sym (s .sound .ensures) ∙ not-true _ (c .before .if1 .taken))) (c .refused .ensures)
+
+cast-if2 : tie.Need-cast-if2
+cast-if2 c = search needs
+
+refused-requires-2 : tie.Need-refused-requires-2
+refused-requires-2 c κs = search needs
+
+returns-2 : tie.Need-returns-2
+returns-2 c =
+    let e = c .before .before .before in
+    rw (activate-no-group (e .before .before .args .self) (e .before .before .args .group) (right e) (c .before .if2 .taken)) (c .refused2 .ensures)
+
+mul-chosen : tie.Need-mul-chosen
+mul-chosen c = search needs
+
+element-copy-out-chosen : tie.Need-element-copy-out-chosen
+element-copy-out-chosen c =
+    let e = c .before .before in
+    omega (arith, groups-few (e .before .before .args .self .table) (table-right (e .before .before .args .self) (right e)))
+
+has-room-requires : tie.Need-has-room-requires
+has-room-requires c κs = search needs
+
+refused-requires-3 : tie.Need-refused-requires-3
+refused-requires-3 c κs = search needs
+
+returns-3 : tie.Need-returns-3
+returns-3 c =
+    let p = c .before .before .before in
+    let e = p .before .before .before in
+    rw (activate-group (queue p) (e .before .before .args .group) (right e) (whole p) (p .before .if2 .left), sym (c .before .before .has-room .ensures) ∙ not-true _ (c .before .if3 .taken)) (c .refused3 .ensures)
+
+with-group-requires : tie.Need-with-group-requires
+with-group-requires c κs =
+    let p = c .before .before in
+    group-fits (queue p) (group p) (right (p .before .before .before)) (good-group p) (has-place c)
+
+returns-4 : tie.Need-returns-4
+returns-4 c =
+    let p = c .before .before .before in
+    let e = p .before .before .before in
+    rw (activate-group (queue p) (e .before .before .args .group) (right e) (whole p) (p .before .if2 .left), has-place (c .before))
+    (record { answer = refl; gives = refl; holds = c .with-group .ensures ∙ with-group-is (contentsOf (queue p)) (pairsOf (group p)) (good-group p) })
+
+pub activate-spec : {M : Type 1} → statement M
+activate-spec =
+    tie.close
+    (tie.spec
+    sound-requires
+    refused-requires
+    returns
+    cast-if2
+    refused-requires-2
+    returns-2
+    mul-chosen
+    element-copy-out-chosen
+    has-room-requires
+    refused-requires-3
+    returns-3
+    with-group-requires
+    returns-4)

@@ -1,0 +1,120 @@
+-- Each test that is left behind is a step of the rule; the test that fails is its refusal.
+use mathlib.Core.Path.{_≡_, refl, sym, _∙_}
+use mathlib.Core.Bool.{true}
+use lib.Dec.{ltb}
+use borrow.Author.Tests.{not-true, not-false, lt-ltb, le-ltb}
+use Rattle.table.specs.Basics.{any}
+use Rattle.table.specs.Table.{groupsOf}
+use Rattle.queue.specs.Contents.{contentsOf}
+use Rattle.queue.specs.Sound.{sound}
+use Rattle.queue.specs.Arguments.{isLoadPort}
+use Rattle.queue.proofs.SoundLaws.{table-right, loads-few}
+use Rattle.queue.proofs.ArgumentLaws.{load-address-record}
+use borrow.Author.Needs.{needs}
+use Rattle.queue.proofs.Queue.load_address.Statement.{statement}
+use Rattle.queue.proofs.Queue.load_address.Tie as tie
+
+right : (c : tie.Else1) → sound (contentsOf (c .before .before .args .self)) ≡ true
+right c = sym (c .before .sound .ensures) ∙ not-false _ (c .if1 .left)
+
+port : (c : tie.Else2) → any (isLoadPort (c .before .before .before .before .before .args .port)) (groupsOf (c .before .before .before .before .before .args .self .table)) ≡ true
+port c = sym (c .before .has-load-port .ensures) ∙ not-false _ (c .if2 .left)
+
+below : (c : tie.Else3) → ltb (c .before .before .before .before .before .before .before .args .address) (c .before .before .before .before .before .before .before .args .self .words) ≡ true
+below c = lt-ltb _ _ (c .if3 .left)
+
+sound-requires : tie.Need-sound-requires
+sound-requires c κs = search needs
+
+refused-requires : tie.Need-refused-requires
+refused-requires c κs = search needs
+
+returns : tie.Need-returns
+returns c =
+    let s = c .before .before in
+    rw (load-address-record (s .before .args .self) (s .before .args .port) (s .before .args .address), sym (s .sound .ensures) ∙ not-true _ (c .before .if1 .taken)) (c .refused .ensures)
+
+has-load-port-requires : tie.Need-has-load-port-requires
+has-load-port-requires c κs = table-right (c .before .before .before .args .self) (right (c .before))
+
+refused-requires-2 : tie.Need-refused-requires-2
+refused-requires-2 c κs = search needs
+
+returns-2 : tie.Need-returns-2
+returns-2 c =
+    let p = c .before .before in
+    let e = p .before .before in
+    let s = e .before .before in
+    rw (load-address-record (s .args .self) (s .args .port) (s .args .address), right e, sym (p .has-load-port .ensures) ∙ not-true _ (c .before .if2 .taken)) (c .refused2 .ensures)
+
+cast-if3 : tie.Need-cast-if3
+cast-if3 c = search needs
+
+refused-requires-3 : tie.Need-refused-requires-3
+refused-requires-3 c κs = search needs
+
+returns-3 : tie.Need-returns-3
+returns-3 c =
+    let p = c .before .before .before in
+    let e = p .before .before .before in
+    let s = e .before .before in
+    rw (load-address-record (s .args .self) (s .args .port) (s .args .address), right e, port p, le-ltb _ _ (c .before .if3 .taken)) (c .refused3 .ensures)
+
+waiting-load-requires : tie.Need-waiting-load-requires
+waiting-load-requires c κs =
+    let e = c .before .before .before .before .before .before in
+    loads-few (e .before .before .args .self) (right e)
+
+cast-if4 : tie.Need-cast-if4
+cast-if4 c = search needs
+
+refused-requires-4 : tie.Need-refused-requires-4
+refused-requires-4 c κs = search needs
+
+returns-4 : tie.Need-returns-4
+returns-4 c =
+    let w = c .before .before .before in
+    let b = w .before .before in
+    let p = b .before .before in
+    let e = p .before .before .before in
+    let s = e .before .before in
+    rw (load-address-record (s .args .self) (s .args .port) (s .args .address), right e, port p, below b, ← w .waiting-load .ensures, le-ltb _ _ (c .before .if4 .taken)) (c .refused4 .ensures)
+
+cast-with-load-address : tie.Need-cast-with-load-address
+cast-with-load-address c = search needs
+
+with-load-address-requires : tie.Need-with-load-address-requires
+with-load-address-requires c κs =
+    let e = c .before .before .before .before .before .before .before .before .before in
+    (c .if4 .left, loads-few (e .before .before .args .self) (right e))
+
+returns-5 : tie.Need-returns-5
+returns-5 c =
+    let w = c .before .before .before in
+    let b = w .before .before in
+    let p = b .before .before in
+    let e = p .before .before .before in
+    let s = e .before .before in
+    rw (load-address-record (s .args .self) (s .args .port) (s .args .address), right e, port p, below b, ← w .waiting-load .ensures, lt-ltb _ _ (c .before .if4 .left))
+    (record { answer = refl; gives = refl; holds = c .with-load-address .ensures })
+
+pub load-address-spec : {M : Type 1} → statement M
+load-address-spec =
+    tie.close
+    (tie.spec
+    sound-requires
+    refused-requires
+    returns
+    has-load-port-requires
+    refused-requires-2
+    returns-2
+    cast-if3
+    refused-requires-3
+    returns-3
+    waiting-load-requires
+    cast-if4
+    refused-requires-4
+    returns-4
+    cast-with-load-address
+    with-load-address-requires
+    returns-5)

@@ -1,0 +1,79 @@
+-- What serving the load at a place answers, by what the record holds there.
+use Prim.Native.Nat.{ℕ, _≤_, _<_}
+use native.Mathlib.Nat.{le-trans}
+use mathlib.Core.Path.{_≡_, refl, sym, ap, _∙_}
+use mathlib.Core.Bool.{Bool, true, false}
+use mathlib.Core.List.{List, map}
+use mathlib.Core.Option.{Option, none, some}
+use lib.ListN.{length, getD, take}
+use borrow.Author.Tests.{eq-eqb, ne-eqb}
+use Rattle.table.specs.Basics.{pick, all, nth}
+use Rattle.queue.specs.declared.serving.Supply.{Supply}
+use Rattle.queue.specs.declared.serving.Supply.the-variants.{Unknown, NoStore, NoWord, Forwarded}
+use Rattle.queue.specs.declared.LoadEntry.{LoadEntry}
+use Rattle.queue.specs.declared.Queue.{Queue}
+use Rattle.queue.specs.Refusal.{unsound, wrongMemory, noSerial, alreadyDone, noAddress, earlierStoreUnknown, noData}
+use Rattle.queue.specs.Ruled.{Ruled, refuse, accept, need, andThen}
+use Rattle.queue.specs.Contents.{Store, Contents, loadOf, storeOf, blankLoad, blankStore, contentsOf, age, oldest}
+use Rattle.queue.specs.Sound.{sound}
+use Rattle.queue.specs.Serve.{Served, hasAddress, nearest, sourceOf, serve}
+use Rattle.queue.specs.Internal.{sideOf}
+use Rattle.queue.specs.InternalServe.{wordIn, supplyOf, supplyFrom, servedWith, serveAt}
+use Rattle.queue.proofs.ContentsLaws.{nth-past, side-nth, side-take, loads-held, stores-held, loads-count, words-held, load-place}
+
+-- the answer by what the earlier stores supply
+abbrev pub bySupply : Contents → List ℕ → ℕ → ℕ → Supply → Ruled Served
+bySupply q memory place a Unknown = refuse earlierStoreUnknown
+bySupply q memory place a NoStore = accept (servedWith q place (getD memory a 0) false)
+bySupply q memory place a NoWord = refuse noData
+bySupply q memory place a (Forwarded w) = accept (servedWith q place w true)
+
+by-supply : (q : Contents) (memory : List ℕ) (place a : ℕ) (ss : List Store)
+    → need (all hasAddress ss) earlierStoreUnknown (andThen (sourceOf memory a (nearest a none ss)) λ v. accept (servedWith q place (v .value) (v .forwarded)))
+    ≡ bySupply q memory place a (supplyFrom a ss)
+by-supply q memory place a ss = go (all hasAddress ss) (nearest a none ss)
+  where
+    word : (s : Store) (w : Option ℕ) → s .word ≡ w → andThen (sourceOf memory a (some s)) (λ v. accept (servedWith q place (v .value) (v .forwarded))) ≡ bySupply q memory place a (wordIn w)
+    word s none e = rw e
+    word s (some w) e = rw e
+
+    go : (t : Bool) (o : Option Store) → need t earlierStoreUnknown (andThen (sourceOf memory a o) λ v. accept (servedWith q place (v .value) (v .forwarded))) ≡ bySupply q memory place a (pick t (supplyOf o) Unknown)
+    go false o = refl
+    go true none = refl
+    go true (some s) = word s (s .word) refl
+
+module _ (q : Queue) (memory : List ℕ) (place : ℕ) where
+  pub serve-none : q .loads .count ≤ place → serveAt (contentsOf q) memory place ≡ refuse noSerial
+  serve-none h = rw (nth-past (contentsOf q .loads) place (rw (loads-count q) h))
+
+  module _ (w : q .loads .count ≤ length (q .loads .entries)) (k : place < q .loads .count) (e : LoadEntry) (is : getD (q .loads .entries) place blankLoad ≡ e) where
+    here : nth (contentsOf q .loads) place ≡ some (loadOf e)
+    here = rw (loads-held q) (side-nth loadOf blankLoad (q .loads .count) (q .loads .entries) w place k ∙ rw is)
+
+    pub serve-done : e .served ≡ true → serveAt (contentsOf q) memory place ≡ refuse alreadyDone
+    serve-done s = rw (here, s)
+
+    pub serve-no-address : e .served ≡ false → e .addressed ≡ false → serveAt (contentsOf q) memory place ≡ refuse noAddress
+    serve-no-address s a = rw (here, s, a)
+
+    pub serve-supplied : e .served ≡ false → e .addressed ≡ true → e .before ≤ q .stores .count → q .stores .count ≤ length (q .stores .entries)
+        → serveAt (contentsOf q) memory place ≡ bySupply (contentsOf q) memory place (e .address) (supplyFrom (e .address) (sideOf storeOf blankStore (e .before) (q .stores .entries)))
+    serve-supplied s a b v =
+        let t : take (e .before) (contentsOf q .stores) ≡ sideOf storeOf blankStore (e .before) (q .stores .entries) =
+        ap (take (e .before)) (stores-held q) ∙ side-take storeOf blankStore (q .stores .count) (q .stores .entries) v (e .before) b in
+        rw (here, s, a, t) (by-supply (contentsOf q) memory place (e .address) (sideOf storeOf blankStore (e .before) (q .stores .entries)))
+
+-- ---- 40 and 30, and the place that a serial names
+module _ (q : Queue) (memory : List ℕ) (serial : ℕ) where
+  pub serve-unsound : sound (contentsOf q) ≡ false → serve (contentsOf q) memory serial ≡ refuse unsound
+  unfolding serve
+  serve-unsound e = rw e
+
+  module _ (right : sound (contentsOf q) ≡ true) where
+    pub serve-memory : (length memory ≡ q .words → ⊥) → serve (contentsOf q) memory serial ≡ refuse wrongMemory
+    unfolding serve
+    serve-memory e = rw (right, words-held q, ne-eqb (length memory) (q .words) e)
+
+    pub serve-place : length memory ≡ q .words → serve (contentsOf q) memory serial ≡ serveAt (contentsOf q) memory (age (oldest (q .loads .next) (q .loads .count)) serial)
+    unfolding serve
+    serve-place e = rw (right, eq-eqb (length memory) (contentsOf q .memoryLength) (e ∙ sym (words-held q))) (ap (serveAt (contentsOf q) memory) (load-place q serial))

@@ -1,0 +1,118 @@
+-- Finished entries leave a side from its oldest end: how many they are, and what the side is without them.
+use Prim.Native.Nat.{ℕ, zero, suc, _+_, _-_, _≤_, _<_}
+use native.Mathlib.Nat.{add-comm, sub-zero, zero-sub, suc-sub-suc, not-suc-le-zero, le-of-suc-le-suc}
+use native.Mathlib.Numerals.{add-one}
+use native.Mathlib.Omega.{arith}
+use mathlib.Core.Path.{_≡_, refl, sym, ap, _∙_}
+use mathlib.Core.Bool.{Bool, true, false}
+use mathlib.Core.List.{List, [], _∷_, _++_, map, map-map}
+use lib.ListN.{length, getD, take, drop, set, length-map, length-append, length-take, length-drop, List·getD-map}
+use lib.Seq.{drop-cons, getD-drop, getD-append-add, length-take-le, take-at, take-nil}
+use Rattle.table.specs.Basics.{pick, takeWhile, dropWhile}
+use Rattle.queue.specs.declared.Loads.{Loads}
+use Rattle.queue.specs.declared.Stores.{Stores}
+use Rattle.queue.specs.declared.Queue.{Queue}
+use Rattle.queue.specs.Contents.{loadOf, storeOf, blankLoad, blankStore, contentsOf}
+use Rattle.queue.specs.Write.{leaving, loadFinished, storeFinished, loadAfterLeaving, storeAfterLeaving, settle}
+use Rattle.queue.specs.Internal.{sideOf, loadsOf, storesOf}
+use Rattle.queue.specs.InternalWrite.{LoadsMoved, StoresMoved}
+use Rattle.queue.proofs.Lists.{map-same}
+use Rattle.queue.proofs.ContentsLaws.{side-few, side-length}
+
+-- ---- how many leave
+module _ {A : Type 0} (p : A → Bool) where
+  pub leaving-most : (l : List A) → leaving p l ≤ length l
+  leaving-most [] = omega arith
+  leaving-most (x ∷ xs) = go (p x) (leaving-most xs)
+    where
+      go : (t : Bool) → leaving p xs ≤ length xs → length (pick t (x ∷ takeWhile p xs) []) ≤ suc (length xs)
+      go true h = omega arith
+      go false h = omega arith
+
+  pub drop-leaving : (l : List A) → drop (leaving p l) l ≡ dropWhile p l
+  drop-leaving [] = refl
+  drop-leaving (x ∷ xs) = go (p x) (drop-leaving xs)
+    where
+      go : (t : Bool) → drop (leaving p xs) xs ≡ dropWhile p xs → drop (length (pick t (x ∷ takeWhile p xs) [])) (x ∷ xs) ≡ pick t (dropWhile p xs) (x ∷ xs)
+      go true h = h
+      go false h = refl
+
+-- ---- an array whose entries from the kth on are moved to the front, each changed by g: j of them have been moved
+pub record Moved {A : Type 0} (g : A → A) (k : ℕ) (old : List A) (j : ℕ) (l : List A) : Type 0 where
+  pub is : l ≡ map g (take j (drop k old)) ++ drop j old
+
+front-set : {A : Type 0} (g : A → A) (s old : List A) (j : ℕ) (z : A) → j < length old → j < length s
+    → set (map g (take j s) ++ drop j old) j (g (getD s j z)) ≡ map g (take (suc j) s) ++ drop (suc j) old
+front-set g [] old j z h k = absurd (not-suc-le-zero k)
+front-set g (x ∷ s) [] j z h k = absurd (not-suc-le-zero h)
+front-set g (x ∷ s) (y ∷ old) zero z h k = refl
+front-set g (x ∷ s) (y ∷ old) (suc j) z h k = rw (front-set g s old j z (le-of-suc-le-suc h) (le-of-suc-le-suc k))
+
+drop-take : {A : Type 0} (k n : ℕ) (l : List A) → take (n - k) (drop k l) ≡ drop k (take n l)
+drop-take zero n l = rw sub-zero
+drop-take (suc k) zero l = rw zero-sub
+drop-take (suc k) (suc n) [] = take-nil (suc n - suc k)
+drop-take (suc k) (suc n) (x ∷ l) = rw suc-sub-suc (drop-take k n l)
+
+drop-map : {A B : Type 0} (f : A → B) (k : ℕ) (l : List A) → drop k (map f l) ≡ map f (drop k l)
+drop-map f zero l = refl
+drop-map f (suc k) [] = refl
+drop-map f (suc k) (x ∷ l) = drop-map f k l
+
+module _ {A : Type 0} {g : A → A} {k : ℕ} {old : List A} where
+  pub moved-none : Moved g k old 0 old
+  moved-none = record { is = refl }
+
+  module _ {j : ℕ} {l : List A} (w : Moved g k old j l) where
+    front-size : j ≤ length (drop k old) → length (map g (take j (drop k old))) ≡ j
+    front-size h = length-map (take j (drop k old)) g ∙ length-take-le j (drop k old) h
+
+    pub moved-length : j + k ≤ length old → length l ≡ length old
+    moved-length h =
+        let q : j ≤ length (drop k old) = rw length-drop (omega arith) in
+        ap length (w .is) ∙ rw (length-append, front-size q, length-drop) (omega arith)
+
+    -- what lies ahead is as it was
+    ahead : (z : A) → j + k < length old → getD l (j + k) z ≡ getD (drop k old) j z
+    ahead z h =
+        let q : j ≤ length (drop k old) = rw length-drop (omega arith) in
+        rw (w .is)
+        (ap (λ (m : ℕ). getD (map g (take j (drop k old)) ++ drop j old) (m + k) z) (sym (front-size q))
+        ∙ getD-append-add (map g (take j (drop k old))) (drop j old) k z
+        ∙ getD-drop j old k z
+        ∙ ap (λ (m : ℕ). getD old m z) (add-comm j k)
+        ∙ sym (getD-drop k old j z))
+
+    pub moved-more : (z : A) {v : A} → v ≡ g (getD l (j + k) z) → j + k < length old → Moved g k old (j + 1) (set l j v)
+    moved-more z {v} e h =
+        let q : j < length (drop k old) = rw length-drop (omega arith) in
+        record { is = rw (e, ahead z h, w .is, add-one) (front-set g (drop k old) old j z (omega arith) q) }
+
+    -- what a side holds once all that stay have been moved
+    pub moved-side : {B : Type 0} (f : A → B) (blank : A) (h : B → B) → ((x : A) → f (g x) ≡ h (f x)) → (n : ℕ) → j ≡ n - k → k ≤ n → n ≤ length old
+        → sideOf f blank (n - k) l ≡ map h (drop k (sideOf f blank n old))
+    moved-side {B} f blank h same n e hk hn =
+        let long : length l ≡ length old = moved-length (omega arith) in
+        let q : n - k ≤ length (drop k old) = rw length-drop (omega arith) in
+        let size : length (map g (take (n - k) (drop k old))) ≡ n - k = length-map (take (n - k) (drop k old)) g ∙ length-take-le (n - k) (drop k old) q in
+        let front : take (n - k) l ≡ map g (drop k (take n old)) =
+        ap (take (n - k)) (rw e at (w .is)) ∙ take-at (map g (take (n - k) (drop k old))) (drop (n - k) old) (n - k) size ∙ ap (map g) (drop-take k n old) in
+        side-few f blank (n - k) l (omega arith)
+        ∙ rw (front, map-map f g, side-few f blank n old hn, drop-map, map-map h f)
+        (map-same (λ (x : A). f (g x)) (λ (x : A). h (f x)) same (drop k (take n old)))
+
+-- ---- both sides
+pub loads-leaving : (side : Loads) → leaving loadFinished (loadsOf side) ≤ side .count
+loads-leaving side = omega (arith, leaving-most loadFinished (loadsOf side), side-length loadOf blankLoad (side .count) (side .entries))
+
+pub stores-leaving : (side : Stores) → leaving storeFinished (storesOf side) ≤ side .count
+stores-leaving side = omega (arith, leaving-most storeFinished (storesOf side), side-length storeOf blankStore (side .count) (side .entries))
+
+pub settle-sides : (q : Queue) {l s : ℕ} {ls : Loads} {ss : Stores} → l ≡ leaving loadFinished (loadsOf (q .loads)) → s ≡ leaving storeFinished (storesOf (q .stores))
+    → LoadsMoved (q .loads) l s ls → StoresMoved (q .stores) s l ss
+    → contentsOf (record { table = q .table; words = q .words; loads = ls; stores = ss }) ≡ settle (contentsOf q)
+unfolding contentsOf
+settle-sides q {l} {s} {ls} {ss} el es ml ms =
+    let hl : loadsOf ls ≡ map (loadAfterLeaving (leaving storeFinished (storesOf (q .stores)))) (dropWhile loadFinished (loadsOf (q .loads))) = ml .holds ∙ rw (el, es, drop-leaving) in
+    let hs : storesOf ss ≡ map (storeAfterLeaving (leaving loadFinished (loadsOf (q .loads)))) (dropWhile storeFinished (storesOf (q .stores))) = ms .holds ∙ rw (es, el, drop-leaving) in
+    rw (ml .depth, ml .next, ms .depth, ms .next, hl, hs)

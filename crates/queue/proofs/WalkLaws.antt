@@ -1,0 +1,84 @@
+-- Walks over entries, from the oldest on. Each invariant is a record, so that a law finds its arguments from it;
+-- `here` says which entry the walk has come to.
+use Prim.Native.Nat.{ℕ, _+_}
+use native.Mathlib.Nat.{zero-add, add-zero, add-suc, suc-add}
+use native.Mathlib.Numerals.{add-one}
+use mathlib.Core.Path.{_≡_, refl, sym, _∙_}
+use mathlib.Core.Bool.{Bool, true, false}
+use mathlib.Core.List.{List, [], _∷_}
+use lib.ListN.{drop}
+use Rattle.table.specs.Basics.{any, all}
+use Rattle.queue.specs.Contents.{firstPlace}
+use Rattle.queue.specs.Write.{leaving}
+
+-- ---- every entry passes
+pub record AllYet {B : Type 0} (p : B → Bool) (l : List B) (i : ℕ) : Type 0 where
+  pub is : all p l ≡ all p (drop i l)
+
+pub all-none : {B : Type 0} {p : B → Bool} {l : List B} → AllYet p l 0
+all-none = record { is = refl }
+
+module _ {B : Type 0} {p : B → Bool} {l : List B} {i : ℕ} (w : AllYet p l i) where
+  module _ {x : B} (here : drop i l ≡ x ∷ drop (i + 1) l) where
+    pub all-on : p x ≡ true → AllYet p l (i + 1)
+    all-on e = record { is = w .is ∙ rw (here, e) }
+
+    pub all-stop : p x ≡ false → false ≡ all p l
+    all-stop e = rw (w .is, here, e)
+
+  pub all-end : drop i l ≡ [] → true ≡ all p l
+  all-end e = rw (w .is, e)
+
+-- ---- no entry passes
+pub record NoneYet {B : Type 0} (p : B → Bool) (l : List B) (i : ℕ) : Type 0 where
+  pub is : any p l ≡ any p (drop i l)
+
+pub none-none : {B : Type 0} {p : B → Bool} {l : List B} → NoneYet p l 0
+none-none = record { is = refl }
+
+module _ {B : Type 0} {p : B → Bool} {l : List B} {i : ℕ} (w : NoneYet p l i) where
+  module _ {x : B} (here : drop i l ≡ x ∷ drop (i + 1) l) where
+    pub none-on : p x ≡ false → NoneYet p l (i + 1)
+    none-on e = record { is = w .is ∙ rw (here, e) }
+
+    pub none-stop : p x ≡ true → true ≡ any p l
+    none-stop e = rw (w .is, here, e)
+
+  pub none-end : drop i l ≡ [] → false ≡ any p l
+  none-end e = rw (w .is, e)
+
+-- ---- the first entry that passes
+pub record Seeking {B : Type 0} (p : B → Bool) (l : List B) (i : ℕ) : Type 0 where
+  pub is : firstPlace p l ≡ i + firstPlace p (drop i l)
+
+pub seeking-none : {B : Type 0} {p : B → Bool} {l : List B} → Seeking p l 0
+seeking-none = record { is = sym (zero-add _) }
+
+module _ {B : Type 0} {p : B → Bool} {l : List B} {i : ℕ} (w : Seeking p l i) where
+  module _ {x : B} (here : drop i l ≡ x ∷ drop (i + 1) l) where
+    pub seeking-on : p x ≡ false → Seeking p l (i + 1)
+    seeking-on e = record { is = w .is ∙ rw (here, e, add-one, add-suc, suc-add) }
+
+    pub seeking-stop : p x ≡ true → i ≡ firstPlace p l
+    seeking-stop e = rw (w .is, here, e) (sym (add-zero i))
+
+  pub seeking-end : drop i l ≡ [] → i ≡ firstPlace p l
+  seeking-end e = rw (w .is, e) (sym (add-zero i))
+
+-- ---- finished entries at the oldest end
+pub record Leaving {B : Type 0} (p : B → Bool) (l : List B) (i : ℕ) : Type 0 where
+  pub is : leaving p l ≡ i + leaving p (drop i l)
+
+pub leaving-none : {B : Type 0} {p : B → Bool} {l : List B} → Leaving p l 0
+leaving-none = record { is = sym (zero-add _) }
+
+module _ {B : Type 0} {p : B → Bool} {l : List B} {i : ℕ} (w : Leaving p l i) where
+  module _ {x : B} (here : drop i l ≡ x ∷ drop (i + 1) l) where
+    pub leaving-on : p x ≡ true → Leaving p l (i + 1)
+    leaving-on e = record { is = w .is ∙ rw (here, e, add-one, add-suc, suc-add) }
+
+    pub leaving-stop : p x ≡ false → i ≡ leaving p l
+    leaving-stop e = rw (w .is, here, e) (sym (add-zero i))
+
+  pub leaving-end : drop i l ≡ [] → i ≡ leaving p l
+  leaving-end e = rw (w .is, e) (sym (add-zero i))

@@ -1,0 +1,151 @@
+-- What writing the store at a place answers, by what the record holds there.
+use Prim.Native.Nat.{ℕ, _≤_, _<_}
+use native.Mathlib.Nat.{le-trans}
+use native.Mathlib.Omega.{arith}
+use mathlib.Core.Path.{_≡_, refl, sym, ap, _∙_}
+use mathlib.Core.Bool.{Bool, true, false, not}
+use mathlib.Core.List.{List}
+use mathlib.Core.Option.{Option, none, some}
+use lib.ListN.{length, getD, take}
+use borrow.Author.Tests.{eq-eqb, ne-eqb}
+use Rattle.table.specs.Basics.{all, nth}
+use Rattle.queue.specs.declared.StoreEntry.{StoreEntry}
+use Rattle.queue.specs.declared.Queue.{Queue}
+use Rattle.queue.specs.Refusal.{unsound, wrongMemory, noSerial, alreadyDone, noAddress, noData, earlierLoadInWay, earlierStoreInWay}
+use Rattle.queue.specs.Ruled.{Ruled, refuse, accept, need, have, andThen, number}
+use Rattle.queue.specs.Contents.{Load, Store, Contents, loadOf, storeOf, blankLoad, blankStore, contentsOf, age, oldest, storePlace}
+use Rattle.queue.specs.Sound.{sound}
+use Rattle.queue.specs.Write.{Written, loadGivesWay, storeGivesWay, write}
+use Rattle.queue.specs.Internal.{sideOf}
+use Rattle.queue.specs.InternalWrite.{Put, mayWrite, mayWriteAt, writtenWith, writeAt}
+use Rattle.queue.proofs.ContentsLaws.{nth-past, side-nth, side-take, loads-held, stores-held, stores-count, words-held, store-place}
+
+-- ---- an answer that is no 0 refuses with it
+pub refused-number : {A : Type 0} (x : Ruled A) → (number x ≡ 0 → ⊥) → x ≡ refuse (number x)
+refused-number (refuse n) h = refl
+refused-number (accept a) h = absurd (h refl)
+
+-- ---- 26, 27, 29, 31, 32, in the order of checking
+module _ (ls : List Load) (ss : List Store) (e : StoreEntry) where
+  pub may-not-again : e .written ≡ true → alreadyDone ≡ number (mayWrite ls ss (storeOf e))
+  may-not-again w = rw w
+
+  module _ (w : e .written ≡ false) where
+    pub may-no-address : e .addressed ≡ false → noAddress ≡ number (mayWrite ls ss (storeOf e))
+    may-no-address a = rw (w, a)
+
+    module _ (a : e .addressed ≡ true) where
+      pub may-no-data : e .filled ≡ false → noData ≡ number (mayWrite ls ss (storeOf e))
+      may-no-data f = rw (w, a, f)
+
+      module _ (f : e .filled ≡ true) where
+        pub may-load : all (loadGivesWay (e .address)) ls ≡ false → earlierLoadInWay ≡ number (mayWrite ls ss (storeOf e))
+        may-load l = rw (w, a, f, l)
+
+        pub may-store : all (loadGivesWay (e .address)) ls ≡ true → all (storeGivesWay (e .address)) ss ≡ false → earlierStoreInWay ≡ number (mayWrite ls ss (storeOf e))
+        may-store l s = rw (w, a, f, l, s)
+
+        pub may-put : all (loadGivesWay (e .address)) ls ≡ true → all (storeGivesWay (e .address)) ss ≡ true
+            → mayWrite ls ss (storeOf e) ≡ accept (record { address = e .address; word = e .word })
+        may-put l s = rw (w, a, f, l, s)
+
+  -- answered 0, it has an address and data, and puts them
+  pub record Puts : Type 0 where
+    pub unwritten : e .written ≡ false
+    pub addressed : e .addressed ≡ true
+    pub filled : e .filled ≡ true
+    pub put : mayWrite ls ss (storeOf e) ≡ accept (record { address = e .address; word = e .word })
+
+  pub may-puts : number (mayWrite ls ss (storeOf e)) ≡ 0 → Puts
+  may-puts h = go (e .written) (e .addressed) (e .filled) (all (loadGivesWay (e .address)) ls) (all (storeGivesWay (e .address)) ss) refl refl refl refl refl
+    where
+      go : (w a f l s : Bool) → e .written ≡ w → e .addressed ≡ a → e .filled ≡ f → all (loadGivesWay (e .address)) ls ≡ l → all (storeGivesWay (e .address)) ss ≡ s → Puts
+      go true a f l s ew ea ef el es = let z = may-not-again ew ∙ h in absurd (omega arith)
+      go false false f l s ew ea ef el es = let z = may-no-address ew ea ∙ h in absurd (omega arith)
+      go false true false l s ew ea ef el es = let z = may-no-data ew ea ef ∙ h in absurd (omega arith)
+      go false true true false s ew ea ef el es = let z = may-load ew ea ef el ∙ h in absurd (omega arith)
+      go false true true true false ew ea ef el es = let z = may-store ew ea ef el es ∙ h in absurd (omega arith)
+      go false true true true true ew ea ef el es = record { unwritten = ew; addressed = ea; filled = ef; put = may-put ew ea ef el es }
+
+-- ---- the rule, from 25 on
+write-tail : (q : Contents) (memory : List ℕ) (place : ℕ) (ls : List Load) (ss : List Store) (s : Store)
+    → need (not (s .written)) alreadyDone
+    (have (s .address) noAddress λ a.
+    have (s .word) noData λ w.
+    need (all (loadGivesWay a) ls) earlierLoadInWay
+    (need (all (storeGivesWay a) ss) earlierStoreInWay
+    (accept (writtenWith q memory place (record { address = a; word = w })))))
+    ≡ andThen (mayWrite ls ss s) λ p. accept (writtenWith q memory place p)
+write-tail q memory place ls ss s = go (s .written) (s .address) (s .word)
+  where
+    way : (a w : ℕ) (l t : Bool) → need l earlierLoadInWay (need t earlierStoreInWay (accept (writtenWith q memory place (record { address = a; word = w }))))
+        ≡ andThen (need l earlierLoadInWay (need t earlierStoreInWay (accept (record { address = a; word = w })))) λ p. accept (writtenWith q memory place p)
+    way a w false t = refl
+    way a w true false = refl
+    way a w true true = refl
+
+    go : (t : Bool) (address word : Option ℕ)
+        → need (not t) alreadyDone
+        (have address noAddress λ a.
+        have word noData λ w.
+        need (all (loadGivesWay a) ls) earlierLoadInWay
+        (need (all (storeGivesWay a) ss) earlierStoreInWay
+        (accept (writtenWith q memory place (record { address = a; word = w })))))
+        ≡ andThen (need (not t) alreadyDone
+        (have address noAddress λ a.
+        have word noData λ w.
+        need (all (loadGivesWay a) ls) earlierLoadInWay
+        (need (all (storeGivesWay a) ss) earlierStoreInWay
+        (accept (record { address = a; word = w }))))) λ p. accept (writtenWith q memory place p)
+    go true address word = refl
+    go false none word = refl
+    go false (some a) none = refl
+    go false (some a) (some w) = way a w (all (loadGivesWay a) ls) (all (storeGivesWay a) ss)
+
+write-rest : (q : Contents) (memory : List ℕ) (place : ℕ) (o : Option Store)
+    → (have o noSerial λ s.
+    need (not (s .written)) alreadyDone
+    (have (s .address) noAddress λ a.
+    have (s .word) noData λ w.
+    need (all (loadGivesWay a) (take (s .before) (q .loads))) earlierLoadInWay
+    (need (all (storeGivesWay a) (take place (q .stores))) earlierStoreInWay
+    (accept (writtenWith q memory place (record { address = a; word = w }))))))
+    ≡ have o noSerial λ s. andThen (mayWrite (take (s .before) (q .loads)) (take place (q .stores)) s) λ p. accept (writtenWith q memory place p)
+write-rest q memory place none = refl
+write-rest q memory place (some s) = write-tail q memory place (take (s .before) (q .loads)) (take place (q .stores)) s
+
+module _ (q : Queue) (memory : List ℕ) (place : ℕ) where
+  pub write-none : q .stores .count ≤ place → writeAt (contentsOf q) memory place ≡ refuse noSerial
+  write-none h = rw (nth-past (contentsOf q .stores) place (rw (stores-count q) h))
+
+  module _ (w : q .stores .count ≤ length (q .stores .entries)) (v : q .loads .count ≤ length (q .loads .entries)) (k : place < q .stores .count)
+      (b : getD (q .stores .entries) place blankStore .before ≤ q .loads .count) where
+    pub write-held : writeAt (contentsOf q) memory place ≡ andThen (mayWriteAt (q .loads) (q .stores) place) λ p. accept (writtenWith (contentsOf q) memory place p)
+    write-held =
+        let e : StoreEntry = getD (q .stores .entries) place blankStore in
+        let here : nth (contentsOf q .stores) place ≡ some (storeOf e) = ap (λ (l : List Store). nth l place) (stores-held q) ∙ side-nth storeOf blankStore (q .stores .count) (q .stores .entries) w place k in
+        let ls : take (e .before) (contentsOf q .loads) ≡ sideOf loadOf blankLoad (e .before) (q .loads .entries) =
+        ap (take (e .before)) (loads-held q) ∙ side-take loadOf blankLoad (q .loads .count) (q .loads .entries) v (e .before) b in
+        let ss : take place (contentsOf q .stores) ≡ sideOf storeOf blankStore place (q .stores .entries) =
+        ap (take place) (stores-held q) ∙ side-take storeOf blankStore (q .stores .count) (q .stores .entries) w place (omega arith) in
+        ap (λ (o : Option Store). have o noSerial λ s. andThen (mayWrite (take (s .before) (contentsOf q .loads)) (take place (contentsOf q .stores)) s) λ p. accept (writtenWith (contentsOf q) memory place p)) here
+        ∙ ap (λ (l : List Load). andThen (mayWrite l (take place (contentsOf q .stores)) (storeOf e)) λ p. accept (writtenWith (contentsOf q) memory place p)) ls
+        ∙ ap (λ (l : List Store). andThen (mayWrite (sideOf loadOf blankLoad (e .before) (q .loads .entries)) l (storeOf e)) λ p. accept (writtenWith (contentsOf q) memory place p)) ss
+
+-- ---- 40 and 30, and the place that a serial names
+module _ (q : Queue) (memory : List ℕ) (serial : ℕ) where
+  pub write-unsound : sound (contentsOf q) ≡ false → write (contentsOf q) memory serial ≡ refuse unsound
+  unfolding write
+  write-unsound e = rw e
+
+  module _ (right : sound (contentsOf q) ≡ true) where
+    pub write-memory : (length memory ≡ q .words → ⊥) → write (contentsOf q) memory serial ≡ refuse wrongMemory
+    unfolding write
+    write-memory e = rw (right, words-held q, ne-eqb (length memory) (q .words) e)
+
+    pub write-place : length memory ≡ q .words → write (contentsOf q) memory serial ≡ writeAt (contentsOf q) memory (age (oldest (q .stores .next) (q .stores .count)) serial)
+    unfolding write
+    write-place e =
+        rw (right, eq-eqb (length memory) (contentsOf q .memoryLength) (e ∙ sym (words-held q)))
+        (write-rest (contentsOf q) memory (storePlace (contentsOf q) serial) (nth (contentsOf q .stores) (storePlace (contentsOf q) serial))
+        ∙ ap (writeAt (contentsOf q) memory) (store-place q serial))

@@ -1,0 +1,170 @@
+// Opening a queue: 4 to 8 of its table, then 11, 12, 13, 14.
+ghost use mathlib.Core.Path.{_≡_};
+ghost use mathlib.Core.List.{[]};
+ghost use Prim.Native.Nat.{_≤_};
+ghost use Rattle.table.specs.Basics.{all};
+ghost use Rattle.table.specs.Group.{pairsOf};
+ghost use Rattle.table.specs.Table.{groupsOf};
+ghost use Rattle.table.specs.TableBytes.{packPairs, pack};
+ghost use Rattle.queue.specs.Open.{groupFits, openQueue};
+ghost use Rattle.queue.specs.NoQueue.{freshLoads, freshStores, freshQueue, noQueue};
+ghost use Rattle.queue.specs.Outcome.{Opens};
+use crate::LoadEntry;
+use crate::Loads;
+use crate::Opened;
+use crate::Queue;
+use crate::StoreEntry;
+use crate::Stores;
+use crate::refusal::BAD_LOAD_DEPTH;
+use crate::refusal::BAD_MEMORY_LENGTH;
+use crate::refusal::BAD_STORE_DEPTH;
+use crate::refusal::GROUP_TOO_LARGE;
+use crate::sound::depth_right;
+use crate::sound::memory_right;
+use table::Group;
+use table::Pair;
+use table::Pairs;
+use table::Table;
+use table::check::table_fault;
+
+fn no_loads(depth: u8, first: u32) -> Loads
+    ensures { λ r. ⌜ r ≡ freshLoads depth first ⌝ }
+{
+    let blank = LoadEntry {
+        port: 0,
+        before: 0,
+        addressed: false,
+        served: false,
+        taken: false,
+        address: 0,
+        value: 0,
+    };
+    Loads {
+        depth,
+        count: 0,
+        next: first,
+        entries: [blank; 64],
+    }
+}
+
+fn no_stores(depth: u8, first: u32) -> Stores
+    ensures { λ r. ⌜ r ≡ freshStores depth first ⌝ }
+{
+    let blank = StoreEntry {
+        port: 0,
+        before: 0,
+        addressed: false,
+        filled: false,
+        written: false,
+        address: 0,
+        word: 0,
+    };
+    Stores {
+        depth,
+        count: 0,
+        next: first,
+        entries: [blank; 64],
+    }
+}
+
+// The table of no groups.
+fn no_table() -> Table
+    ensures { λ r. ⌜ r ≡ pack [] ⌝ }
+{
+    let pair = Pair { offset: 0, port: 0 };
+    let pairs = Pairs {
+        count: 0,
+        places: [pair; 16],
+    };
+    let group = Group {
+        loads: pairs,
+        stores: pairs,
+    };
+    Table {
+        count: 0,
+        groups: [group; 16],
+    }
+}
+
+// A queue that holds no entry: "both series begin at the first serial".
+fn fresh_queue(table: Table, load_depth: u8, store_depth: u8, first: u32, words: u16) -> Queue
+    ensures { λ r. ⌜ r ≡ freshQueue table «load_depth» «store_depth» first words ⌝ }
+{
+    let loads = no_loads(load_depth, first);
+    let stores = no_stores(store_depth, first);
+    Queue {
+        table,
+        words,
+        loads,
+        stores,
+    }
+}
+
+// A refused opening has no queue to hand back: its queue means nothing.
+fn refused(answer: u8) -> Opened
+    ensures { λ r. ⌜ r ≡ record { answer = answer; queue = noQueue } ⌝ }
+{
+    let table = no_table();
+    let queue = fresh_queue(table, 0, 0, 0, 0);
+    Opened { answer, queue }
+}
+
+// The group has no more loads and stores than their depths.
+fn group_fits(group: Group, load_depth: u32, store_depth: u32) -> bool
+    ensures { λ r. ⌜ r ≡ groupFits «load_depth» «store_depth» (pairsOf group) ⌝ }
+{
+    let loads = group.loads;
+    let stores = group.stores;
+    if load_depth < loads.count as u32 {
+        return false;
+    }
+    stores.count as u32 <= store_depth
+}
+
+fn groups_fit(table: Table, load_depth: u32, store_depth: u32) -> bool
+    requires { ⌜ table .count ≤ 16 ⌝ }
+    ensures { λ r. ⌜ r ≡ all (groupFits «load_depth» «store_depth») (groupsOf table) ⌝ }
+{
+    let count = table.count as usize;
+    let mut i: usize = 0;
+    while i < count {
+        let group = table.groups[i];
+        if !group_fits(group, load_depth, store_depth) {
+            return false;
+        }
+        i += 1;
+    }
+    true
+}
+
+impl Queue {
+    // Opens a queue with no entry, or answers the first of 4 to 8, 11, 12, 13, 14 that applies.
+    pub fn open(table: Table, load_depth: u32, store_depth: u32, first: u32, words: u32) -> Opened
+        ensures { λ r. ⌜ Opens noQueue (openQueue (groupsOf table) «load_depth» «store_depth» first words) r ⌝ }
+    {
+        let fault = table_fault(table);
+        if fault != 0 {
+            return refused(fault);
+        }
+        if !depth_right(load_depth) {
+            return refused(BAD_LOAD_DEPTH);
+        }
+        if !depth_right(store_depth) {
+            return refused(BAD_STORE_DEPTH);
+        }
+        if !memory_right(words) {
+            return refused(BAD_MEMORY_LENGTH);
+        }
+        if !groups_fit(table, load_depth, store_depth) {
+            return refused(GROUP_TOO_LARGE);
+        }
+        let queue = fresh_queue(
+            table,
+            load_depth as u8,
+            store_depth as u8,
+            first,
+            words as u16,
+        );
+        Opened { answer: 0, queue }
+    }
+}

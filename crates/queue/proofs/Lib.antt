@@ -12,6 +12,7 @@ pub mod SupplyLaws
 pub mod SettleLaws
 pub mod ServeLaws
 pub mod WriteLaws
+pub mod TakeLaws
 -- demand 3, from the ground up
 pub mod Lists
 pub mod Log

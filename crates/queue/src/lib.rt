@@ -12,6 +12,7 @@ pub mod refusal;
 pub mod serial;
 pub mod serving;
 pub mod sound;
+pub mod taking;
 pub mod writing;
 
 // A load that was activated. The address means something only where `addressed`, the value only where `served`.

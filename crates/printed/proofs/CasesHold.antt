@@ -1,0 +1,19 @@
+-- K1 to K10, proved together from the definitions, by computation.
+use mathlib.Core.Path.{refl}
+use Rattle.table.specs.Number.{numberUpTo, bytesUpTo}
+use Rattle.table.specs.Table.{pairsFault, seeing, groupFault, groupsFault, tableFault}
+use Rattle.table.specs.TableBytes.{readPairs, readGroup, readGroups, readTable}
+use Rattle.table.specs.Event.{readEvent, readHeader}
+use Rattle.queue.specs.Sound.{sound}
+use Rattle.queue.specs.Open.{openQueue}
+use Rattle.queue.specs.Activate.{activate}
+use Rattle.queue.specs.Arguments.{loadAddress, storeAddress, storeData}
+use Rattle.queue.specs.Serve.{serve}
+use Rattle.queue.specs.Write.{write}
+use Rattle.queue.specs.Take.{take}
+use Rattle.printed.specs.Text.{text}
+use Rattle.printed.specs.Cases.{AllCasesHold}
+
+pub all-cases-hold : AllCasesHold
+unfolding text numberUpTo bytesUpTo pairsFault seeing groupFault groupsFault tableFault readPairs readGroup readGroups readTable readEvent readHeader sound openQueue activate loadAddress storeAddress storeData serve write take
+all-cases-hold = refl

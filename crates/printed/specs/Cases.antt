@@ -1,0 +1,176 @@
+-- K1 to K10 of document 01: each case is its number, what the definitions give, and what the paper says.
+use Prim.Native.Nat.{ℕ}
+use mathlib.Core.Path.{_≡_}
+use mathlib.Core.List.{List, [], _∷_, _++_, map}
+use Rattle.table.specs.declared.Pair.{Pair}
+use Rattle.table.specs.Number.{Got, got, bad, readNumber, numberBytes}
+use Rattle.table.specs.Group.{GroupPairs, Access, load, store, order}
+use Rattle.table.specs.Table.{noneSeen}
+use Rattle.table.specs.TableBytes.{readGroup, readTable}
+use Rattle.queue.specs.declared.Counts.{Counts}
+use Rattle.queue.specs.Ruled.{number}
+use Rattle.queue.specs.Open.{openQueue}
+use Rattle.queue.specs.Counts.{share}
+use Rattle.printed.specs.Text.{text}
+
+pub record Case : Type 0 where
+  pub number : ℕ
+  pub given : List ℕ
+  pub expected : List ℕ
+
+abbrev case : ℕ → List ℕ → List ℕ → Case
+case n g e = record { number = n; given = g; expected = e }
+
+-- a refusal, where there is one; else 0
+abbrev pub refusalOf : {A : Type 0} → Got A → ℕ
+refusalOf (got a s) = 0
+refusalOf (bad n) = n
+
+-- an access as two numbers: 0 for a load or 1 for a store, and its port
+abbrev pub shownAccesses : List Access → List ℕ
+shownAccesses [] = []
+shownAccesses (load p ∷ rest) = 0 ∷ p ∷ shownAccesses rest
+shownAccesses (store p ∷ rest) = 1 ∷ p ∷ shownAccesses rest
+
+abbrev pub orderOf : Got GroupPairs → List ℕ
+orderOf (got g s) = shownAccesses (order g)
+orderOf (bad n) = []
+
+abbrev pub openedAt : ℕ → ℕ → ℕ → Got (List GroupPairs) → ℕ
+openedAt loads stores words (got gs s) = number (openQueue gs loads stores 0 words)
+openedAt loads stores words (bad n) = n
+
+-- K1's table, and its trace event by event
+abbrev pub k1Table : List ℕ
+k1Table = 0x02 ∷ 0x01 ∷ 0x01 ∷ 0x01 ∷ 0x00 ∷ 0x00 ∷ 0x01 ∷ 0x00 ∷ []
+
+abbrev pub k1Header : List ℕ
+k1Header = 0x02 ∷ 0x02 ∷ 0xFF ∷ 0xFF ∷ 0xFF ∷ 0xFF ∷ 0x0F ∷ 0x04 ∷ []
+
+abbrev pub k1Two : List ℕ
+k1Two = 0x00 ∷ 0x00 ∷ 0x00 ∷ 0x00 ∷ []
+
+abbrev pub k1Seven : List ℕ
+k1Seven = k1Two ++ 0x01 ∷ 0x00 ∷ 0x03 ∷ 0x01 ∷ 0x00 ∷ 0x03 ∷ 0x04 ∷ 0x00 ∷ 0x04 ∷ 0xFF ∷ 0xFF ∷ 0xFF ∷ 0xFF ∷ 0x0F ∷ 0x06 ∷ 0x00 ∷ []
+
+abbrev pub k1Trace : List ℕ
+k1Trace = k1Header ++ k1Seven ++ 0x02 ∷ 0x00 ∷ 0x03 ∷ 0x03 ∷ 0x00 ∷ 0x01 ∷ 0x04 ∷ 0x00 ∷ 0x05 ∷ 0xFF ∷ 0xFF ∷ 0xFF ∷ 0xFF ∷ 0x0F ∷ 0x06 ∷ 0x00 ∷ []
+
+-- 1 0 -
+abbrev pub k1Line1 : List ℕ
+k1Line1 = 49 ∷ 32 ∷ 48 ∷ 32 ∷ 45 ∷ 10 ∷ []
+
+-- 2 0 -
+abbrev pub k1Line2 : List ℕ
+k1Line2 = 50 ∷ 32 ∷ 48 ∷ 32 ∷ 45 ∷ 10 ∷ []
+
+-- 3 0 -
+abbrev pub k1Line3 : List ℕ
+k1Line3 = 51 ∷ 32 ∷ 48 ∷ 32 ∷ 45 ∷ 10 ∷ []
+
+-- 4 0 -
+abbrev pub k1Line4 : List ℕ
+k1Line4 = 52 ∷ 32 ∷ 48 ∷ 32 ∷ 45 ∷ 10 ∷ []
+
+-- 5 28 -
+abbrev pub k1Line5 : List ℕ
+k1Line5 = 53 ∷ 32 ∷ 50 ∷ 56 ∷ 32 ∷ 45 ∷ 10 ∷ []
+
+-- 6 0 0
+abbrev pub k1Line6 : List ℕ
+k1Line6 = 54 ∷ 32 ∷ 48 ∷ 32 ∷ 48 ∷ 10 ∷ []
+
+-- 7 0 0
+abbrev pub k1Line7 : List ℕ
+k1Line7 = 55 ∷ 32 ∷ 48 ∷ 32 ∷ 48 ∷ 10 ∷ []
+
+-- 8 0 -
+abbrev pub k1Line8 : List ℕ
+k1Line8 = 56 ∷ 32 ∷ 48 ∷ 32 ∷ 45 ∷ 10 ∷ []
+
+-- 9 0 -
+abbrev pub k1Line9 : List ℕ
+k1Line9 = 57 ∷ 32 ∷ 48 ∷ 32 ∷ 45 ∷ 10 ∷ []
+
+-- 10 0 1
+abbrev pub k1Line10 : List ℕ
+k1Line10 = 49 ∷ 48 ∷ 32 ∷ 48 ∷ 32 ∷ 49 ∷ 10 ∷ []
+
+-- 11 0 -
+abbrev pub k1Line11 : List ℕ
+k1Line11 = 49 ∷ 49 ∷ 32 ∷ 48 ∷ 32 ∷ 45 ∷ 10 ∷ []
+
+-- 12 0 1
+abbrev pub k1Line12 : List ℕ
+k1Line12 = 49 ∷ 50 ∷ 32 ∷ 48 ∷ 32 ∷ 49 ∷ 10 ∷ []
+
+-- word 3 1
+abbrev pub k1Line13 : List ℕ
+k1Line13 = 119 ∷ 111 ∷ 114 ∷ 100 ∷ 32 ∷ 51 ∷ 32 ∷ 49 ∷ 10 ∷ []
+
+-- loads 2 forwarded 1 share 500
+abbrev pub k1Line14 : List ℕ
+k1Line14 = 108 ∷ 111 ∷ 97 ∷ 100 ∷ 115 ∷ 32 ∷ 50 ∷ 32 ∷ 102 ∷ 111 ∷ 114 ∷ 119 ∷ 97 ∷ 114 ∷ 100 ∷ 101 ∷ 100 ∷ 32 ∷ 49 ∷ 32 ∷ 115 ∷ 104 ∷ 97 ∷ 114 ∷ 101 ∷ 32 ∷ 53 ∷ 48 ∷ 48 ∷ 10 ∷ []
+
+abbrev pub k1Text : List ℕ
+k1Text = (k1Line1 ++ (k1Line2 ++ (k1Line3 ++ (k1Line4 ++ (k1Line5 ++ (k1Line6 ++ (k1Line7 ++ (k1Line8 ++ (k1Line9 ++ (k1Line10 ++ (k1Line11 ++ (k1Line12 ++ (k1Line13 ++ k1Line14)))))))))))))
+
+-- loads 0 forwarded 0 share 0
+abbrev pub k0Line : List ℕ
+k0Line = 108 ∷ 111 ∷ 97 ∷ 100 ∷ 115 ∷ 32 ∷ 48 ∷ 32 ∷ 102 ∷ 111 ∷ 114 ∷ 119 ∷ 97 ∷ 114 ∷ 100 ∷ 101 ∷ 100 ∷ 32 ∷ 48 ∷ 32 ∷ 115 ∷ 104 ∷ 97 ∷ 114 ∷ 101 ∷ 32 ∷ 48 ∷ 10 ∷ []
+
+-- loads 1 forwarded 0 share 0
+abbrev pub k0Second : List ℕ
+k0Second = 108 ∷ 111 ∷ 97 ∷ 100 ∷ 115 ∷ 32 ∷ 49 ∷ 32 ∷ 102 ∷ 111 ∷ 114 ∷ 119 ∷ 97 ∷ 114 ∷ 100 ∷ 101 ∷ 100 ∷ 32 ∷ 48 ∷ 32 ∷ 115 ∷ 104 ∷ 97 ∷ 114 ∷ 101 ∷ 32 ∷ 48 ∷ 10 ∷ []
+
+-- K8: a third activation, after event 2 and after event 7; K9: address 4
+abbrev pub k8First : List ℕ
+k8First = k1Line1 ++ k1Line2 ++ 51 ∷ 32 ∷ 50 ∷ 49 ∷ 32 ∷ 45 ∷ 10 ∷ k0Line
+
+abbrev pub k8Second : List ℕ
+k8Second = k1Line1 ++ (k1Line2 ++ (k1Line3 ++ (k1Line4 ++ (k1Line5 ++ (k1Line6 ++ (k1Line7 ++ 56 ∷ 32 ∷ 50 ∷ 49 ∷ 32 ∷ 45 ∷ 10 ∷ k0Second))))))
+
+abbrev pub k9Text : List ℕ
+k9Text = k1Line1 ++ k1Line2 ++ 51 ∷ 32 ∷ 50 ∷ 51 ∷ 32 ∷ 45 ∷ 10 ∷ k0Line
+
+-- K5's group, and K6's
+abbrev pub k5Group : List ℕ
+k5Group = 2 ∷ 2 ∷ 0 ∷ 4 ∷ 2 ∷ 5 ∷ 1 ∷ 3 ∷ 1 ∷ 4 ∷ []
+
+abbrev pub k6Group : List ℕ
+k6Group = 2 ∷ 2 ∷ 0 ∷ 4 ∷ 2 ∷ 5 ∷ 0 ∷ 3 ∷ 1 ∷ 4 ∷ []
+
+-- THE CASES.
+abbrev pub cases : List Case
+cases =
+    -- K1: the whole printed text, from the bytes of both files
+    case 1 (text k1Table k1Trace) k1Text
+    -- K2: 127 is 7F; K3: 128 is 80 01
+    ∷ case 2 (numberBytes 127) (0x7F ∷ [])
+    ∷ case 3 (numberBytes 128) (0x80 ∷ 0x01 ∷ [])
+    -- K4: FF FF FF FF 10 gets 2
+    ∷ case 4 (refusalOf (readNumber (0xFF ∷ 0xFF ∷ 0xFF ∷ 0xFF ∷ 0x10 ∷ [])) ∷ []) (2 ∷ [])
+    -- K5: group 2,2,0,4,2,5,1,3,1,4 is load 4, store 3, store 4, load 5
+    ∷ case 5 (orderOf (readGroup noneSeen k5Group)) (shownAccesses (load 4 ∷ store 3 ∷ store 4 ∷ load 5 ∷ []))
+    -- K6: with first store offset 0 it gets 8
+    ∷ case 6 (refusalOf (readGroup noneSeen k6Group) ∷ []) (8 ∷ [])
+    -- K7: K5, alone in its table, opened at load depth 1 with store depth 2 and memory length 4 gets 14
+    ∷ case 7 (openedAt 1 2 4 (readTable (2 ∷ 1 ∷ k5Group)) ∷ []) (14 ∷ [])
+    -- K8: a third activation after K1's event 2, or after event 7, gets 21
+    ∷ case 8 (text k1Table (k1Header ++ k1Two ++ 0x00 ∷ 0x00 ∷ [])) k8First
+    ∷ case 8 (text k1Table (k1Header ++ k1Seven ++ 0x00 ∷ 0x00 ∷ [])) k8Second
+    -- K9: in K1 address 4 gets 23
+    ∷ case 9 (text k1Table (k1Header ++ k1Two ++ 0x01 ∷ 0x00 ∷ 0x04 ∷ [])) k9Text
+    -- K10: share of 1 in 16 is 63
+    ∷ case 10 (share (record { loads = 16; forwarded = 1 }) ∷ []) (63 ∷ [])
+    ∷ []
+
+abbrev pub givenOf : Case → List ℕ
+givenOf c = c .given
+
+abbrev pub expectedOf : Case → List ℕ
+expectedOf c = c .expected
+
+-- every case is as the paper says
+abbrev pub AllCasesHold : Type 0
+AllCasesHold = map givenOf cases ≡ map expectedOf cases

@@ -1,0 +1,6 @@
+-- The printed run, in the order of document 01.
+pub mod Words
+pub mod Decimal
+pub mod Played
+pub mod Text
+pub mod Cases

@@ -1,0 +1,1 @@
+// The printed run: the text that `play` prints of a table and a trace.

@@ -26,6 +26,11 @@ abbrev pub refusalOf : {A : Type 0} → Got A → ℕ
 refusalOf (got a s) = 0
 refusalOf (bad n) = n
 
+-- the number read, where there is one
+abbrev pub numberOf : Got ℕ → List ℕ
+numberOf (got n s) = n ∷ []
+numberOf (bad k) = []
+
 -- an access as two numbers: 0 for a load or 1 for a store, and its port
 abbrev pub shownAccesses : List Access → List ℕ
 shownAccesses [] = []
@@ -147,7 +152,9 @@ cases =
     case 1 (text k1Table k1Trace) k1Text
     -- K2: 127 is 7F; K3: 128 is 80 01
     ∷ case 2 (numberBytes 127) (0x7F ∷ [])
+    ∷ case 2 (numberOf (readNumber (0x7F ∷ []))) (127 ∷ [])
     ∷ case 3 (numberBytes 128) (0x80 ∷ 0x01 ∷ [])
+    ∷ case 3 (numberOf (readNumber (0x80 ∷ 0x01 ∷ []))) (128 ∷ [])
     -- K4: FF FF FF FF 10 gets 2
     ∷ case 4 (refusalOf (readNumber (0xFF ∷ 0xFF ∷ 0xFF ∷ 0xFF ∷ 0x10 ∷ [])) ∷ []) (2 ∷ [])
     -- K5: group 2,2,0,4,2,5,1,3,1,4 is load 4, store 3, store 4, load 5
@@ -161,6 +168,7 @@ cases =
     ∷ case 8 (text k1Table (k1Header ++ k1Seven ++ 0x00 ∷ 0x00 ∷ [])) k8Second
     -- K9: in K1 address 4 gets 23
     ∷ case 9 (text k1Table (k1Header ++ k1Two ++ 0x01 ∷ 0x00 ∷ 0x04 ∷ [])) k9Text
+    ∷ case 9 (text k1Table (k1Header ++ k1Two ++ 0x02 ∷ 0x00 ∷ 0x04 ∷ [])) k9Text
     -- K10: share of 1 in 16 is 63
     ∷ case 10 (share (record { loads = 16; forwarded = 1 }) ∷ []) (63 ∷ [])
     ∷ []

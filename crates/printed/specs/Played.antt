@@ -2,6 +2,7 @@
 use Prim.Native.Nat.{ℕ, zero, suc}
 use mathlib.Core.List.{List, [], _∷_}
 use mathlib.Core.Option.{Option}
+use Rattle.table.specs.Refusal.{ended}
 use Rattle.table.specs.Number.{Got, got, bad, andThen}
 use Rattle.table.specs.TableBytes.{before}
 use Rattle.table.specs.declared.Event.{Event}
@@ -20,7 +21,7 @@ unlessEnd (b ∷ s) rest = rest
 
 -- "Events to the end of the bytes", or the first fault: at most so many, and an event takes a byte at least.
 abbrev pub eventsUpTo : ℕ → List ℕ → Got (List Event)
-eventsUpTo zero s = got [] s
+eventsUpTo zero s = unlessEnd s (bad ended)
 eventsUpTo (suc most) s = unlessEnd s (andThen (readEvent s) λ e rest. before e (eventsUpTo most rest))
 
 -- the call that an event stands for

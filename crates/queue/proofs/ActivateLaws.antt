@@ -13,7 +13,8 @@ use Rattle.table.specs.declared.Group.{Group}
 use Rattle.table.specs.Group.{GroupPairs, blankPair, listOf, pairsOf, Access, load, store, order}
 use Rattle.table.specs.Table.{blankGroup, groupsOf}
 use Rattle.table.proofs.CheckLaws.{groups-size}
-use Rattle.table.proofs.OrderOffsets.{loadPairs, storePairs, GroupRight}
+use Rattle.table.specs.ProgramOrder.{loadPairs, storePairs}
+use Rattle.table.proofs.OrderOffsets.{GroupRight}
 use Rattle.queue.specs.declared.Loads.{Loads}
 use Rattle.queue.specs.declared.Stores.{Stores}
 use Rattle.queue.specs.declared.Queue.{Queue}

@@ -11,7 +11,7 @@ use Rattle.table.specs.Group.{GroupPairs}
 use Rattle.queue.specs.Contents.{Contents}
 use Rattle.queue.specs.Sound.{addressRight, loadRight, storeRight, sound}
 use Rattle.queue.specs.Call.{Call, Machine, leaves}
-use Rattle.queue.specs.Demand3.{Opening}
+use Rattle.queue.specs.Demand3.{ReachedSound, Opening}
 use Rattle.queue.proofs.Lists.{and-both, all-weaken, all-weaken₂}
 use Rattle.queue.proofs.Log.{Entry, loads, stores, ownIn, loads-stores, stores-loads}
 use Rattle.queue.proofs.Window.{window-before, before-queued, remembered-held}
@@ -50,7 +50,7 @@ holds-sound q m memory log h =
         (all-weaken (rightStore words) (λ s. addressRight words (s .address)) (store-in-range words) (ownIn stores log) (h .rightStores)))
 
 -- The queue that a list of calls leaves is sound.
-pub reached-sound : (groups : List GroupPairs) (memory : List ℕ) (m : Machine) → Opening groups memory m → (calls : List Call) → sound (leaves m calls .queue) ≡ true
+pub reached-sound : ReachedSound
 reached-sound groups memory m o calls =
     let st : State groups memory _ (leaves m calls) = reached o calls in
     holds-sound (leaves m calls .queue) (leaves m calls .memory) memory (st .log) (st .holds)

@@ -16,6 +16,6 @@ counted forwarded c =
     pick (full (c .loads) || full (c .forwarded)) c
     (record { loads = c .loads + 1; forwarded = pick forwarded (c .forwarded + 1) (c .forwarded) })
 
--- the nearest whole number of thousandths, half going up: twice the quotient, and one more, halved
+-- the nearest whole number of thousandths, half going up: 1000 * forwarded / loads + 1 / 2, rounded down
 abbrev pub share : Counts → ℕ
 share c = pick (eqb (c .loads) 0) 0 ((2000 * c .forwarded + c .loads) / (2 * c .loads))

@@ -17,6 +17,7 @@ use Rattle.table.specs.Basics.{pick, count, nth}
 use Rattle.table.specs.Group.{GroupPairs, Access, load, store}
 use Rattle.queue.specs.Ruled.{accept, number}
 use Rattle.queue.specs.Contents.{Contents}
+use Rattle.queue.specs.Sound.{sound}
 use Rattle.queue.specs.Open.{openQueue}
 use Rattle.queue.specs.Serve.{serve}
 use Rattle.queue.specs.Write.{write}
@@ -118,6 +119,10 @@ Demand3 =
     (groups : List GroupPairs) (memory : List ℕ) (m : Machine) → Opening groups memory m →
     (calls : List Call) (fill : Filling) → ((k : ℕ) → fill .address k < length memory) →
     Sequential groups memory (answers m calls) (leaves m calls) fill
+
+-- No queue that a list of calls leads to is refused for its record: none of them gets 40.
+abbrev pub ReachedSound : Type 0
+ReachedSound = (groups : List GroupPairs) (memory : List ℕ) (m : Machine) → Opening groups memory m → (calls : List Call) → sound (leaves m calls .queue) ≡ true
 
 -- "So two lists alike in table, opening memory, accepted activations and each port's accepted arguments give a port's nth
 -- take the same value, where both have one." The depths and first serials may differ, and so may all else in the lists.

@@ -12,21 +12,11 @@ use borrow.Author.Tests.{le-leb, lt-leb, leb-true, leb-false, eqb-true, ne-eqb}
 use Rattle.table.specs.declared.Pair.{Pair}
 use Rattle.table.specs.Refusal.{badGroupCount, badCounts}
 use Rattle.table.specs.Basics.{pick, count, takeWhile, dropWhile, within, check, orElse}
+use Rattle.table.specs.ProgramOrder.{loadPairs, storePairs, OffsetsCountOrder}
 use Rattle.table.specs.Group.{GroupPairs, blankPair, Access, load, store, asLoad, beforeStore, orderFrom, order}
 use Rattle.table.specs.Table.{loadRule, storeRule, pairFault, pairsFault, countsRight, Seen, noneSeen, seenAfter, groupFault, groupsFault, tableFault}
 use Rattle.table.proofs.CheckLaws.{and-left, and-right, fault-none, counts-few, count-most}
 use Rattle.table.proofs.Order.{takeWhile-dropWhile}
-
--- The loads among accesses, each with its port and the number of stores before it; the stores likewise.
-abbrev pub loadPairs : ℕ → List Access → List Pair
-loadPairs stores [] = []
-loadPairs stores (load p ∷ rest) = record { offset = stores; port = p } ∷ loadPairs stores rest
-loadPairs stores (store p ∷ rest) = loadPairs (suc stores) rest
-
-abbrev pub storePairs : ℕ → List Access → List Pair
-storePairs loads [] = []
-storePairs loads (load p ∷ rest) = storePairs (suc loads) rest
-storePairs loads (store p ∷ rest) = record { offset = loads; port = p } ∷ storePairs loads rest
 
 -- ---- loads
 
@@ -219,3 +209,7 @@ module _ (gs : List GroupPairs) (e : tableFault gs ≡ 0) where
   pub table-group-right : (i : ℕ) (d : GroupPairs) → i < length gs → GroupRight (getD gs i d)
   unfolding tableFault
   table-group-right = groups-right noneSeen gs (check-right (within 1 16 (length gs)) badGroupCount (groupsFault noneSeen gs) (λ z. omega arith) e)
+
+-- the offsets of a right table say just what its program order says
+pub offsets-count-order : OffsetsCountOrder
+offsets-count-order gs e i d h = let r = table-group-right gs e i d h in (r .loads-are, r .stores-are)

@@ -4,6 +4,7 @@ pub mod Refusal
 pub mod Number
 pub mod Group
 pub mod Table
+pub mod ProgramOrder
 pub mod TableBytes
 pub mod Event
 pub mod Reader

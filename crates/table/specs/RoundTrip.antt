@@ -1,5 +1,5 @@
--- What reading and writing promise together. Document 01: "writing and reading back returns the same", "a reader accepts
--- padding; the writer uses the fewest bytes". The proofs are proofs/RoundTrip.antt.
+-- What reading and writing promise together: what is written is read back, and what is read means what it spells. Document
+-- 01: "a reader accepts padding; the writer uses the fewest bytes". The proofs are proofs/RoundTrip.antt and RoundTripLaws.antt.
 use Prim.Native.Nat.{ℕ, _+_, _≤_, _<_, _^_}
 use mathlib.Core.Path.{_≡_}
 use mathlib.Core.Bool.{Bool, true}

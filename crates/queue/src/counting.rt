@@ -1,6 +1,6 @@
 // The counts: loads served, and loads forwarded.
 ghost use mathlib.Core.Path.{_≡_};
-ghost use Rattle.queue.specs.Counts.{counted};
+ghost use Rattle.queue.specs.Counts.{counted, share};
 use crate::Counts;
 
 // One more load is served. "When either stands at 4294967295 both stop."
@@ -23,4 +23,16 @@ pub fn counted(counts: Counts, forwarded: bool) -> Counts
         loads: counts.loads + 1,
         forwarded: counts.forwarded,
     }
+}
+
+// Thousandths of the loads that were forwarded, to the nearest, half going up; 0 for no loads.
+pub fn share(counts: Counts) -> u64
+    ensures { λ r. ⌜ r ≡ share counts ⌝ }
+{
+    if counts.loads == 0 {
+        return 0;
+    }
+    let loads = counts.loads as u64;
+    let forwarded = counts.forwarded as u64;
+    (2000 * forwarded + loads) / (2 * loads)
 }

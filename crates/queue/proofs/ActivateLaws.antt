@@ -1,13 +1,12 @@
 -- Activation by the record: room by the counts, and the new entries by their offsets.
-use Prim.Native.Nat.{ℕ, zero, suc, _+_, _≤_, _<_}
+use Prim.Native.Nat.{ℕ, suc, _+_, _≤_, _<_}
 use native.Mathlib.Nat.{le-trans, add-zero, add-suc}
 use mathlib.Core.Path.{_≡_, refl, sym, ap, _∙_}
-use mathlib.Core.Bool.{Bool, true, false, _&&_}
-use mathlib.Core.List.{List, [], _∷_, _++_, map}
+use mathlib.Core.Bool.{true, false, _&&_}
+use mathlib.Core.List.{List, [], _∷_, map}
 use lib.Dec.{leb}
 use lib.ListN.{length, getD}
 use borrow.Author.Tests.{leb-true}
-use Rattle.table.specs.declared.Pair.{Pair}
 use Rattle.table.specs.declared.Pairs.{Pairs}
 use Rattle.table.specs.declared.Group.{Group}
 use Rattle.table.specs.Group.{GroupPairs, blankPair, listOf, pairsOf, Access, load, store, order}
@@ -18,7 +17,7 @@ use Rattle.table.proofs.OrderOffsets.{GroupRight}
 use Rattle.queue.specs.declared.Loads.{Loads}
 use Rattle.queue.specs.declared.Stores.{Stores}
 use Rattle.queue.specs.declared.Queue.{Queue}
-use Rattle.queue.specs.Contents.{Load, Store, Contents, loadOf, storeOf, blankLoad, blankStore, contentsOf}
+use Rattle.queue.specs.Contents.{Contents, loadOf, storeOf, blankLoad, blankStore, contentsOf}
 use Rattle.queue.specs.Refusal.{unsound, noGroup, noPlace}
 use Rattle.queue.specs.Ruled.{refuse, accept, need}
 use Rattle.queue.specs.Sound.{sound}

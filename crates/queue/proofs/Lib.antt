@@ -13,6 +13,7 @@ pub mod SettleLaws
 pub mod ServeLaws
 pub mod WriteLaws
 pub mod TakeLaws
+pub mod ReadyLaws
 -- demand 3, from the ground up
 pub mod Lists
 pub mod Log

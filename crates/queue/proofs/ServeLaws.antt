@@ -14,7 +14,7 @@ use Rattle.queue.specs.declared.LoadEntry.{LoadEntry}
 use Rattle.queue.specs.declared.Queue.{Queue}
 use Rattle.queue.specs.Refusal.{unsound, wrongMemory, noSerial, alreadyDone, noAddress, earlierStoreUnknown, noData}
 use Rattle.queue.specs.Ruled.{Ruled, refuse, accept, need, andThen}
-use Rattle.queue.specs.Contents.{Store, Contents, loadOf, storeOf, blankLoad, blankStore, contentsOf, age, oldest}
+use Rattle.queue.specs.Contents.{Store, Contents, loadOf, storeOf, blankLoad, blankStore, contentsOf, age, oldest, loadPlace}
 use Rattle.queue.specs.Sound.{sound}
 use Rattle.queue.specs.Serve.{Served, hasAddress, nearest, sourceOf, serve}
 use Rattle.queue.specs.Internal.{sideOf}
@@ -28,7 +28,7 @@ bySupply q memory place a NoStore = accept (servedWith q place (getD memory a 0)
 bySupply q memory place a NoWord = refuse noData
 bySupply q memory place a (Forwarded w) = accept (servedWith q place w true)
 
-by-supply : (q : Contents) (memory : List ℕ) (place a : ℕ) (ss : List Store)
+pub by-supply : (q : Contents) (memory : List ℕ) (place a : ℕ) (ss : List Store)
     → need (all hasAddress ss) earlierStoreUnknown (andThen (sourceOf memory a (nearest a none ss)) λ v. accept (servedWith q place (v .value) (v .forwarded)))
     ≡ bySupply q memory place a (supplyFrom a ss)
 by-supply q memory place a ss = go (all hasAddress ss) (nearest a none ss)
@@ -64,6 +64,11 @@ module _ (q : Queue) (memory : List ℕ) (place : ℕ) where
         rw (here, s, a, t) (by-supply (contentsOf q) memory place (e .address) (sideOf storeOf blankStore (e .before) (q .stores .entries)))
 
 -- ---- 40 and 30, and the place that a serial names
+pub serve-by-place : (q : Contents) (memory : List ℕ) (serial : ℕ) → sound q ≡ true → length memory ≡ q .memoryLength
+    → serve q memory serial ≡ serveAt q memory (loadPlace q serial)
+unfolding serve
+serve-by-place q memory serial right e = rw (right, eq-eqb (length memory) (q .memoryLength) e)
+
 module _ (q : Queue) (memory : List ℕ) (serial : ℕ) where
   pub serve-unsound : sound (contentsOf q) ≡ false → serve (contentsOf q) memory serial ≡ refuse unsound
   unfolding serve
@@ -75,5 +80,6 @@ module _ (q : Queue) (memory : List ℕ) (serial : ℕ) where
     serve-memory e = rw (right, words-held q, ne-eqb (length memory) (q .words) e)
 
     pub serve-place : length memory ≡ q .words → serve (contentsOf q) memory serial ≡ serveAt (contentsOf q) memory (age (oldest (q .loads .next) (q .loads .count)) serial)
-    unfolding serve
-    serve-place e = rw (right, eq-eqb (length memory) (contentsOf q .memoryLength) (e ∙ sym (words-held q))) (ap (serveAt (contentsOf q) memory) (load-place q serial))
+    serve-place e =
+        serve-by-place (contentsOf q) memory serial right (e ∙ sym (words-held q))
+        ∙ ap (serveAt (contentsOf q) memory) (load-place q serial)

@@ -1,19 +1,17 @@
 -- What a sound queue's record is: its limits, the limits of its entries, and its table.
 use Prim.Native.Nat.{ℕ, zero, suc, _≤_, _<_}
 use native.Mathlib.Nat.{le-trans, not-suc-le-zero, le-of-suc-le-suc}
-use mathlib.Core.Path.{_≡_, refl, sym, ap, _∙_}
+use mathlib.Core.Path.{_≡_, refl, sym, _∙_}
 use mathlib.Core.Bool.{Bool, true, false, _&&_}
-use mathlib.Core.List.{List, [], _∷_, map}
-use mathlib.Core.Option.{Option, none, some}
-use lib.Dec.{leb, ltb, eqb}
+use mathlib.Core.List.{List, [], _∷_}
+use mathlib.Core.Option.{none, some}
+use lib.Dec.{leb, eqb}
 use lib.ListN.{length, getD}
 use borrow.Author.Tests.{leb-true, ltb-true, eqb-true}
 use Rattle.table.specs.Basics.{pick, all, within}
 use Rattle.table.specs.Table.{groupsOf, tableFault}
-use Rattle.queue.specs.declared.LoadEntry.{LoadEntry}
-use Rattle.queue.specs.declared.StoreEntry.{StoreEntry}
 use Rattle.queue.specs.declared.Queue.{Queue}
-use Rattle.queue.specs.Contents.{Load, Store, Contents, loadOf, storeOf, blankLoad, blankStore, contentsOf}
+use Rattle.queue.specs.Contents.{loadOf, storeOf, blankLoad, blankStore, contentsOf}
 use Rattle.queue.specs.Sound.{depthRight, memoryRight, addressRight, loadRight, storeRight, sound}
 use Rattle.queue.specs.Internal.{sideOf, loadsOf, storesOf}
 use Rattle.queue.proofs.Lists.{false-true, and-left, and-right}

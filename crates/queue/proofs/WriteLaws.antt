@@ -133,6 +133,12 @@ module _ (q : Queue) (memory : List ℕ) (place : ℕ) where
         ∙ ap (λ (l : List Store). andThen (mayWrite (sideOf loadOf blankLoad (e .before) (q .loads .entries)) l (storeOf e)) λ p. accept (writtenWith (contentsOf q) memory place p)) ss
 
 -- ---- 40 and 30, and the place that a serial names
+pub write-by-place : (q : Contents) (memory : List ℕ) (serial : ℕ) → sound q ≡ true → length memory ≡ q .memoryLength
+    → write q memory serial ≡ writeAt q memory (storePlace q serial)
+unfolding write
+write-by-place q memory serial right e =
+    rw (right, eq-eqb (length memory) (q .memoryLength) e) (write-rest q memory (storePlace q serial) (nth (q .stores) (storePlace q serial)))
+
 module _ (q : Queue) (memory : List ℕ) (serial : ℕ) where
   pub write-unsound : sound (contentsOf q) ≡ false → write (contentsOf q) memory serial ≡ refuse unsound
   unfolding write
@@ -144,8 +150,6 @@ module _ (q : Queue) (memory : List ℕ) (serial : ℕ) where
     write-memory e = rw (right, words-held q, ne-eqb (length memory) (q .words) e)
 
     pub write-place : length memory ≡ q .words → write (contentsOf q) memory serial ≡ writeAt (contentsOf q) memory (age (oldest (q .stores .next) (q .stores .count)) serial)
-    unfolding write
     write-place e =
-        rw (right, eq-eqb (length memory) (contentsOf q .memoryLength) (e ∙ sym (words-held q)))
-        (write-rest (contentsOf q) memory (storePlace (contentsOf q) serial) (nth (contentsOf q .stores) (storePlace (contentsOf q) serial))
-        ∙ ap (writeAt (contentsOf q) memory) (store-place q serial))
+        write-by-place (contentsOf q) memory serial right (e ∙ sym (words-held q))
+        ∙ ap (writeAt (contentsOf q) memory) (store-place q serial)

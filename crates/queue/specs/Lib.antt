@@ -13,6 +13,7 @@ pub mod Take
 pub mod Ready
 pub mod Counts
 pub mod Outcome
+pub mod ReadyOutcome
 pub mod Call
 pub mod Plain
 pub mod Demand3
@@ -22,3 +23,4 @@ pub mod InternalActivate
 pub mod InternalArguments
 pub mod InternalServe
 pub mod InternalWrite
+pub mod InternalReady

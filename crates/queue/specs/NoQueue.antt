@@ -7,7 +7,6 @@ use Rattle.table.specs.TableBytes.{pack}
 use Rattle.queue.specs.declared.Loads.{Loads}
 use Rattle.queue.specs.declared.Stores.{Stores}
 use Rattle.queue.specs.declared.Queue.{Queue}
-use Rattle.queue.specs.declared.Opened.{Opened}
 use Rattle.queue.specs.Contents.{blankLoad, blankStore}
 
 -- a side of so many places, whose series begins at this serial

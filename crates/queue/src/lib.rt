@@ -8,6 +8,7 @@ pub mod arguments;
 pub mod counting;
 pub mod opening;
 pub mod ports;
+pub mod ready;
 pub mod refusal;
 pub mod serial;
 pub mod serving;
@@ -94,4 +95,11 @@ pub struct Counted {
     pub value: Value,
     pub queue: Queue,
     pub counts: Counts,
+}
+
+// What a ready call hands back where the caller keeps the run of numbers: how many serials stand at its front.
+pub struct Readied {
+    pub answer: u8,
+    pub count: usize,
+    pub queue: Queue,
 }

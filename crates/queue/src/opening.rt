@@ -5,7 +5,7 @@ ghost use Prim.Native.Nat.{_≤_};
 ghost use Rattle.table.specs.Basics.{all};
 ghost use Rattle.table.specs.Group.{pairsOf};
 ghost use Rattle.table.specs.Table.{groupsOf};
-ghost use Rattle.table.specs.TableBytes.{packPairs, pack};
+ghost use Rattle.table.specs.TableBytes.{pack};
 ghost use Rattle.queue.specs.Open.{groupFits, openQueue};
 ghost use Rattle.queue.specs.NoQueue.{freshLoads, freshStores, freshQueue, noQueue};
 ghost use Rattle.queue.specs.Outcome.{Opens};

@@ -1,14 +1,12 @@
 -- Each test that is left behind is a step of the rule; the test that fails is its refusal.
-use Prim.Native.Nat.{_≤_}
 use mathlib.Core.Path.{_≡_, refl, sym, _∙_}
-use mathlib.Core.Bool.{true, false}
+use mathlib.Core.Bool.{true}
 use native.Mathlib.Omega.{arith}
 use borrow.Author.Tests.{not-true, not-false, ne-eqb}
-use Rattle.table.specs.Basics.{all}
 use Rattle.table.specs.Table.{groupsOf, tableFault}
 use Rattle.queue.specs.Contents.{contentsOf}
 use Rattle.queue.specs.Sound.{depthRight, memoryRight}
-use Rattle.queue.specs.Open.{groupFits, openQueue}
+use Rattle.queue.specs.Open.{openQueue}
 use Rattle.queue.proofs.SoundLaws.{within-most}
 use Rattle.queue.proofs.GroupLaws.{groups-few}
 use borrow.Author.Needs.{needs}

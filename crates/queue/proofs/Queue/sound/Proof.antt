@@ -1,7 +1,7 @@
 -- Each test that is left behind makes one part of the check true; the test that fails makes the whole false.
 use Prim.Native.Nat.{_≤_}
 use mathlib.Core.Path.{_≡_, sym, _∙_}
-use mathlib.Core.Bool.{true, false, _&&_}
+use mathlib.Core.Bool.{true, _&&_}
 use native.Mathlib.Nat.{le-trans}
 use lib.Dec.{leb}
 use borrow.Author.Tests.{not-true, not-false, le-leb, lt-leb}

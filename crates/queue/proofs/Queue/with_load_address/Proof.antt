@@ -1,9 +1,8 @@
-use Prim.Native.Nat.{_≤_}
 use mathlib.Core.Path.{_≡_, refl}
 use native.Mathlib.Omega.{arith}
 use lib.ListN.{length}
 use Rattle.table.proofs.CheckLaws.{long}
-use Rattle.queue.specs.Contents.{loadOf, blankLoad, contentsOf}
+use Rattle.queue.specs.Contents.{loadOf, blankLoad}
 use Rattle.queue.specs.Arguments.{loadWithAddress}
 use Rattle.queue.proofs.ContentsLaws.{loads-changed, side-update, loads-held}
 use borrow.Author.Needs.{needs}

@@ -1,4 +1,3 @@
-use mathlib.Core.Path.{_≡_}
 use borrow.Author.Tests.{eq-eqb, ne-eqb}
 use Rattle.queue.specs.Contents.{storeOf}
 use Rattle.queue.proofs.ArgumentLaws.{marked, other-port}

@@ -1,0 +1,259 @@
+-- What serve and write accept goes by the entry and the entries before it, and not by the memory's words; and the serials that
+-- pass, gathered from the oldest.
+use Prim.Native.Nat.{ℕ, zero, suc, _+_, _-_, _%_, _^_, _≤_, _<_}
+use native.Mathlib.Nat.{sub-zero, not-suc-le-zero, le-of-suc-le-suc}
+use native.Mathlib.Numerals.{add-one}
+use native.Mathlib.Omega.{arith}
+use mathlib.Core.Path.{_≡_, refl, sym, ap, _∙_}
+use mathlib.Core.Bool.{Bool, true, false, not, _&&_, _||_}
+use mathlib.Core.List.{List, [], _∷_, _++_, append-assoc, append-nil}
+use mathlib.Core.Option.{Option, none, some}
+use lib.Dec.{eqb, ltb}
+use lib.ListN.{length, getD, take, drop, set, length-append, length-drop, length-replicate}
+use lib.Seq.{length-take-le}
+use borrow.Author.Tests.{not-true, lt-leb, le-leb}
+use Rattle.table.specs.Basics.{pick, any, all, nth, filter}
+use Rattle.queue.specs.declared.serving.Supply.{Supply}
+use Rattle.queue.specs.declared.serving.Supply.the-variants.{Unknown, NoStore, NoWord, Forwarded}
+use Rattle.queue.specs.declared.ready.Serials.{Serials}
+use Rattle.queue.specs.declared.LoadEntry.{LoadEntry}
+use Rattle.queue.specs.declared.Queue.{Queue}
+use Rattle.table.specs.Refusal.{tooShort}
+use Rattle.queue.specs.Refusal.{unsound, noSerial, alreadyDone, noAddress, earlierStoreUnknown}
+use Rattle.queue.specs.Ruled.{Ruled, refuse, accept, need, have, andThen, accepted, isSome, number}
+use Rattle.queue.specs.Contents.{Load, Store, Contents, loadOf, storeOf, blankLoad, blankStore, contentsOf, after, age, oldest, loadPlace, storePlace}
+use Rattle.queue.specs.Sound.{sound}
+use Rattle.queue.specs.Serve.{hasAddress, nearest, sourceOf, storesBefore, serve}
+use Rattle.queue.specs.Write.{loadGivesWay, storeGivesWay, write}
+use Rattle.queue.specs.Ready.{serials, anyMemory, wouldServe, wouldWrite, servable, writable, readyLoads, readyStores}
+use Rattle.queue.specs.ReadyOutcome.{ReadyWell}
+use Rattle.queue.specs.Internal.{sideOf}
+use Rattle.queue.specs.InternalServe.{supplyFrom, servedWith, serveAt}
+use Rattle.queue.specs.InternalWrite.{Put, mayWrite, mayWriteAt, writtenWith, writeAt}
+use Rattle.queue.specs.InternalReady.{supplyReady, addressReady, loadReady, loadReadyAt, storeReadyAt, listed, Noted, Lists}
+use Rattle.queue.proofs.ContentsLaws.{side-length, side-nth, side-take, loads-held, stores-held, load-place, store-place}
+use Rattle.queue.proofs.Refusals.{proper, need-proper, have-proper}
+use Rattle.queue.proofs.Progress.{place-of-serial, oldest-small}
+use Rattle.queue.proofs.ServeLaws.{bySupply, by-supply, serve-by-place}
+use Rattle.queue.proofs.WriteLaws.{write-by-place, write-held}
+
+-- ---- serving
+abbrev readyIn : Contents → Option Load → Bool
+readyIn q none = false
+readyIn q (some l) = loadReady (storesBefore q l) l
+
+serve-accepts : (q : Contents) (memory : List ℕ) (place : ℕ) → accepted (serveAt q memory place) ≡ readyIn q (nth (q .loads) place)
+serve-accepts q memory place = go (nth (q .loads) place)
+  where
+    supplied : (a : ℕ) (s : Supply) → accepted (bySupply q memory place a s) ≡ supplyReady s
+    supplied a Unknown = refl
+    supplied a NoStore = refl
+    supplied a NoWord = refl
+    supplied a (Forwarded w) = refl
+
+    at : (ss : List Store) (value address : Option ℕ)
+        → accepted (need (not (isSome value)) alreadyDone
+        (have address noAddress λ a.
+        need (all hasAddress ss) earlierStoreUnknown
+        (andThen (sourceOf memory a (nearest a none ss)) λ v. accept (servedWith q place (v .value) (v .forwarded)))))
+        ≡ (not (isSome value) && addressReady ss address)
+    at ss (some v) address = refl
+    at ss none none = refl
+    at ss none (some a) = ap accepted (by-supply q memory place a ss) ∙ supplied a (supplyFrom a ss)
+
+    go : (o : Option Load)
+        → accepted (have o noSerial λ l.
+        need (not (isSome (l .value))) alreadyDone
+        (have (l .address) noAddress λ a.
+        need (all hasAddress (storesBefore q l)) earlierStoreUnknown
+        (andThen (sourceOf memory a (nearest a none (storesBefore q l))) λ v. accept (servedWith q place (v .value) (v .forwarded)))))
+        ≡ readyIn q o
+    go none = refl
+    go (some l) = at (storesBefore q l) (l .value) (l .address)
+
+module _ (q : Contents) (right : sound q ≡ true) (serial : ℕ) where
+  pub serve-ready : (memory : List ℕ) → length memory ≡ q .memoryLength → accepted (serve q memory serial) ≡ readyIn q (nth (q .loads) (loadPlace q serial))
+  serve-ready memory e = ap accepted (serve-by-place q memory serial right e) ∙ serve-accepts q memory (loadPlace q serial)
+
+  pub would-serve : wouldServe q serial ≡ readyIn q (nth (q .loads) (loadPlace q serial))
+  would-serve = serve-ready (anyMemory q) (length-replicate (q .memoryLength) 0)
+
+-- the load at a place of a record
+pub would-serve-at : (q : Queue) → sound (contentsOf q) ≡ true → q .loads .count ≤ length (q .loads .entries) → q .stores .count ≤ length (q .stores .entries)
+    → (i : ℕ) → i < q .loads .count → i < 2 ^ 32 → getD (q .loads .entries) i blankLoad .before ≤ q .stores .count
+    → wouldServe (contentsOf q) (after (oldest (q .loads .next) (q .loads .count)) i)
+    ≡ loadReadyAt (q .loads) (q .stores) i
+would-serve-at q right w v i k small b =
+    let e : LoadEntry = getD (q .loads .entries) i blankLoad in
+    let from : ℕ = oldest (q .loads .next) (q .loads .count) in
+    let p : loadPlace (contentsOf q) (after from i) ≡ i = load-place q (after from i) ∙ place-of-serial from i (oldest-small (q .loads .next) (q .loads .count)) small in
+    let here : nth (contentsOf q .loads) i ≡ some (loadOf e) = ap (λ (l : List Load). nth l i) (loads-held q) ∙ side-nth loadOf blankLoad (q .loads .count) (q .loads .entries) w i k in
+    let ss : take (e .before) (contentsOf q .stores) ≡ sideOf storeOf blankStore (e .before) (q .stores .entries) =
+    ap (take (e .before)) (stores-held q) ∙ side-take storeOf blankStore (q .stores .count) (q .stores .entries) v (e .before) b in
+    would-serve (contentsOf q) right (after from i)
+    ∙ ap (λ (n : ℕ). readyIn (contentsOf q) (nth (contentsOf q .loads) n)) p
+    ∙ ap (readyIn (contentsOf q)) here
+    ∙ ap (λ (l : List Store). loadReady l (loadOf e)) ss
+
+-- ---- writing
+abbrev writableIn : Contents → ℕ → Option Store → Bool
+writableIn q place none = false
+writableIn q place (some s) = accepted (mayWrite (take (s .before) (q .loads)) (take place (q .stores)) s)
+
+then-accepts : {A B : Type 0} (x : Ruled A) (f : A → B) → accepted (andThen x λ a. accept (f a)) ≡ accepted x
+then-accepts (refuse n) f = refl
+then-accepts (accept a) f = refl
+
+write-accepts : (q : Contents) (memory : List ℕ) (place : ℕ) → accepted (writeAt q memory place) ≡ writableIn q place (nth (q .stores) place)
+write-accepts q memory place = go (nth (q .stores) place)
+  where
+    go : (o : Option Store)
+        → accepted (have o noSerial λ s. andThen (mayWrite (take (s .before) (q .loads)) (take place (q .stores)) s) λ p. accept (writtenWith q memory place p)) ≡ writableIn q place o
+    go none = refl
+    go (some s) = then-accepts (mayWrite (take (s .before) (q .loads)) (take place (q .stores)) s) (writtenWith q memory place)
+
+module _ (q : Contents) (right : sound q ≡ true) (serial : ℕ) where
+  pub write-ready : (memory : List ℕ) → length memory ≡ q .memoryLength → accepted (write q memory serial) ≡ writableIn q (storePlace q serial) (nth (q .stores) (storePlace q serial))
+  write-ready memory e = ap accepted (write-by-place q memory serial right e) ∙ write-accepts q memory (storePlace q serial)
+
+  pub would-write : wouldWrite q serial ≡ writableIn q (storePlace q serial) (nth (q .stores) (storePlace q serial))
+  would-write = write-ready (anyMemory q) (length-replicate (q .memoryLength) 0)
+
+-- it is answered 0 where it is accepted
+pub accepted-number : {A : Type 0} (x : Ruled A) → proper x ≡ true → accepted x ≡ eqb (number x) 0
+accepted-number (refuse n) h = sym (not-true (eqb n 0) h)
+accepted-number (accept a) h = refl
+
+may-proper : (ls : List Load) (ss : List Store) (s : Store) → proper (mayWrite ls ss s) ≡ true
+may-proper ls ss s =
+    need-proper (not (s .written)) _ _ refl
+    (have-proper (s .address) _ _ refl λ a.
+    have-proper (s .word) _ _ refl λ w.
+    need-proper (all (loadGivesWay a) ls) _ _ refl (need-proper (all (storeGivesWay a) ss) _ _ refl refl))
+
+-- the store at a place of a record
+pub would-write-at : (q : Queue) → sound (contentsOf q) ≡ true → q .loads .count ≤ length (q .loads .entries) → q .stores .count ≤ length (q .stores .entries)
+    → (i : ℕ) → i < q .stores .count → i < 2 ^ 32 → getD (q .stores .entries) i blankStore .before ≤ q .loads .count
+    → wouldWrite (contentsOf q) (after (oldest (q .stores .next) (q .stores .count)) i) ≡ storeReadyAt (q .loads) (q .stores) i
+would-write-at q right w v i k small b =
+    let from : ℕ = oldest (q .stores .next) (q .stores .count) in
+    let p : storePlace (contentsOf q) (after from i) ≡ i = store-place q (after from i) ∙ place-of-serial from i (oldest-small (q .stores .next) (q .stores .count)) small in
+    let m : List ℕ = anyMemory (contentsOf q) in
+    ap accepted (write-by-place (contentsOf q) m (after from i) right (length-replicate (contentsOf q .memoryLength) 0))
+    ∙ ap (λ (n : ℕ). accepted (writeAt (contentsOf q) m n)) p
+    ∙ ap accepted (write-held q m i v w k b)
+    ∙ then-accepts (mayWriteAt (q .loads) (q .stores) i) (writtenWith (contentsOf q) m i)
+    ∙ accepted-number (mayWriteAt (q .loads) (q .stores) i) (may-proper (sideOf loadOf blankLoad (getD (q .stores .entries) i blankStore .before) (q .loads .entries)) (sideOf storeOf blankStore i (q .stores .entries)) (storeOf (getD (q .stores .entries) i blankStore)))
+
+-- ---- the serials that pass: i of n places have been looked at, `serial` is the next, and `s` has those that are ready. What
+-- passes is any test that says of a serial what `ready` says of its place.
+pub record Gathering (ready : ℕ → Bool) (from n i serial : ℕ) (s : Serials) : Type 0 where
+  pub few : s .count ≤ i
+  pub long : length (s .numbers) ≡ 64
+  pub next : serial ≡ after from i
+  pub are : (p : ℕ → Bool) → ((j : ℕ) → j < n → p (after from j) ≡ ready j) → filter p (serials from n) ≡ listed s ++ filter p (serials serial (n - i))
+
+pub gathering-none : {ready : ℕ → Bool} {from n : ℕ} (numbers : List ℕ) → length numbers ≡ 64 → from < 2 ^ 32 → Gathering ready from n 0 from (record { count = 0; numbers = numbers })
+gathering-none {ready} {from} {n} numbers e h = record { few = omega arith; long = e; next = omega arith; are = λ p e. rw (sub-zero n) (front p numbers) }
+  where
+    front : (p : ℕ → Bool) (l : List ℕ) → filter p (serials from n) ≡ take 0 l ++ filter p (serials from n)
+    front p [] = refl
+    front p (x ∷ l) = refl
+
+module _ {ready : ℕ → Bool} {from n i serial : ℕ} {s : Serials} (w : Gathering ready from n i serial s) where
+  pub gathering-more : i < n → {now : Bool} → now ≡ ready i → {r : Serials} → Noted s serial now r → {next : ℕ} → next ≡ after serial 1 → Gathering ready from n (i + 1) next r
+  gathering-more h {now} e {r} c {next} d =
+      let few = w .few in
+      let more = c .few in
+      let place = w .next in
+      record { few = omega arith; long = c .long ∙ w .long; next = omega arith; are = are }
+    where
+      pass : (p : ℕ → Bool) (t : Bool) → pick t (serial ∷ filter p (serials (after serial 1) (n - (i + 1)))) (filter p (serials (after serial 1) (n - (i + 1))))
+          ≡ pick t (serial ∷ []) [] ++ filter p (serials (after serial 1) (n - (i + 1)))
+      pass p true = refl
+      pass p false = refl
+
+      are : (p : ℕ → Bool) → ((j : ℕ) → j < n → p (after from j) ≡ ready j) → filter p (serials from n) ≡ listed r ++ filter p (serials next (n - (i + 1)))
+      are p agrees =
+          let m : n - i ≡ suc (n - (i + 1)) = omega arith in
+          let k : p serial ≡ now = ap p (w .next) ∙ agrees i h ∙ sym e in
+          let split : filter p (serials serial (n - i)) ≡ pick now (serial ∷ []) [] ++ filter p (serials next (n - (i + 1))) = rw (m, d, ← k) (pass p (p serial)) in
+          w .are p agrees ∙ rw (split, c .are) (sym (append-assoc (listed s) (pick now (serial ∷ []) []) (filter p (serials next (n - (i + 1))))))
+
+  pub gathering-end : n ≤ i → (p : ℕ → Bool) → ((j : ℕ) → j < n → p (after from j) ≡ ready j) → listed s ≡ filter p (serials from n)
+  gathering-end h p agrees =
+      let m : n - i ≡ 0 = omega arith in
+      sym (w .are p agrees ∙ rw (m, append-nil))
+
+-- ---- a list copied to the front of another: j elements have been copied
+pub record Copied (source old : List ℕ) (j : ℕ) (l : List ℕ) : Type 0 where
+  pub is : l ≡ take j source ++ drop j old
+
+copy-set : (source old : List ℕ) (j z : ℕ) → j < length old → j < length source → set (take j source ++ drop j old) j (getD source j z) ≡ take (suc j) source ++ drop (suc j) old
+copy-set [] old j z h k = absurd (not-suc-le-zero k)
+copy-set (x ∷ s) [] j z h k = absurd (not-suc-le-zero h)
+copy-set (x ∷ s) (y ∷ old) zero z h k = refl
+copy-set (x ∷ s) (y ∷ old) (suc j) z h k = rw (copy-set s old j z (le-of-suc-le-suc h) (le-of-suc-le-suc k))
+
+pub copied-none : {source old : List ℕ} → Copied source old 0 old
+copied-none {source} {old} = record { is = front source old }
+  where
+    front : (s l : List ℕ) → l ≡ take 0 s ++ drop 0 l
+    front [] l = refl
+    front (x ∷ s) l = refl
+
+module _ {source old : List ℕ} {j : ℕ} {l : List ℕ} (w : Copied source old j l) where
+  pub copied-length : j ≤ length source → j ≤ length old → length l ≡ length old
+  copied-length h k = ap length (w .is) ∙ rw (length-append, length-take-le j source h, length-drop) (omega arith)
+
+  pub copied-more : (z : ℕ) → j < length old → j < length source → Copied source old (j + 1) (set l j (getD source j z))
+  copied-more z h k = record { is = rw (w .is, add-one) (copy-set source old j z h k) }
+
+  pub copied-whole : (n : ℕ) → j ≡ n → l ≡ take n source ++ drop n old
+  copied-whole n e = rw e at (w .is)
+
+-- ---- the serials of a record
+module _ (q : Queue) {s : Serials} where
+  lists : {l : List ℕ} → s .count ≤ 64 → length (s .numbers) ≡ 64 → listed s ≡ l → Lists l s
+  lists {l} few long e = record { few = few; size = sym (length-take-le (s .count) (s .numbers) (omega arith)) ∙ ap length e; are = e }
+
+  pub servable-record : listed s ≡ filter (wouldServe (contentsOf q)) (serials (oldest (q .loads .next) (q .loads .count)) (q .loads .count)) → s .count ≤ 64 → length (s .numbers) ≡ 64
+      → Lists (servable (contentsOf q)) s
+  unfolding servable contentsOf
+  servable-record e few long = lists few long (rw (side-length loadOf blankLoad (q .loads .count) (q .loads .entries)) e)
+
+  pub writable-record : listed s ≡ filter (wouldWrite (contentsOf q)) (serials (oldest (q .stores .next) (q .stores .count)) (q .stores .count)) → s .count ≤ 64 → length (s .numbers) ≡ 64
+      → Lists (writable (contentsOf q)) s
+  unfolding writable contentsOf
+  writable-record e few long = lists few long (rw (side-length storeOf blankStore (q .stores .count) (q .stores .entries)) e)
+
+-- ---- 40 and 10
+module _ (q : Contents) (run : List ℕ) where
+  pub ready-loads-unsound : sound q ≡ false → readyLoads q run ≡ refuse unsound
+  unfolding readyLoads
+  ready-loads-unsound e = rw e
+
+  pub ready-loads-short : sound q ≡ true → length run < length (servable q) → readyLoads q run ≡ refuse tooShort
+  unfolding readyLoads
+  ready-loads-short right h = rw (right, lt-leb (length (servable q)) (length run) h)
+
+  pub ready-loads-enough : sound q ≡ true → length (servable q) ≤ length run → readyLoads q run ≡ accept (servable q)
+  unfolding readyLoads
+  ready-loads-enough right h = rw (right, le-leb (length (servable q)) (length run) h)
+
+  pub ready-stores-unsound : sound q ≡ false → readyStores q run ≡ refuse unsound
+  unfolding readyStores
+  ready-stores-unsound e = rw e
+
+  pub ready-stores-short : sound q ≡ true → length run < length (writable q) → readyStores q run ≡ refuse tooShort
+  unfolding readyStores
+  ready-stores-short right h = rw (right, lt-leb (length (writable q)) (length run) h)
+
+  pub ready-stores-enough : sound q ≡ true → length (writable q) ≤ length run → readyStores q run ≡ accept (writable q)
+  unfolding readyStores
+  ready-stores-enough right h = rw (right, le-leb (length (writable q)) (length run) h)
+
+-- the serials at the front of the run
+pub ready-well : (q : Queue) {found lent run : List ℕ} {s : Serials} → Lists found s → run ≡ listed s ++ drop (s .count) lent
+    → ReadyWell q found lent (record { answer = 0; count = s .count; queue = q }) run
+ready-well q {found} {lent} {run} {s} l e = record { outcome = rw (l .size); run-is = e ∙ rw (l .are, l .size) }

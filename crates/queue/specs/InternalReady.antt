@@ -1,0 +1,57 @@
+-- What the code that gathers ready serials is written with.
+use Prim.Native.Nat.{ℕ, _+_, _≤_}
+use mathlib.Core.Path.{_≡_}
+use mathlib.Core.Bool.{Bool, true, false, not, _&&_}
+use mathlib.Core.List.{List, [], _∷_, _++_}
+use mathlib.Core.Option.{Option, none, some}
+use lib.Dec.{eqb}
+use lib.ListN.{length, getD, take}
+use Rattle.table.specs.Basics.{pick}
+use Rattle.queue.specs.declared.serving.Supply.{Supply}
+use Rattle.queue.specs.declared.serving.Supply.the-variants.{Unknown, NoStore, NoWord, Forwarded}
+use Rattle.queue.specs.declared.ready.Serials.{Serials}
+use Rattle.queue.specs.declared.Loads.{Loads}
+use Rattle.queue.specs.declared.Stores.{Stores}
+use Rattle.queue.specs.Ruled.{isSome, number}
+use Rattle.queue.specs.Contents.{Load, Store, loadOf, storeOf, blankLoad, blankStore}
+use Rattle.queue.specs.Internal.{sideOf}
+use Rattle.queue.specs.InternalServe.{supplyFrom}
+use Rattle.queue.specs.InternalWrite.{mayWriteAt}
+
+-- there is a value for the load
+abbrev pub supplyReady : Supply → Bool
+supplyReady Unknown = false
+supplyReady NoStore = true
+supplyReady NoWord = false
+supplyReady (Forwarded w) = true
+
+abbrev pub addressReady : List Store → Option ℕ → Bool
+addressReady ss none = false
+addressReady ss (some a) = supplyReady (supplyFrom a ss)
+
+-- would the load be served, with these stores before it
+abbrev pub loadReady : List Store → Load → Bool
+loadReady ss l = not (isSome (l .value)) && addressReady ss (l .address)
+
+-- the load, the store, at a place: would it be served, would it be written
+abbrev pub loadReadyAt : Loads → Stores → ℕ → Bool
+loadReadyAt loads stores i =
+    loadReady (sideOf storeOf blankStore (getD (loads .entries) i blankLoad .before) (stores .entries)) (loadOf (getD (loads .entries) i blankLoad))
+
+abbrev pub storeReadyAt : Loads → Stores → ℕ → Bool
+storeReadyAt loads stores i = eqb (number (mayWriteAt loads stores i)) 0
+
+-- serials in an array
+abbrev pub listed : Serials → List ℕ
+listed s = take (s .count) (s .numbers)
+
+-- one more serial, where it is ready
+pub record Noted (s : Serials) (serial : ℕ) (ready : Bool) (r : Serials) : Type 0 where
+  pub few : r .count ≤ s .count + 1
+  pub long : length (r .numbers) ≡ length (s .numbers)
+  pub are : listed r ≡ listed s ++ pick ready (serial ∷ []) []
+
+pub record Lists (l : List ℕ) (r : Serials) : Type 0 where
+  pub few : r .count ≤ 64
+  pub size : r .count ≡ length l
+  pub are : listed r ≡ l

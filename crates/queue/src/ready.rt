@@ -1,0 +1,175 @@
+// The ready calls: "the serials that serve (or write) would now accept with memory of the right length, oldest first".
+ghost use mathlib.Core.Path.{_≡_};
+ghost use mathlib.Core.Bool.{true};
+ghost use mathlib.Core.List.{_++_};
+ghost use Prim.Native.Nat.{_≤_, _<_};
+ghost use lib.ListN.{length, drop};
+ghost use Rattle.queue.specs.Contents.{loadOf, storeOf, blankStore, contentsOf};
+ghost use Rattle.queue.specs.Sound.{sound};
+ghost use Rattle.queue.specs.Ready.{servable, writable, readyLoads, readyStores};
+ghost use Rattle.queue.specs.ReadyOutcome.{unready, Readies};
+ghost use Rattle.queue.specs.Internal.{sideOf};
+ghost use Rattle.queue.specs.InternalReady.{loadReady, listed, Noted, Lists};
+use crate::LoadEntry;
+use crate::Queue;
+use crate::Readied;
+use crate::Stores;
+use crate::refusal::UNSOUND;
+use crate::serial::oldest_serial;
+use crate::serving::Supply;
+use crate::serving::supply_for;
+use crate::writing::write_fault;
+use table::refusal::TOO_SHORT;
+
+// Serials, as many as a side can hold. Places beyond the count mean nothing.
+pub struct Serials {
+    pub count: usize,
+    pub numbers: [u32; 64],
+}
+
+// Would the load be served now?
+fn load_ready(load: LoadEntry, stores: Stores) -> bool
+    requires { ⌜ load .before ≤ 64 ⌝ }
+    ensures { λ r. ⌜ r ≡ loadReady (sideOf storeOf blankStore (load .before) (stores .entries)) (loadOf load) ⌝ }
+{
+    if load.served {
+        return false;
+    }
+    if !load.addressed {
+        return false;
+    }
+    match supply_for(stores, load.before as usize, load.address) {
+        Supply::Unknown => false,
+        Supply::NoStore => true,
+        Supply::NoWord => false,
+        Supply::Forwarded(_) => true,
+    }
+}
+
+// The serials with one more, where it is ready.
+fn noted(mut serials: Serials, serial: u32, ready: bool) -> Serials
+    requires { ⌜ serials .count < 64 ⌝ }
+    ensures { λ r. ⌜ Noted serials serial ready r ⌝ }
+{
+    if !ready {
+        return serials;
+    }
+    let at = serials.count;
+    serials.numbers[at] = serial;
+    serials.count = at + 1;
+    serials
+}
+
+// The serials at the front of the lent run; the rest keeps its contents.
+fn put_serials(serials: Serials, out: &mut [u32])
+    requires { ⌜ (serials .count ≤ 64) × (serials .count ≤ length (now out)) ⌝ }
+    ensures { λ _. ⌜ now (out .exit) ≡ listed serials ++ drop (serials .count) (now (out .entry)) ⌝ }
+{
+    let count = serials.count;
+    let mut i: usize = 0;
+    while i < count {
+        let serial = serials.numbers[i];
+        out[i] = serial;
+        i += 1;
+    }
+}
+
+impl Queue {
+    // The serials of the loads that would be served now.
+    fn servable_loads(self) -> Serials
+        requires { ⌜ sound (contentsOf self) ≡ true ⌝ }
+        ensures { λ r. ⌜ Lists (servable (contentsOf self)) r ⌝ }
+    {
+        let loads = self.loads;
+        let stores = self.stores;
+        let count = loads.count as usize;
+        let mut found = Serials {
+            count: 0,
+            numbers: [0; 64],
+        };
+        let mut serial = oldest_serial(loads.next, loads.count);
+        let mut i: usize = 0;
+        while i < count {
+            let load = loads.entries[i];
+            let ready = load_ready(load, stores);
+            found = noted(found, serial, ready);
+            serial = std::num::wrapping_add_u32(serial, 1);
+            i += 1;
+        }
+        found
+    }
+
+    // The serials of the stores that would be written now.
+    fn writable_stores(self) -> Serials
+        requires { ⌜ sound (contentsOf self) ≡ true ⌝ }
+        ensures { λ r. ⌜ Lists (writable (contentsOf self)) r ⌝ }
+    {
+        let loads = self.loads;
+        let stores = self.stores;
+        let count = stores.count as usize;
+        let mut found = Serials {
+            count: 0,
+            numbers: [0; 64],
+        };
+        let mut serial = oldest_serial(stores.next, stores.count);
+        let mut i: usize = 0;
+        while i < count {
+            let fault = write_fault(loads, stores, i);
+            found = noted(found, serial, fault == 0);
+            serial = std::num::wrapping_add_u32(serial, 1);
+            i += 1;
+        }
+        found
+    }
+
+    // A refused ready call.
+    fn unready(self, answer: u8) -> Readied
+        ensures { λ r. ⌜ r ≡ unready answer self ⌝ }
+    {
+        Readied {
+            answer,
+            count: 0,
+            queue: self,
+        }
+    }
+
+    // Puts the serials of the loads that serve would now accept at the front of the lent run, and says how many.
+    pub fn ready_loads_into(self, out: &mut [u32]) -> Readied
+        ensures { λ r. ⌜ Readies self (now (out .entry)) (readyLoads (contentsOf self) (now (out .entry))) r (now (out .exit)) ⌝ }
+    {
+        if !self.sound() {
+            return self.unready(UNSOUND);
+        }
+        let found = self.servable_loads();
+        let count = found.count;
+        if out.len() < count {
+            return self.unready(TOO_SHORT);
+        }
+        put_serials(found, out);
+        Readied {
+            answer: 0,
+            count,
+            queue: self,
+        }
+    }
+
+    // Puts the serials of the stores that write would now accept at the front of the lent run, and says how many.
+    pub fn ready_stores_into(self, out: &mut [u32]) -> Readied
+        ensures { λ r. ⌜ Readies self (now (out .entry)) (readyStores (contentsOf self) (now (out .entry))) r (now (out .exit)) ⌝ }
+    {
+        if !self.sound() {
+            return self.unready(UNSOUND);
+        }
+        let found = self.writable_stores();
+        let count = found.count;
+        if out.len() < count {
+            return self.unready(TOO_SHORT);
+        }
+        put_serials(found, out);
+        Readied {
+            answer: 0,
+            count,
+            queue: self,
+        }
+    }
+}

@@ -21,6 +21,7 @@ use Rattle.queue.specs.declared.Counts.{Counts}
 use Rattle.queue.specs.declared.Outcome.{Outcome}
 use Rattle.queue.specs.declared.Opened.{Opened}
 use Rattle.queue.specs.declared.Counted.{Counted}
+use Rattle.queue.specs.declared.Readied.{Readied}
 use Rattle.queue.specs.Ruled.{Ruled, refuse, accept, need}
 use Rattle.queue.specs.Contents.{Contents, contentsOf}
 use Rattle.queue.specs.Activate.{activate}
@@ -28,7 +29,8 @@ use Rattle.queue.specs.Serve.{Served, serve}
 use Rattle.queue.specs.Write.{Written, write}
 use Rattle.queue.specs.Take.{Taken, take}
 use Rattle.queue.specs.Outcome.{Moves, Takes, Serves, Writes, Opens}
-use Rattle.queue.specs.Call.{Call, Activate, Give, Serve, Write, Take, Ready, Machine, Step, moved, served, written, taken, give, step, Answered, answers, leaves}
+use Rattle.queue.specs.ReadyOutcome.{Readies}
+use Rattle.queue.specs.Call.{Call, Activate, Give, Serve, Write, Take, Ready, Machine, Step, moved, served, written, taken, looked, give, ready, step, Answered, answers, leaves}
 use Rattle.queue.specs.Records.{valueIn, answered, Runs, done, activates, gives, serves, writes, takes, readies, machineOf, RecordsDemand3}
 use Rattle.queue.proofs.Demand3.{demand3}
 
@@ -54,6 +56,10 @@ writes-same q m m₁ (accept s) r w = record { number = sym (w .outcome .answer)
 takes-same : (q : Queue) (m : List ℕ) (rule : Ruled Taken) (r : Outcome) → Takes q rule r → Same (taken (machineOf q m) rule) (r .answer) (valueIn (r .value)) (r .queue) m
 takes-same q m (refuse n) r e = rw e (record { number = refl; value = refl; queue = refl; memory = refl })
 takes-same q m (accept t) r w = record { number = sym (w .answer); value = ap valueIn (sym (w .gives)); queue = sym (w .holds); memory = refl }
+
+readies-same : (q : Queue) (m run left : List ℕ) (rule : Ruled (List ℕ)) (r : Readied) → Readies q run rule r left → Same (looked (machineOf q m) rule) (r .answer) none (r .queue) m
+readies-same q m run left (refuse n) r w = rw (w .outcome) (record { number = refl; value = refl; queue = refl; memory = refl })
+readies-same q m run left (accept found) r w = rw (w .outcome) (record { number = refl; value = refl; queue = refl; memory = refl })
 
 -- a run's answers and what it leaves
 pub record Agrees (m : Machine) (calls : List Call) (log : List Answered) (left : Machine) : Type 0 where
@@ -81,7 +87,7 @@ runs-agree (gives {q} {m = m} {kind = kind} {port} {x} {cs} {log} r w k) = one-m
 runs-agree (serves {q} {m = m} {c = c} {s} {cs} {log} r w k) = one-more (machineOf q m) (Serve c s) cs log _ _ _ (r .queue) m (serves-same q m c (serve (contentsOf q) m s) r w) (runs-agree k)
 runs-agree (writes {q} {m = m} {m₁ = m₁} {s = s} {cs} {log} r w k) = one-more (machineOf q m) (Write s) cs log _ _ _ (r .queue) m₁ (writes-same q m m₁ (write (contentsOf q) m s) r w) (runs-agree k)
 runs-agree (takes {q} {m = m} {p = p} {cs} {log} r w k) = one-more (machineOf q m) (Take p) cs log _ _ _ (r .queue) m (takes-same q m (take (contentsOf q) p) r w) (runs-agree k)
-runs-agree (readies {q} {m = m} {side = side} {run} {cs} {log} k) = one-more (machineOf q m) (Ready side run) cs log _ _ _ q m (record { number = refl; value = refl; queue = refl; memory = refl }) (runs-agree k)
+runs-agree (readies {q} {m = m} {side = side} {run} {left} {cs} {log} r w k) = one-more (machineOf q m) (Ready side run) cs log _ _ _ (r .queue) m (readies-same q m run left (ready side (contentsOf q) run) r w) (runs-agree k)
 
 -- a refused opening has a number
 refused-some : (table : Table) (loadDepth storeDepth first : ℕ) (memory : List ℕ) (n : ℕ) → openQueue (groupsOf table) loadDepth storeDepth first (length memory) ≡ refuse n → n ≡ 0 → ⊥

@@ -14,6 +14,7 @@ pub mod ServeLaws
 pub mod WriteLaws
 pub mod TakeLaws
 pub mod ReadyLaws
+pub mod Exactly
 -- demand 3, from the ground up
 pub mod Lists
 pub mod Log

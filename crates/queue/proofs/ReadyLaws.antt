@@ -38,7 +38,7 @@ use Rattle.queue.proofs.ServeLaws.{bySupply, by-supply, serve-by-place}
 use Rattle.queue.proofs.WriteLaws.{write-by-place, write-held}
 
 -- ---- serving
-abbrev readyIn : Contents → Option Load → Bool
+abbrev pub readyIn : Contents → Option Load → Bool
 readyIn q none = false
 readyIn q (some l) = loadReady (storesBefore q l) l
 
@@ -96,7 +96,7 @@ would-serve-at q right w v i k small b =
     ∙ ap (λ (l : List Store). loadReady l (loadOf e)) ss
 
 -- ---- writing
-abbrev writableIn : Contents → ℕ → Option Store → Bool
+abbrev pub writableIn : Contents → ℕ → Option Store → Bool
 writableIn q place none = false
 writableIn q place (some s) = accepted (mayWrite (take (s .before) (q .loads)) (take place (q .stores)) s)
 

@@ -62,7 +62,7 @@ pub record Parts (a b c d e f g h : Bool) : Type 0 where
   pub part7 : g ≡ true
   pub part8 : h ≡ true
 
-parts : (a b c d e f g h : Bool) → (a && b && c && d && e && f && g && h) ≡ true → Parts a b c d e f g h
+pub parts : (a b c d e f g h : Bool) → (a && b && c && d && e && f && g && h) ≡ true → Parts a b c d e f g h
 parts true true true true true true true h z = record { part1 = refl; part2 = refl; part3 = refl; part4 = refl; part5 = refl; part6 = refl; part7 = refl; part8 = z }
 parts true true true true true true false h z = false-true z
 parts true true true true true false g h z = false-true z

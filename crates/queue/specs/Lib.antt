@@ -14,6 +14,7 @@ pub mod Ready
 pub mod Counts
 pub mod Outcome
 pub mod ReadyOutcome
+pub mod ReadyExact
 pub mod Call
 pub mod Plain
 pub mod Demand3

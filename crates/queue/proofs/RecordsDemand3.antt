@@ -87,7 +87,7 @@ runs-agree (gives {q} {m = m} {kind = kind} {port} {x} {cs} {log} r w k) = one-m
 runs-agree (serves {q} {m = m} {c = c} {s} {cs} {log} r w k) = one-more (machineOf q m) (Serve c s) cs log _ _ _ (r .queue) m (serves-same q m c (serve (contentsOf q) m s) r w) (runs-agree k)
 runs-agree (writes {q} {m = m} {m₁ = m₁} {s = s} {cs} {log} r w k) = one-more (machineOf q m) (Write s) cs log _ _ _ (r .queue) m₁ (writes-same q m m₁ (write (contentsOf q) m s) r w) (runs-agree k)
 runs-agree (takes {q} {m = m} {p = p} {cs} {log} r w k) = one-more (machineOf q m) (Take p) cs log _ _ _ (r .queue) m (takes-same q m (take (contentsOf q) p) r w) (runs-agree k)
-runs-agree (readies {q} {m = m} {side = side} {run} {left} {cs} {log} r w k) = one-more (machineOf q m) (Ready side run) cs log _ _ _ (r .queue) m (readies-same q m run left (ready side (contentsOf q) run) r w) (runs-agree k)
+runs-agree (readies {q} {m = m} {side = side} {run} {cs} {log} left r w k) = one-more (machineOf q m) (Ready side run) cs log _ _ _ (r .queue) m (readies-same q m run left (ready side (contentsOf q) run) r w) (runs-agree k)
 
 -- a refused opening has a number
 refused-some : (table : Table) (loadDepth storeDepth first : ℕ) (memory : List ℕ) (n : ℕ) → openQueue (groupsOf table) loadDepth storeDepth first (length memory) ≡ refuse n → n ≡ 0 → ⊥

@@ -44,7 +44,7 @@ pub data Runs : Queue → List ℕ → List Call → List Answered → Queue →
   serves : {q q₂ : Queue} {m m₂ : List ℕ} {c : Counts} {s : ℕ} {cs : List Call} {log : List Answered} (r : Counted) → Serves q c (serve (contentsOf q) m s) r → Runs (r .queue) m cs log q₂ m₂ → Runs q m (Serve c s ∷ cs) (answered (Serve c s) (r .answer) (r .value) ∷ log) q₂ m₂
   writes : {q q₂ : Queue} {m m₁ m₂ : List ℕ} {s : ℕ} {cs : List Call} {log : List Answered} (r : Outcome) → Writes q m (write (contentsOf q) m s) r m₁ → Runs (r .queue) m₁ cs log q₂ m₂ → Runs q m (Write s ∷ cs) (answered (Write s) (r .answer) (r .value) ∷ log) q₂ m₂
   takes : {q q₂ : Queue} {m m₂ : List ℕ} {p : ℕ} {cs : List Call} {log : List Answered} (r : Outcome) → Takes q (take (contentsOf q) p) r → Runs (r .queue) m cs log q₂ m₂ → Runs q m (Take p ∷ cs) (answered (Take p) (r .answer) (r .value) ∷ log) q₂ m₂
-  readies : {q q₂ : Queue} {m m₂ : List ℕ} {side : Side} {run left : List ℕ} {cs : List Call} {log : List Answered} (r : Readied) → Readies q run (ready side (contentsOf q) run) r left → Runs (r .queue) m cs log q₂ m₂ → Runs q m (Ready side run ∷ cs) (answered (Ready side run) (r .answer) Nothing ∷ log) q₂ m₂
+  readies : {q q₂ : Queue} {m m₂ : List ℕ} {side : Side} {run : List ℕ} {cs : List Call} {log : List Answered} (left : List ℕ) (r : Readied) → Readies q run (ready side (contentsOf q) run) r left → Runs (r .queue) m cs log q₂ m₂ → Runs q m (Ready side run ∷ cs) (answered (Ready side run) (r .answer) Nothing ∷ log) q₂ m₂
 
 abbrev pub machineOf : Queue → List ℕ → Machine
 machineOf q m = record { queue = contentsOf q; memory = m }

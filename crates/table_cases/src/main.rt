@@ -1,0 +1,53 @@
+// Cases of the crate `table`, a line for each: what document 01 gives, with the refusals next to legal neighbours.
+mod numbers;
+mod records;
+mod show;
+mod tables;
+mod traces;
+
+fn main() {
+    show::words(b"# numbers, read\n");
+    numbers::reading();
+    numbers::padding();
+    show::words(b"# numbers, written to the front of eight bytes EE\n");
+    numbers::small();
+    numbers::middle();
+    numbers::large();
+    show::words(b"# tables, read\n");
+    tables::legal();
+    tables::ended();
+    tables::too_large();
+    tables::fields_and_groups();
+    tables::counts();
+    tables::ports();
+    tables::ports_seen();
+    tables::offsets();
+    tables::left_over();
+    tables::wide_numbers();
+    show::words(b"# tables that deserve two numbers\n");
+    tables::order_of_numbers();
+    tables::order_of_pairs();
+    show::words(b"# records, checked and written to sixteen bytes EE\n");
+    records::legal();
+    records::counts();
+    records::offsets();
+    records::ports();
+    records::groups();
+    records::order();
+    show::words(b"# tables, written to part of a buffer\n");
+    records::rooms();
+    records::large();
+    show::words(b"# leading numbers of a trace\n");
+    traces::headers();
+    traces::written_headers();
+    show::words(b"# K1's events\n");
+    traces::k1();
+    show::words(b"# events\n");
+    traces::kinds();
+    traces::cut_short();
+    traces::too_large();
+    traces::ends();
+    show::words(b"# events, written to the front of twelve bytes EE\n");
+    traces::written();
+    traces::written_large();
+}

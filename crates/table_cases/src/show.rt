@@ -1,0 +1,168 @@
+// Printing: words, numbers, bytes in hexadecimal, and what the calls answer.
+ghost use Prim.Native.Nat.{_<_};
+use libc::STDOUT_FILENO;
+use table::Event;
+use table::EventRead;
+use table::Group;
+use table::HeaderRead;
+use table::NumberRead;
+use table::Pairs;
+use table::Table;
+use table::Written;
+
+pub fn words(text: &[u8]) {
+    io::write_all(STDOUT_FILENO, text);
+}
+
+// Words and a number.
+pub fn number(text: &[u8], value: u64) {
+    io::write_all(STDOUT_FILENO, text);
+    io::print_decimal(STDOUT_FILENO, value);
+}
+
+fn digit(value: u8) -> u8
+    requires { ⌜ value < 16 ⌝ }
+{
+    if value < 10 { 48 + value } else { 55 + value }
+}
+
+// A byte, with a space before it.
+fn byte(value: u8) {
+    let shown = [b' ', digit(value / 16), digit(value % 16)];
+    io::write_all(STDOUT_FILENO, &shown);
+}
+
+// Bytes, each with a space before it.
+pub fn bytes(data: &[u8]) {
+    let mut i: usize = 0;
+    while i < data.len() {
+        byte(data[i]);
+        i += 1;
+    }
+}
+
+// What reading a number answers.
+pub fn number_read(read: NumberRead) {
+    match read {
+        NumberRead::Number { value, next } => {
+            number(b": 0 value ", value as u64);
+            number(b" next ", next as u64);
+        }
+        NumberRead::Refused(refusal) => number(b": ", refusal as u64),
+    }
+}
+
+// What writing answers.
+pub fn written(answer: Written) {
+    match answer {
+        Written::Bytes(count) => number(b": 0 wrote ", count as u64),
+        Written::Unwritten(refusal) => number(b": ", refusal as u64),
+    }
+}
+
+// Pairs of one kind, each as offset/port.
+fn accesses(pairs: Pairs) {
+    let mut i: usize = 0;
+    while i < 16 {
+        if i < pairs.count as usize {
+            let pair = pairs.places[i];
+            number(b" ", pair.offset as u64);
+            number(b"/", pair.port as u64);
+        }
+        i += 1;
+    }
+}
+
+fn one_group(group: Group) {
+    words(b" [loads");
+    accesses(group.loads);
+    words(b" stores");
+    accesses(group.stores);
+    words(b"]");
+}
+
+// A table: its count, and its groups.
+pub fn groups(table: Table) {
+    number(b" groups ", table.count as u64);
+    let mut i: usize = 0;
+    while i < 16 {
+        if i < table.count as usize {
+            one_group(table.groups[i]);
+        }
+        i += 1;
+    }
+}
+
+// The loads of one offset.
+fn loads_at(loads: Pairs, offset: usize) {
+    let mut i: usize = 0;
+    while i < 16 {
+        let load = loads.places[i];
+        if i < loads.count as usize {
+            if load.offset as usize == offset {
+                number(b", load ", load.port as u64);
+            }
+        }
+        i += 1;
+    }
+}
+
+// A group's accesses in program order: load i is before store j when its offset is at most j.
+pub fn order(group: Group) {
+    let loads = group.loads;
+    let stores = group.stores;
+    let mut j: usize = 0;
+    while j < 16 {
+        loads_at(loads, j);
+        if j < stores.count as usize {
+            let store = stores.places[j];
+            number(b", store ", store.port as u64);
+        }
+        j += 1;
+    }
+    loads_at(loads, 16);
+}
+
+// What reading the leading numbers of a trace answers.
+pub fn header_read(read: HeaderRead) {
+    match read {
+        HeaderRead::Leading(header, next) => {
+            number(b": 0 loads ", header.loads as u64);
+            number(b" stores ", header.stores as u64);
+            number(b" serial ", header.serial as u64);
+            number(b" words ", header.words as u64);
+            number(b" next ", next as u64);
+        }
+        HeaderRead::NoHeader(refusal) => number(b": ", refusal as u64),
+    }
+}
+
+fn two_numbers(text: &[u8], first: u32, second: u32) {
+    number(text, first as u64);
+    number(b" ", second as u64);
+}
+
+pub fn one_event(event: Event) {
+    match event {
+        Event::Activate { group } => number(b" activate ", group as u64),
+        Event::LoadAddress { port, address } => two_numbers(b" load address ", port, address),
+        Event::StoreAddress { port, address } => two_numbers(b" store address ", port, address),
+        Event::StoreData { port, word } => two_numbers(b" store data ", port, word),
+        Event::Serve { serial } => number(b" serve ", serial as u64),
+        Event::Write { serial } => number(b" write ", serial as u64),
+        Event::Take { port } => number(b" take ", port as u64),
+    }
+}
+
+// What reading an event answers.
+pub fn event_read(read: EventRead) {
+    match read {
+        EventRead::Found(event, next) => {
+            words(b": 0");
+            one_event(event);
+            number(b" next ", next as u64);
+        }
+        EventRead::End => words(b": end"),
+        EventRead::NoEvent(refusal) => number(b": ", refusal as u64),
+    }
+}

@@ -1,4 +1,5 @@
 pub mod Examples
+pub mod Leave
 -- what a record holds
 pub mod ContentsLaws
 -- walks over a side's entries

@@ -1,4 +1,7 @@
 pub mod Examples
+pub mod Leave
+pub mod Again
+pub mod Front
 -- what a record holds
 pub mod ContentsLaws
 -- walks over a side's entries

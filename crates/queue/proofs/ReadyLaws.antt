@@ -10,7 +10,7 @@ use mathlib.Core.List.{List, [], _∷_, _++_, append-assoc, append-nil}
 use mathlib.Core.Option.{Option, none, some}
 use lib.Dec.{eqb, ltb}
 use lib.ListN.{length, getD, take, drop, set, length-append, length-drop, length-replicate}
-use lib.Seq.{length-take-le}
+use lib.Seq.{length-take-le, take-append-seam}
 use borrow.Author.Tests.{not-true, lt-leb, le-leb}
 use Rattle.table.specs.Basics.{pick, any, all, nth, filter}
 use Rattle.queue.specs.declared.serving.Supply.{Supply}
@@ -18,6 +18,7 @@ use Rattle.queue.specs.declared.serving.Supply.the-variants.{Unknown, No
 use Rattle.queue.specs.declared.ready.Serials.{Serials}
 use Rattle.queue.specs.declared.LoadEntry.{LoadEntry}
 use Rattle.queue.specs.declared.Queue.{Queue}
+use Rattle.queue.specs.declared.Readied.{Readied}
 use Rattle.table.specs.Refusal.{tooShort}
 use Rattle.queue.specs.Refusal.{unsound, noSerial, alreadyDone, noAddress, earlierStoreUnknown}
 use Rattle.queue.specs.Ruled.{Ruled, refuse, accept, need, have, andThen, accepted, isSome, number}
@@ -26,7 +27,7 @@ use Rattle.queue.specs.Sound.{sound}
 use Rattle.queue.specs.Serve.{hasAddress, nearest, sourceOf, storesBefore, serve}
 use Rattle.queue.specs.Write.{loadGivesWay, storeGivesWay, write}
 use Rattle.queue.specs.Ready.{serials, anyMemory, wouldServe, wouldWrite, servable, writable, readyLoads, readyStores}
-use Rattle.queue.specs.ReadyOutcome.{ReadyWell}
+use Rattle.queue.specs.ReadyOutcome.{ReadyWell, Readies, Fronts}
 use Rattle.queue.specs.Internal.{sideOf}
 use Rattle.queue.specs.InternalServe.{supplyFrom, servedWith, serveAt}
 use Rattle.queue.specs.InternalWrite.{Put, mayWrite, mayWriteAt, writtenWith, writeAt}
@@ -257,3 +258,15 @@ module _ (q : Contents) (run : List ℕ) where
 pub ready-well : (q : Queue) {found lent run : List ℕ} {s : Serials} → Lists found s → run ≡ listed s ++ drop (s .count) lent
     → ReadyWell q found lent (record { answer = 0; count = s .count; queue = q }) run
 ready-well q {found} {lent} {run} {s} l e = record { outcome = rw (l .size); run-is = e ∙ rw (l .are, l .size) }
+
+-- the front part that is handed back
+pub fronts : (q : Queue) (lent : List ℕ) (rule : Ruled (List ℕ)) (r : Readied) (run : List ℕ) → Readies q lent rule r run
+    → (r .count ≤ length run) × Fronts q rule (r .answer) (take (r .count) run) (r .queue)
+fronts q lent (refuse n) r run w = rw (w .outcome) (omega arith, record { answer-is = refl; serials-are = none run; queue-is = refl })
+  where
+    none : (l : List ℕ) → take 0 l ≡ []
+    none [] = refl
+    none (x ∷ l) = refl
+fronts q lent (accept found) r run w =
+    rw (w .outcome, w .run-is)
+    (simp length-append (omega arith), record { answer-is = refl; serials-are = take-append-seam found (drop (length found) lent); queue-is = refl })

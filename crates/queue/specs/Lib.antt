@@ -13,6 +13,7 @@ pub mod Take
 pub mod Ready
 pub mod Counts
 pub mod Outcome
+pub mod ServeLent
 pub mod ReadyOutcome
 pub mod ReadyExact
 pub mod Call

@@ -103,3 +103,10 @@ pub struct Readied {
     pub count: usize,
     pub queue: Queue,
 }
+
+// What a ready call hands back: its answer, the front part of the lent run with the serials, and the queue that follows.
+pub struct ReadySerials<'a> {
+    pub answer: u8,
+    pub serials: &'a mut [u32],
+    pub queue: Queue,
+}

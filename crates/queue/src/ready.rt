@@ -7,12 +7,14 @@ ghost use lib.ListN.{length, drop};
 ghost use Rattle.queue.specs.Contents.{loadOf, storeOf, blankStore, contentsOf};
 ghost use Rattle.queue.specs.Sound.{sound};
 ghost use Rattle.queue.specs.Ready.{servable, writable, readyLoads, readyStores};
-ghost use Rattle.queue.specs.ReadyOutcome.{unready, Readies};
+ghost use Rattle.queue.specs.ReadyOutcome.{unready, Readies, Fronts};
+ghost use denote.Ref.{ptr};
 ghost use Rattle.queue.specs.Internal.{sideOf};
 ghost use Rattle.queue.specs.InternalReady.{loadReady, listed, Noted, Lists};
 use crate::LoadEntry;
 use crate::Queue;
 use crate::Readied;
+use crate::ReadySerials;
 use crate::Stores;
 use crate::refusal::UNSOUND;
 use crate::serial::oldest_serial;
@@ -170,6 +172,33 @@ impl Queue {
             answer: 0,
             count,
             queue: self,
+        }
+    }
+
+    // The same, and the front part is handed back. No contract can speak of the rest of the run once a part is handed out;
+    // `ready_loads_into` says that it keeps its contents.
+    pub fn ready_loads<'a>(self, out: &'a mut [u32]) -> ReadySerials<'a>
+        ensures { λ r. ⌜ Fronts self (readyLoads (contentsOf self) (now (out .entry))) (r .answer) (now (r .serials)) (r .queue) × (ptr (r .serials) ≡ ptr (out .entry)) ⌝ }
+    {
+        let readied = self.ready_loads_into(&mut *out);
+        let count = readied.count;
+        ReadySerials {
+            answer: readied.answer,
+            serials: &mut out[..count],
+            queue: readied.queue,
+        }
+    }
+
+    // For stores, likewise.
+    pub fn ready_stores<'a>(self, out: &'a mut [u32]) -> ReadySerials<'a>
+        ensures { λ r. ⌜ Fronts self (readyStores (contentsOf self) (now (out .entry))) (r .answer) (now (r .serials)) (r .queue) × (ptr (r .serials) ≡ ptr (out .entry)) ⌝ }
+    {
+        let readied = self.ready_stores_into(&mut *out);
+        let count = readied.count;
+        ReadySerials {
+            answer: readied.answer,
+            serials: &mut out[..count],
+            queue: readied.queue,
         }
     }
 }

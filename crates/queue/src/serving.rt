@@ -8,10 +8,12 @@ ghost use lib.ListN.{length};
 ghost use Rattle.queue.specs.Sound.{sound};
 ghost use Rattle.queue.specs.Serve.{supplies, loadWithValue, serve};
 ghost use Rattle.queue.specs.Outcome.{Serves, ServedWell};
+ghost use Rattle.queue.specs.ServeLent.{withCounts};
 ghost use Rattle.queue.specs.Internal.{sideOf};
 ghost use Rattle.queue.specs.InternalServe.{wordFrom, supplyFrom, unserved, servedWith, serveAt};
 use crate::Counted;
 use crate::Counts;
+use crate::Outcome;
 use crate::Queue;
 use crate::StoreEntry;
 use crate::Stores;
@@ -163,5 +165,19 @@ impl Queue {
         let loads = self.loads;
         let place = place_of(loads.next, loads.count, serial);
         self.serve_at(memory, counts, place)
+    }
+
+    // The same with the counts lent, and changed in place.
+    pub fn serve(self, memory: &[u32], counts: &mut Counts, serial: u32) -> Outcome
+        ensures { λ r. ⌜ Serves self (now (counts .entry)) (serve (contentsOf self) (now (memory .entry)) serial) (withCounts r (now (counts .exit))) ⌝ }
+    {
+        let lent = *counts;
+        let counted = self.serve_counted(memory, lent, serial);
+        *counts = counted.counts;
+        Outcome {
+            answer: counted.answer,
+            value: counted.value,
+            queue: counted.queue,
+        }
     }
 }

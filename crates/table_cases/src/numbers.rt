@@ -14,7 +14,7 @@ fn read(label: &[u8], bytes: &[u8], at: usize) {
     show::words(b"\n");
 }
 
-pub fn reading() {
+fn reading() {
     read(b"K2", b"\x7F", 0);
     read(b"K3", b"\x80\x01", 0);
     read(b"before K4", b"\xFF\xFF\xFF\xFF\x0F", 0);
@@ -24,6 +24,9 @@ pub fn reading() {
     read(b"fifth byte 7F", b"\x80\x80\x80\x80\x7F", 0);
     read(b"fifth byte 80, 2 and not 1", b"\x80\x80\x80\x80\x80", 0);
     read(b"fifth byte 8F", b"\x80\x80\x80\x80\x8F\x00", 0);
+}
+
+fn ended() {
     read(b"ended before", &[], 0);
     read(b"ended inside", b"\x80", 0);
     read(b"ended inside", b"\x80\x80\x80\x80", 0);
@@ -33,7 +36,7 @@ pub fn reading() {
     read(b"far past the end", b"\x7F\x05", usize::MAX);
 }
 
-pub fn padding() {
+fn padding() {
     read(b"0", b"\x00", 0);
     read(b"0 padded", b"\x80\x00", 0);
     read(b"0 padded", b"\x80\x80\x80\x80\x00", 0);
@@ -83,7 +86,7 @@ fn around(value: u32, length: usize)
     write(value, length - 1);
 }
 
-pub fn small() {
+fn small() {
     around(0, 1);
     around(1, 1);
     around(126, 1);
@@ -92,7 +95,7 @@ pub fn small() {
     around(129, 2);
 }
 
-pub fn middle() {
+fn middle() {
     around(16382, 2);
     around(16383, 2);
     around(16384, 3);
@@ -102,10 +105,22 @@ pub fn middle() {
     around(2097153, 4);
 }
 
-pub fn large() {
+fn large() {
     around(268435455, 4);
     around(268435456, 5);
     around(268435457, 5);
     around(4294967294, 5);
     around(4294967295, 5);
+}
+
+// All of these cases.
+pub fn all() {
+    show::words(b"# numbers, read\n");
+    reading();
+    ended();
+    padding();
+    show::words(b"# numbers, written to the front of eight bytes EE\n");
+    small();
+    middle();
+    large();
 }

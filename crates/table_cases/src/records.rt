@@ -81,7 +81,7 @@ fn check(label: &[u8], table: Table) {
     check_to(table, &mut buffer);
 }
 
-pub fn legal() {
+fn legal() {
     check(b"K5", k5());
     check(b"K6", alone(k5_loads(), two(pair(0, 3), pair(1, 4))));
     check(
@@ -94,13 +94,16 @@ pub fn legal() {
     );
 }
 
-pub fn counts() {
+fn counts() {
     check(b"groups 0", with_groups(k5(), 0));
     check(b"groups 1", with_groups(k5(), 1));
     check(b"groups 2, the second as it comes", with_groups(k5(), 2));
     check(b"groups 16", with_groups(k5(), 16));
     check(b"groups 17", with_groups(k5(), 17));
     check(b"groups 255", with_groups(k5(), 255));
+}
+
+fn counts_of_pairs() {
     check(b"loads 17", alone(counted(k5_loads(), 17), k5_stores()));
     check(b"loads 255", alone(counted(k5_loads(), 255), k5_stores()));
     check(b"stores 17", alone(k5_loads(), counted(k5_stores(), 17)));
@@ -111,7 +114,7 @@ pub fn counts() {
     );
 }
 
-pub fn offsets() {
+fn offsets() {
     check(
         b"loads 3, the third as it comes",
         alone(counted(k5_loads(), 3), k5_stores()),
@@ -123,6 +126,9 @@ pub fn offsets() {
         b"stores 3, the third as it comes",
         alone(k5_loads(), counted(k5_stores(), 3)),
     );
+}
+
+fn offsets_of_pairs() {
     check(
         b"load offset 3",
         alone(two(pair(0, 4), pair(3, 5)), k5_stores()),
@@ -149,7 +155,7 @@ pub fn offsets() {
     );
 }
 
-pub fn ports() {
+fn ports() {
     check(
         b"load port 31",
         alone(two(pair(0, 31), pair(2, 5)), k5_stores()),
@@ -184,7 +190,7 @@ pub fn ports() {
     );
 }
 
-pub fn groups() {
+fn groups() {
     let no_stores = counted(k5_stores(), 0);
     let no_loads = counted(k5_loads(), 0);
     let one_load = alone(counted(k5_loads(), 1), no_stores);
@@ -215,7 +221,7 @@ pub fn groups() {
     );
 }
 
-pub fn order() {
+fn order() {
     let none = counted(k5_stores(), 0);
     let many = counted(k5_loads(), 17);
     check(b"4, not 5", with_groups(alone(many, none), 17));
@@ -233,6 +239,11 @@ pub fn order() {
         b"6 of load 0, not 8 of load 1",
         alone(two(pair(0, 32), pair(3, 5)), k5_stores()),
     );
+}
+
+fn order_of_groups() {
+    let none = counted(k5_stores(), 0);
+    let many = counted(k5_loads(), 17);
     check(
         b"7 of a load, not 8 of a store",
         alone(two(pair(0, 4), pair(2, 4)), two(pair(0, 3), pair(1, 4))),
@@ -270,12 +281,15 @@ fn write(label: &[u8], table: Table, room: usize)
     write_to(table, &mut buffer, room);
 }
 
-pub fn rooms() {
+fn rooms() {
     write(b"K5", k5(), 16);
     write(b"K5", k5(), 13);
     write(b"K5", k5(), 12);
     write(b"K5", k5(), 11);
     write(b"K5", k5(), 0);
+}
+
+fn faults_first() {
     write(b"groups 17", with_groups(k5(), 17), 0);
     write(b"loads 17", alone(counted(k5_loads(), 17), k5_stores()), 0);
     write(
@@ -306,7 +320,7 @@ fn rewrite(label: &[u8], bytes: &[u8], room: usize)
     write_to(read.table, &mut buffer, room);
 }
 
-pub fn large() {
+fn large() {
     rewrite(b"16 groups", &tables::GROUPS, 100);
     rewrite(b"16 groups", &tables::GROUPS, 98);
     rewrite(b"16 groups", &tables::GROUPS, 97);
@@ -317,4 +331,22 @@ pub fn large() {
         b"\x82\x00\x81\x00\x01\x01\x00\x80\x80\x00\x01\x00",
         9,
     );
+}
+
+// All of these cases.
+pub fn all() {
+    show::words(b"# records, checked and written to sixteen bytes EE\n");
+    legal();
+    counts();
+    counts_of_pairs();
+    offsets();
+    offsets_of_pairs();
+    ports();
+    groups();
+    order();
+    order_of_groups();
+    show::words(b"# tables, written to part of a buffer\n");
+    rooms();
+    faults_first();
+    large();
 }

@@ -42,11 +42,14 @@ fn ordered(label: &[u8], bytes: &[u8]) {
     show::words(b"\n");
 }
 
-pub fn legal() {
+fn legal() {
     read(b"K1", &K1);
     read(b"K5", &K5);
     ordered(b"K5", &K5);
     read(b"K6", b"\x02\x01\x02\x02\x00\x04\x02\x05\x00\x03\x01\x04");
+}
+
+fn largest() {
     read(b"16 groups", &GROUPS);
     read(b"16 loads, 16 stores", &FULL);
     ordered(b"16 loads, 16 stores", &FULL);
@@ -58,12 +61,15 @@ pub fn legal() {
     read(b"one store", b"\x02\x01\x00\x01\x00\x00");
 }
 
-pub fn ended() {
+fn ended() {
     read(b"no bytes", &[]);
     read(b"fields alone", b"\x02");
     read(b"no groups", b"\x02\x01");
     read(b"one count", b"\x02\x01\x01");
     read(b"no pairs", b"\x02\x01\x01\x01");
+}
+
+fn cut_short() {
     read(b"no store's pair", b"\x02\x01\x01\x01\x00\x00");
     read(b"K1 without its last byte", b"\x02\x01\x01\x01\x00\x00\x01");
     read(b"K1, last byte 80", b"\x02\x01\x01\x01\x00\x00\x01\x80");
@@ -71,7 +77,7 @@ pub fn ended() {
     read(b"one load of two", b"\x02\x01\x02\x00\x00\x00");
 }
 
-pub fn too_large() {
+fn too_large() {
     read(
         b"K1, last padded",
         b"\x02\x01\x01\x01\x00\x00\x01\x80\x80\x80\x80\x00",
@@ -98,7 +104,7 @@ pub fn too_large() {
     );
 }
 
-pub fn fields_and_groups() {
+fn fields_and_groups() {
     read(b"fields 1", b"\x01\x01\x01\x01\x00\x00\x01\x00");
     read(b"fields 2", &K1);
     read(b"fields 3", b"\x03\x01\x01\x01\x00\x00\x01\x00");
@@ -112,7 +118,7 @@ pub fn fields_and_groups() {
     read(b"groups 15 for 16", &fewer);
 }
 
-pub fn counts() {
+fn counts() {
     read(b"1 load, 0 stores", b"\x02\x01\x01\x00\x00\x00");
     read(b"0 loads, 0 stores", b"\x02\x01\x00\x00\x00\x00");
     read(b"0 loads, 1 store", b"\x02\x01\x00\x01\x00\x00");
@@ -127,7 +133,7 @@ pub fn counts() {
     read(b"second group, 17 stores", &second);
 }
 
-pub fn ports() {
+fn ports() {
     read(
         b"load port 31, store port 31",
         b"\x02\x01\x01\x01\x00\x1F\x01\x1F",
@@ -140,11 +146,14 @@ pub fn ports() {
     read(b"last store port 32", &last);
 }
 
-pub fn ports_seen() {
+fn ports_seen() {
     read(b"loads 4, 5", b"\x02\x01\x02\x00\x00\x04\x00\x05");
     read(b"loads 4, 4", b"\x02\x01\x02\x00\x00\x04\x00\x04");
     read(b"stores 3, 4", b"\x02\x01\x00\x02\x00\x03\x00\x04");
     read(b"stores 3, 3", b"\x02\x01\x00\x02\x00\x03\x00\x03");
+}
+
+fn ports_of_groups() {
     read(
         b"load 4, then load 5",
         b"\x02\x02\x01\x00\x00\x04\x01\x00\x00\x05",
@@ -170,7 +179,7 @@ pub fn ports_seen() {
     read(b"group 15 stores as group 0", &last);
 }
 
-pub fn offsets() {
+fn offsets() {
     read(b"load offset 0", &K1);
     read(
         b"load offset at the store count",
@@ -178,6 +187,9 @@ pub fn offsets() {
     );
     read(b"load offset above it", b"\x02\x01\x01\x01\x02\x00\x00\x00");
     read(b"load offset above no stores", b"\x02\x01\x01\x00\x01\x00");
+}
+
+fn offsets_of_two() {
     read(
         b"load offsets 1, 1",
         b"\x02\x01\x02\x02\x01\x04\x01\x05\x00\x03\x02\x04",
@@ -202,6 +214,9 @@ pub fn offsets() {
         b"load offsets 1, 1",
         b"\x02\x01\x02\x02\x01\x04\x01\x05\x00\x03\x02\x04",
     );
+}
+
+fn offsets_at_the_end() {
     read(b"store offset above no loads", b"\x02\x01\x00\x01\x01\x00");
     let mut last = FULL;
     last[66] = 0x0F;
@@ -215,7 +230,7 @@ pub fn offsets() {
     read(b"last load offset 16, last store offset 15", &both);
 }
 
-pub fn left_over() {
+fn left_over() {
     read(b"K1 and a byte", b"\x02\x01\x01\x01\x00\x00\x01\x00\x00");
     read(b"K1 and 80", b"\x02\x01\x01\x01\x00\x00\x01\x00\x80");
     read(
@@ -225,7 +240,7 @@ pub fn left_over() {
 }
 
 // Numbers whose lowest eight bits are right.
-pub fn wide_numbers() {
+fn wide_numbers() {
     read(b"fields 258", b"\x82\x02\x01\x01\x01\x00\x00\x01\x00");
     read(b"groups 257", b"\x02\x81\x02\x01\x01\x00\x00\x01\x00");
     read(b"loads 257", b"\x02\x01\x81\x02\x01\x00\x00\x01\x00");
@@ -242,12 +257,15 @@ pub fn wide_numbers() {
     );
 }
 
-pub fn order_of_numbers() {
+fn order_of_numbers() {
     read(b"3, not 1", b"\x03");
     read(b"3, not 4", b"\x03\x00");
     read(b"2, not 3", b"\x83\x80\x80\x80\x10");
     read(b"4, not 1", b"\x02\x00");
     read(b"4, not 5", b"\x02\x00\x00\x00");
+}
+
+fn order_of_counts() {
     read(b"1, not 5", b"\x02\x01\x11");
     read(b"2, not 5", b"\x02\x01\x11\x80\x80\x80\x80\x10");
     read(b"5, not 1", b"\x02\x01\x11\x01");
@@ -255,12 +273,15 @@ pub fn order_of_numbers() {
     read(b"7, not 9", b"\x02\x01\x02\x00\x00\x04\x00\x04\x00");
 }
 
-pub fn order_of_pairs() {
+fn order_in_a_pair() {
     read(b"1, not 8", b"\x02\x01\x01\x01\x02");
     read(b"2, not 8", b"\x02\x01\x01\x01\x02\x80\x80\x80\x80\x10");
     read(b"8, not 6", b"\x02\x01\x01\x01\x02\x20\x00\x00");
     read(b"8, not 7", b"\x02\x01\x02\x01\x01\x04\x00\x04\x01\x00");
     read(b"8, not 1", b"\x02\x01\x01\x01\x02\x00");
+}
+
+fn order_of_pairs() {
     read(
         b"6 of load 0, not 8 of load 1",
         b"\x02\x01\x02\x01\x01\x20\x00\x04\x01\x00",
@@ -277,4 +298,29 @@ pub fn order_of_pairs() {
         b"5 of group 1, not 7 of it",
         b"\x02\x02\x01\x00\x00\x04\x11\x00\x00\x04",
     );
+}
+
+// All of these cases.
+pub fn all() {
+    show::words(b"# tables, read\n");
+    legal();
+    largest();
+    ended();
+    cut_short();
+    too_large();
+    fields_and_groups();
+    counts();
+    ports();
+    ports_seen();
+    ports_of_groups();
+    offsets();
+    offsets_of_two();
+    offsets_at_the_end();
+    left_over();
+    wide_numbers();
+    show::words(b"# tables that deserve two numbers\n");
+    order_of_numbers();
+    order_of_counts();
+    order_in_a_pair();
+    order_of_pairs();
 }

@@ -19,7 +19,7 @@ fn header(label: &[u8], bytes: &[u8]) {
     show::words(b"\n");
 }
 
-pub fn headers() {
+fn headers() {
     header(b"K1", &K1);
     header(b"no events", b"\x02\x02\xFF\xFF\xFF\xFF\x0F\x04");
     header(b"too large", b"\x02\x02\xFF\xFF\xFF\xFF\x10\x04");
@@ -66,7 +66,7 @@ fn write_header(loads: u32, stores: u32, serial: u32, words: u32, room: usize)
     write_header_to(header, &mut buffer, room);
 }
 
-pub fn written_headers() {
+fn written_headers() {
     write_header(2, 2, 4294967295, 4, 10);
     write_header(2, 2, 4294967295, 4, 8);
     write_header(2, 2, 4294967295, 4, 7);
@@ -100,7 +100,7 @@ fn k1_at(place: usize) {
     at(&K1, place);
 }
 
-pub fn k1() {
+fn k1() {
     k1_at(8);
     k1_at(10);
     k1_at(12);
@@ -108,6 +108,9 @@ pub fn k1() {
     k1_at(18);
     k1_at(20);
     k1_at(26);
+}
+
+fn k1_after_the_take() {
     k1_at(28);
     k1_at(31);
     k1_at(34);
@@ -117,7 +120,7 @@ pub fn k1() {
     k1_at(45);
 }
 
-pub fn kinds() {
+fn kinds() {
     event(b"kind 6", b"\x06\x05", 0);
     event(b"kind 7", b"\x07\x05", 0);
     event(b"kind 6 padded", b"\x86\x00\x05", 0);
@@ -129,20 +132,23 @@ pub fn kinds() {
     event(b"35, not 2", b"\x07\xFF\xFF\xFF\xFF\x10", 0);
 }
 
-pub fn cut_short() {
+fn cut_short() {
     event(b"kind cut short", b"\x80", 0);
     event(b"kind alone", b"\x00", 0);
     event(b"activate", b"\x00\x03", 0);
     event(b"kind alone", b"\x01", 0);
     event(b"no address", b"\x01\x07", 0);
     event(b"load address", b"\x01\x07\x03", 0);
+}
+
+fn cut_in_the_word() {
     event(b"word cut short", b"\x03\x07\x80", 0);
     event(b"store data", b"\x03\x07\x80\x01", 0);
     event(b"kind alone", b"\x06", 0);
     event(b"take", b"\x06\x00", 0);
 }
 
-pub fn too_large() {
+fn too_large() {
     event(b"kind padded", b"\x80\x80\x80\x80\x00\x03", 0);
     event(b"kind too large", b"\x80\x80\x80\x80\x10\x03", 0);
     event(b"serial", b"\x04\xFF\xFF\xFF\xFF\x0F", 0);
@@ -156,7 +162,7 @@ pub fn too_large() {
     );
 }
 
-pub fn ends() {
+fn ends() {
     event(b"no bytes", &[], 0);
     event(b"past no bytes", &[], 1);
     event(b"first", b"\x06\x05\x05\x01", 0);
@@ -209,7 +215,7 @@ fn around(event: Event, length: usize)
     write(event, length - 1);
 }
 
-pub fn written() {
+fn written() {
     around(Event::Activate { group: 3 }, 2);
     around(
         Event::LoadAddress {
@@ -237,7 +243,7 @@ pub fn written() {
     around(Event::Take { port: 31 }, 2);
 }
 
-pub fn written_large() {
+fn written_large() {
     around(Event::Serve { serial: 4294967295 }, 6);
     around(
         Event::StoreData {
@@ -254,4 +260,23 @@ pub fn written_large() {
         3,
     );
     write(Event::Take { port: 0 }, 0);
+}
+
+// All of these cases.
+pub fn all() {
+    show::words(b"# leading numbers of a trace\n");
+    headers();
+    written_headers();
+    show::words(b"# K1's events\n");
+    k1();
+    k1_after_the_take();
+    show::words(b"# events\n");
+    kinds();
+    cut_short();
+    cut_in_the_word();
+    too_large();
+    ends();
+    show::words(b"# events, written to the front of twelve bytes EE\n");
+    written();
+    written_large();
 }

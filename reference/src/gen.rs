@@ -1,0 +1,575 @@
+//! Seeded inputs for comparing implementations: valid tables, traces that lean
+//! towards conflicts, full queues and the turn of the serials, damaged bytes,
+//! and queue records that no opening leads to.
+
+use crate::counts::Counts;
+use crate::event::{write_event, write_header, Event, Header};
+use crate::number::{read_number, write_number};
+use crate::play::MAX_FILE;
+use crate::queue::{LoadEntry, Queue, StoreEntry, MAX_DEPTH, MAX_MEMORY};
+use crate::rng::Rng;
+use crate::table::{Access, Group, Table, MAX_PORT};
+
+/// Longest encodings: of one number, and of a whole valid table.
+const NUMBER_BYTES: usize = 5;
+const TABLE_BYTES: usize = 512;
+
+/// `table.bin` and `trace.bin` for this seed: about half the pairs are whole,
+/// the others have a damaged table, trace or header.
+#[must_use]
+pub fn pair(seed: u64) -> (Vec<u8>, Vec<u8>) {
+    let mut rng = Rng::new(seed);
+    let mut scenario = Scenario::random(&mut rng);
+    if rng.chance(1, 12) {
+        spoil_header(&mut rng, &mut scenario.header);
+    }
+    let (mut table, mut trace) = scenario.bytes();
+    match rng.below(20) {
+        0..=2 => damage(&mut rng, &mut table),
+        3..=5 => damage(&mut rng, &mut trace),
+        6 => stretch(&mut rng, &mut trace),
+        7 if rng.chance(1, 8) => table.resize(MAX_FILE + rng.below(2), 0),
+        8..=9 => pad_several(&mut rng, &mut table),
+        10..=11 => pad_several(&mut rng, &mut trace),
+        _ => {}
+    }
+    (table, trace)
+}
+
+/// A valid table, a header that opens it, and events.
+#[derive(Clone, Debug, PartialEq, Eq)]
+pub struct Scenario {
+    /// The table.
+    pub table: Table,
+    /// Depths, first serial and memory length that [`Queue::open`] accepts.
+    pub header: Header,
+    /// Events, accepted and refused ones mixed.
+    pub events: Vec<Event>,
+}
+
+impl Scenario {
+    /// A random scenario of a length between none and some thousand events.
+    pub fn random(rng: &mut Rng) -> Self {
+        let most = rng.pick(&[8, 60, 60, 200, 200, 400]);
+        let count = if rng.chance(1, 50) {
+            rng.between(1000, 3500) as usize
+        } else {
+            rng.below(most + 1)
+        };
+        Self::of_length(rng, count)
+    }
+
+    /// A random scenario of `count` events.
+    pub fn of_length(rng: &mut Rng, count: usize) -> Self {
+        let table = table(rng);
+        let header = header(rng, &table);
+        let events = events(rng, &table, header, count);
+        Self {
+            table,
+            header,
+            events,
+        }
+    }
+
+    /// The bytes of table and trace.
+    ///
+    /// # Panics
+    /// When the table was changed to a wrong one.
+    #[must_use]
+    pub fn bytes(&self) -> (Vec<u8>, Vec<u8>) {
+        let mut table = vec![0; TABLE_BYTES];
+        let count = self.table.write(&mut table).expect("a valid table");
+        table.truncate(count);
+        (table, trace_bytes(&self.header, &self.events))
+    }
+}
+
+/// The bytes of a trace.
+///
+/// # Panics
+/// Never: the buffers are long enough.
+#[must_use]
+pub fn trace_bytes(header: &Header, events: &[Event]) -> Vec<u8> {
+    let mut buffer = [0; 4 * NUMBER_BYTES];
+    let count = write_header(header, &mut buffer).expect("room for a header");
+    let mut trace = buffer[..count].to_vec();
+    for event in events {
+        let count = write_event(event, &mut buffer).expect("room for an event");
+        trace.extend(&buffer[..count]);
+    }
+    trace
+}
+
+// Tables and headers.
+
+/// A valid table.
+pub fn table(rng: &mut Rng) -> Table {
+    let shapes = [(1, 1), (1, 3), (2, 2), (3, 2), (4, 4), (16, 3), (2, 16)];
+    let (groups, most) = rng.pick(&shapes);
+    let mut load_ports = shuffled_ports(rng);
+    let mut store_ports = shuffled_ports(rng);
+    let mut table = Table::default();
+    for _ in 0..rng.between(1, groups) {
+        let mut order = some_ports(rng, &mut load_ports, most, Access::Load);
+        order.extend(some_ports(rng, &mut store_ports, most, Access::Store));
+        rng.shuffle(&mut order);
+        if !order.is_empty() {
+            table.groups.push(Group::from_order(&order));
+        }
+    }
+    if table.groups.is_empty() {
+        let order = [Access::Load(load_ports[0]), Access::Store(store_ports[0])];
+        table.groups.push(Group::from_order(&order));
+    }
+    table
+}
+
+fn shuffled_ports(rng: &mut Rng) -> Vec<u32> {
+    let mut ports: Vec<u32> = (0..=MAX_PORT).collect();
+    rng.shuffle(&mut ports);
+    ports
+}
+
+/// Takes up to `most` of the free ports.
+fn some_ports(
+    rng: &mut Rng,
+    free: &mut Vec<u32>,
+    most: usize,
+    access: fn(u32) -> Access,
+) -> Vec<Access> {
+    let count = rng.below(most + 1).min(free.len());
+    let rest = free.len() - count;
+    free.drain(rest..).map(access).collect()
+}
+
+/// A header with which the table opens.
+pub fn header(rng: &mut Rng, table: &Table) -> Header {
+    let loads = table.groups.iter().map(|group| group.loads.len()).max();
+    let stores = table.groups.iter().map(|group| group.stores.len()).max();
+    Header {
+        load_depth: depth(rng, loads.unwrap_or(0) as u32),
+        store_depth: depth(rng, stores.unwrap_or(0) as u32),
+        first_serial: first_serial(rng),
+        memory_length: memory_length(rng),
+    }
+}
+
+/// A depth for groups of up to `most` accesses, often a tight one.
+fn depth(rng: &mut Rng, most: u32) -> u32 {
+    let least = most.max(1);
+    let wide = rng.between(least, MAX_DEPTH);
+    let close = least + rng.between(0, 3);
+    let choices = [least, 2 * least, 3 * least, close, close, wide, MAX_DEPTH];
+    rng.pick(&choices).min(MAX_DEPTH)
+}
+
+/// Mostly a serial soon before the turn from 4294967295 to 0.
+fn first_serial(rng: &mut Rng) -> u32 {
+    let soon = u32::MAX - rng.between(0, 8);
+    let later = u32::MAX - rng.between(0, 120);
+    let middle = (1 << 31) - rng.between(0, 8);
+    let any = rng.word();
+    rng.pick(&[0, soon, soon, soon, later, later, middle, any])
+}
+
+fn memory_length(rng: &mut Rng) -> u32 {
+    let any = rng.between(1, MAX_MEMORY);
+    rng.pick(&[1, 2, 3, 4, 4, 8, 130, any, MAX_MEMORY])
+}
+
+/// Puts one of the header's numbers at or over the edge of its limits.
+fn spoil_header(rng: &mut Rng, header: &mut Header) {
+    let extreme = rng.pick(&[0, 0, 1, u32::MAX]);
+    match rng.below(3) {
+        0 => header.load_depth = rng.pick(&[extreme, header.load_depth - 1, 64, 65]),
+        1 => header.store_depth = rng.pick(&[extreme, header.store_depth - 1, 64, 65]),
+        _ => header.memory_length = rng.pick(&[extreme, 4096, 4097]),
+    }
+}
+
+// Events.
+
+/// How often each kind of event is tried; a trace changes from one to another.
+const PROFILES: [[usize; 7]; 8] = [
+    [4, 4, 4, 4, 4, 4, 4],
+    [3, 6, 6, 6, 8, 8, 8],
+    [12, 2, 2, 2, 1, 1, 1], // fill the queue
+    [3, 8, 8, 8, 2, 2, 2],  // bring the arguments
+    [1, 4, 4, 4, 8, 8, 8],  // empty the queue
+    [4, 8, 3, 1, 8, 1, 4],  // loads hurry
+    [4, 2, 8, 8, 1, 8, 1],  // stores hurry
+    [6, 6, 6, 1, 8, 2, 4],  // data comes late
+];
+
+/// `count` events for a queue opened with `header`; one that the queue would
+/// refuse is kept only now and then.
+///
+/// # Panics
+/// When the table does not open with the header.
+pub fn events(rng: &mut Rng, table: &Table, header: Header, count: usize) -> Vec<Event> {
+    let queue = Queue::open(table.clone(), header).expect("a header that opens");
+    let hot = hot_addresses(rng, header.memory_length);
+    let mut driver = Driver {
+        queue,
+        hot,
+        word: 0,
+    };
+    let mut memory = vec![0; header.memory_length as usize];
+    let mut counts = Counts::default();
+    let mut weights = rng.pick(&PROFILES);
+    let mut events = Vec::with_capacity(count);
+    for _ in 0..count {
+        if rng.chance(1, 20) {
+            weights = rng.pick(&PROFILES);
+        }
+        let event = driver.next_event(rng, &weights, &memory);
+        let _ = driver.queue.apply(&event, &mut memory, &mut counts);
+        events.push(event);
+    }
+    events
+}
+
+/// The few addresses that most accesses go to.
+fn hot_addresses(rng: &mut Rng, memory_length: u32) -> Vec<u32> {
+    let count = rng.between(1, 3);
+    (0..count)
+        .map(|_| rng.between(0, memory_length - 1))
+        .collect()
+}
+
+/// Proposes events with the queue that they will meet in view.
+struct Driver {
+    queue: Queue,
+    hot: Vec<u32>,
+    word: u32,
+}
+
+impl Driver {
+    /// Tries a few events and keeps the first accepted one, or by chance a
+    /// refused one.
+    fn next_event(&mut self, rng: &mut Rng, weights: &[usize; 7], memory: &[u32]) -> Event {
+        let mut event = self.propose(rng, weights);
+        for _ in 0..8 {
+            if rng.chance(1, 10) || self.accepts(&event, memory) {
+                break;
+            }
+            event = self.propose(rng, weights);
+        }
+        event
+    }
+
+    fn accepts(&self, event: &Event, memory: &[u32]) -> bool {
+        let mut counts = Counts::default();
+        let mut queue = self.queue.clone();
+        match *event {
+            Event::Write { serial } => {
+                let mut run = [0; MAX_DEPTH as usize];
+                let ready = queue.ready_stores(&mut run);
+                ready.is_ok_and(|ready| ready.contains(&serial))
+            }
+            Event::Serve { serial } => queue.serve(serial, memory, &mut counts).is_ok(),
+            _ => queue.apply(event, &mut [], &mut counts).is_ok(),
+        }
+    }
+
+    fn propose(&mut self, rng: &mut Rng, weights: &[usize; 7]) -> Event {
+        match weighted(rng, weights) {
+            0 => Event::Activate {
+                group: self.group(rng),
+            },
+            1 => Event::LoadAddress {
+                port: self.load_port(rng, |load| load.address.is_none()),
+                address: self.address(rng),
+            },
+            2 => Event::StoreAddress {
+                port: self.store_port(rng, |store| store.address.is_none()),
+                address: self.address(rng),
+            },
+            3 => Event::StoreData {
+                port: self.store_port(rng, |store| store.data.is_none()),
+                word: self.data(rng),
+            },
+            4 => Event::Serve {
+                serial: self.load_serial(rng),
+            },
+            5 => Event::Write {
+                serial: self.store_serial(rng),
+            },
+            _ => Event::Take {
+                port: self.load_port(rng, |load| load.served && !load.taken),
+            },
+        }
+    }
+
+    fn group(&self, rng: &mut Rng) -> u32 {
+        let groups = self.queue.table.groups.len() as u32;
+        if rng.chance(1, 16) {
+            return rng.pick(&[groups, groups + 1, u32::MAX]);
+        }
+        rng.between(0, groups - 1)
+    }
+
+    /// Mostly the port of a queued load that passes `test`.
+    fn load_port(&self, rng: &mut Rng, test: impl Fn(&LoadEntry) -> bool) -> u32 {
+        let loads = self.queue.loads.entries.iter();
+        let useful: Vec<u32> = loads.filter(|e| test(e)).map(|e| e.port).collect();
+        some_port(rng, &useful, &load_ports(&self.queue.table))
+    }
+
+    /// Mostly the port of a queued store that passes `test`.
+    fn store_port(&self, rng: &mut Rng, test: impl Fn(&StoreEntry) -> bool) -> u32 {
+        let stores = self.queue.stores.entries.iter();
+        let useful: Vec<u32> = stores.filter(|e| test(e)).map(|e| e.port).collect();
+        some_port(rng, &useful, &store_ports(&self.queue.table))
+    }
+
+    fn address(&self, rng: &mut Rng) -> u32 {
+        let length = self.queue.memory_length;
+        match rng.below(24) {
+            0 => rng.pick(&[length, length, length + 1, u32::MAX]),
+            1..=3 => rng.between(0, length - 1),
+            _ => rng.pick(&self.hot),
+        }
+    }
+
+    /// Data that tells the stores apart, and now and then an extreme word.
+    fn data(&mut self, rng: &mut Rng) -> u32 {
+        self.word += 1;
+        let any = rng.word();
+        rng.pick(&[self.word, self.word, self.word, self.word, 0, u32::MAX, any])
+    }
+
+    fn load_serial(&self, rng: &mut Rng) -> u32 {
+        let side = &self.queue.loads;
+        let mut run = [0; MAX_DEPTH as usize];
+        let ready = self.queue.ready_loads(&mut run).unwrap_or_default();
+        some_serial(rng, ready, side.oldest_serial(), side.next_serial)
+    }
+
+    fn store_serial(&self, rng: &mut Rng) -> u32 {
+        let side = &self.queue.stores;
+        let mut run = [0; MAX_DEPTH as usize];
+        let ready = self.queue.ready_stores(&mut run).unwrap_or_default();
+        some_serial(rng, ready, side.oldest_serial(), side.next_serial)
+    }
+}
+
+/// A place of `weights`, each as often as its weight says.
+fn weighted(rng: &mut Rng, weights: &[usize]) -> usize {
+    let mut rest = rng.below(weights.iter().sum());
+    for (place, &weight) in weights.iter().enumerate() {
+        if rest < weight {
+            return place;
+        }
+        rest -= weight;
+    }
+    unreachable!("the rest is below the sum")
+}
+
+/// Mostly a useful port, else a known one, or any, or one past the limit.
+fn some_port(rng: &mut Rng, useful: &[u32], known: &[u32]) -> u32 {
+    match rng.below(24) {
+        0 => rng.pick(&[0, MAX_PORT, MAX_PORT + 1, u32::MAX]),
+        1 => rng.between(0, MAX_PORT),
+        2.. if !useful.is_empty() => rng.pick(useful),
+        _ if !known.is_empty() => rng.pick(known),
+        _ => 0,
+    }
+}
+
+fn load_ports(table: &Table) -> Vec<u32> {
+    let loads = table.groups.iter().flat_map(|group| &group.loads);
+    loads.map(|load| load.port).collect()
+}
+
+fn store_ports(table: &Table) -> Vec<u32> {
+    let stores = table.groups.iter().flat_map(|group| &group.stores);
+    stores.map(|store| store.port).collect()
+}
+
+/// Mostly a ready serial, else a queued one, one just outside, or any.
+fn some_serial(rng: &mut Rng, ready: &[u32], oldest: u32, next: u32) -> u32 {
+    let queued = next.wrapping_sub(oldest) as usize;
+    match rng.below(16) {
+        0 => rng.pick(&[oldest.wrapping_sub(1), next, next, 0, u32::MAX]),
+        1 => rng.word(),
+        2..=5 if queued > 0 => oldest.wrapping_add(rng.below(queued) as u32),
+        _ if !ready.is_empty() => rng.pick(ready),
+        _ => oldest,
+    }
+}
+
+// Damage.
+
+/// Damages the bytes in one to three places.
+pub fn damage(rng: &mut Rng, bytes: &mut Vec<u8>) {
+    for _ in 0..rng.between(1, 3) {
+        damage_once(rng, bytes);
+    }
+}
+
+fn damage_once(rng: &mut Rng, bytes: &mut Vec<u8>) {
+    let at = rng.below(bytes.len() + 1);
+    let inside = at < bytes.len();
+    match rng.below(10) {
+        0 if inside => bytes[at] ^= 1 << rng.below(8),
+        1 if inside => bytes[at] = rng.word() as u8,
+        2 if inside => drop(bytes.remove(at)),
+        3 => bytes.truncate(at),
+        4 => bytes.insert(at, rng.pick(&[0x00, 0x01, 0x7F, 0x80, 0xFF])),
+        5 => bytes.extend([rng.word() as u8, 0x00].iter().take(rng.below(3))),
+        6 => pad_number(rng, bytes, NUMBER_BYTES + 2),
+        _ => change_number(rng, bytes),
+    }
+}
+
+/// The places at which numbers start, as long as they can be read.
+fn number_places(bytes: &[u8]) -> Vec<(usize, usize)> {
+    let mut places = Vec::new();
+    let mut at = 0;
+    while let Ok((_, next)) = read_number(bytes, at) {
+        places.push((at, next));
+        at = next;
+    }
+    places
+}
+
+/// Replaces one number by a near or an extreme one.
+fn change_number(rng: &mut Rng, bytes: &mut Vec<u8>) {
+    let places = number_places(bytes);
+    if places.is_empty() {
+        return;
+    }
+    let (start, end) = rng.pick(&places);
+    let number = read_number(bytes, start).map_or(0, |(number, _)| number);
+    let near = [number.wrapping_add(1), number.wrapping_sub(1)];
+    let far = rng.pick(&[0, 1, 2, 6, 7, 16, 17, 31, 32, 64, 65, u32::MAX]);
+    let other = rng.pick(&[near[0], near[1], far]);
+    let mut buffer = [0; NUMBER_BYTES];
+    let count = write_number(other, &mut buffer).unwrap_or(0);
+    bytes.splice(start..end, buffer[..count].iter().copied());
+}
+
+/// Pads some numbers within the limits, which changes no meaning.
+fn pad_several(rng: &mut Rng, bytes: &mut Vec<u8>) {
+    for _ in 0..rng.between(1, 4) {
+        pad_number(rng, bytes, NUMBER_BYTES);
+    }
+}
+
+/// Pads one number to at most `most` bytes; more than five can't be read.
+fn pad_number(rng: &mut Rng, bytes: &mut Vec<u8>, most: usize) {
+    let places = number_places(bytes);
+    if places.is_empty() {
+        return;
+    }
+    let (start, end) = rng.pick(&places);
+    let room = most.saturating_sub(end - start);
+    let padding = rng.below(room + 1);
+    for _ in 0..padding {
+        bytes[end - 1] |= 0x80;
+        bytes.insert(end, 0x80);
+    }
+    bytes[end - 1 + padding] &= 0x7F;
+}
+
+/// Lengthens a trace by takes to the limit of a file, or over it.
+fn stretch(rng: &mut Rng, trace: &mut Vec<u8>) {
+    let length = MAX_FILE - 1 + rng.below(3);
+    if trace.len() + 3 > length {
+        return;
+    }
+    if (length - trace.len()) % 2 == 1 {
+        trace.extend([0x06, 0x80, 0x00]);
+    }
+    while trace.len() < length {
+        trace.extend([0x06, 0x00]);
+    }
+}
+
+// Records.
+
+/// A queue's record as no opening need lead to: "wherever it came from, the
+/// rules go by what it holds". One in four is unsound and meets 40.
+pub fn record(rng: &mut Rng) -> Queue {
+    let table = table(rng);
+    let header = header(rng, &table);
+    let mut queue = Queue::open(table, header).expect("a header that opens");
+    queue.loads.next_serial = first_serial(rng);
+    queue.stores.next_serial = first_serial(rng);
+    fill_record(rng, &mut queue);
+    if rng.chance(1, 4) {
+        spoil_record(rng, &mut queue);
+    }
+    queue
+}
+
+fn fill_record(rng: &mut Rng, queue: &mut Queue) {
+    let most = rng.pick(&[2, 6, MAX_DEPTH]);
+    let loads = rng.between(0, queue.load_depth.min(most)) as usize;
+    let stores = rng.between(0, queue.store_depth.min(most)) as usize;
+    let hot = hot_addresses(rng, queue.memory_length);
+    let gaps = rng.pick(&[2, 10, 100]);
+    for _ in 0..loads {
+        let load = any_load(rng, &queue.table, &hot, gaps, stores);
+        queue.loads.entries.push_back(load);
+    }
+    for _ in 0..stores {
+        let store = any_store(rng, &queue.table, &hot, gaps, loads);
+        queue.stores.entries.push_back(store);
+    }
+}
+
+fn any_load(rng: &mut Rng, table: &Table, hot: &[u32], gaps: usize, stores: usize) -> LoadEntry {
+    LoadEntry {
+        port: some_port(rng, &[], &load_ports(table)),
+        address: (!rng.chance(1, gaps)).then(|| rng.pick(hot)),
+        served: rng.chance(1, 3),
+        value: rng.word(),
+        taken: rng.chance(1, 3),
+        stores_before: rng.below(stores + 1),
+    }
+}
+
+fn any_store(rng: &mut Rng, table: &Table, hot: &[u32], gaps: usize, loads: usize) -> StoreEntry {
+    StoreEntry {
+        port: some_port(rng, &[], &store_ports(table)),
+        address: (!rng.chance(1, gaps)).then(|| rng.pick(hot)),
+        data: (!rng.chance(1, gaps)).then(|| rng.word()),
+        written: rng.chance(1, 3),
+        loads_before: rng.below(loads + 1),
+    }
+}
+
+/// Brings about one of the things that 40 lists, where the entries allow it.
+fn spoil_record(rng: &mut Rng, queue: &mut Queue) {
+    let (loads, stores) = (queue.loads.entries.len(), queue.stores.entries.len());
+    let length = queue.memory_length;
+    let beyond = rng.pick(&[length, length + 1, u32::MAX]);
+    match rng.below(12) {
+        0 => queue.load_depth = rng.pick(&[0, 65, u32::MAX]),
+        1 => queue.store_depth = rng.pick(&[0, 65, u32::MAX]),
+        2 => queue.memory_length = rng.pick(&[0, 4097, u32::MAX]),
+        3 if loads > 1 => queue.load_depth = loads as u32 - 1,
+        4 if stores > 1 => queue.store_depth = stores as u32 - 1,
+        5 if loads > 0 => queue.loads.entries[rng.below(loads)].stores_before = stores + 1,
+        6 if stores > 0 => queue.stores.entries[rng.below(stores)].loads_before = loads + 1,
+        7 if loads > 0 => queue.loads.entries[rng.below(loads)].address = Some(beyond),
+        8 if stores > 0 => queue.stores.entries[rng.below(stores)].address = Some(beyond),
+        _ => spoil_table(rng, &mut queue.table),
+    }
+}
+
+/// Makes a table meet one of 4 to 8.
+pub fn spoil_table(rng: &mut Rng, table: &mut Table) {
+    let group = rng.below(table.groups.len());
+    let pairs = &mut table.groups[group];
+    let pair = pairs.loads.iter_mut().chain(&mut pairs.stores).next();
+    match (rng.below(5), pair) {
+        (0, _) => table.groups.clear(),
+        (1, _) => table.groups.push(Group::default()),
+        (2, Some(pair)) => pair.offset = rng.pick(&[17, u32::MAX]),
+        (3, Some(pair)) => pair.port = rng.pick(&[32, u32::MAX]),
+        _ => table.groups.push(table.groups[group].clone()),
+    }
+}

@@ -1,0 +1,30 @@
+//! Reference model of the group-allocated load-store queue of the tally board.
+//!
+//! It is written from the paper "The group-allocated load-store queue of the
+//! tally board" alone; quoted sentences in the comments are the paper's.
+//! Everything works in place and refusals are plain numbers, so that another
+//! implementation can be compared with this one answer by answer.
+//!
+//! "Tables and events lie lowest, the queue above, `play` on top":
+//! [`number`], [`table`] and [`event`] know nothing of [`queue`], which knows
+//! nothing of [`play`]. [`plain`] is the run that demand 3 is measured on and
+//! uses nothing of the queue. [`gen`] and [`rng`] make inputs for comparisons.
+
+#![forbid(unsafe_code)]
+#![warn(missing_docs)]
+
+pub mod counts;
+pub mod event;
+pub mod gen;
+pub mod number;
+pub mod plain;
+pub mod play;
+pub mod queue;
+pub mod refusal;
+pub mod rng;
+pub mod table;
+
+pub use counts::Counts;
+pub use event::{Event, Header, Step};
+pub use queue::Queue;
+pub use table::Table;

@@ -1,0 +1,112 @@
+//! Numbers as bytes: "32 bits without sign, in groups of seven bits, lowest
+//! group first; bit 7 of a byte means that another follows."
+
+use crate::refusal;
+
+/// Most bytes that a number takes.
+const MAX_BYTES: usize = 5;
+
+/// "The byte count comes from a table of 33 entries indexed by significant
+/// bits: 1 for 0 to 7, then 2 to 14, 3 to 21, 4 to 28, 5 to 32."
+const BYTE_COUNT: [usize; 33] = [
+    1, 1, 1, 1, 1, 1, 1, 1, //
+    2, 2, 2, 2, 2, 2, 2, //
+    3, 3, 3, 3, 3, 3, 3, //
+    4, 4, 4, 4, 4, 4, 4, //
+    5, 5, 5, 5,
+];
+
+/// Fewest bytes that hold `number`.
+#[must_use]
+pub fn byte_count(number: u32) -> usize {
+    let significant_bits = 32 - number.leading_zeros();
+    BYTE_COUNT[significant_bits as usize]
+}
+
+/// Reads the number at place `at` and gives it with the place behind it.
+///
+/// "A reader accepts padding (80 00 is 0)."
+///
+/// # Errors
+/// "1 the bytes end inside it or before it; 2 a fifth byte above 0F." A fifth
+/// byte that announces a sixth is above 0F too.
+pub fn read_number(bytes: &[u8], at: usize) -> Result<(u32, usize), u8> {
+    let rest = bytes.get(at..).unwrap_or_default();
+    let mut number = 0;
+    for (i, &byte) in rest.iter().take(MAX_BYTES).enumerate() {
+        if i == MAX_BYTES - 1 && byte > 0x0F {
+            return Err(refusal::FIFTH_BYTE);
+        }
+        number |= u32::from(byte & 0x7F) << (7 * i);
+        if byte & 0x80 == 0 {
+            return Ok((number, at + i + 1));
+        }
+    }
+    Err(refusal::BYTES_END)
+}
+
+/// Writes `number` at the front of `buffer` "in the fewest bytes" and gives
+/// their count.
+///
+/// # Errors
+/// 10 when the buffer is too short; it then keeps its contents.
+pub fn write_number(number: u32, buffer: &mut [u8]) -> Result<usize, u8> {
+    let count = byte_count(number);
+    let front = buffer.get_mut(..count).ok_or(refusal::TOO_SHORT)?;
+    let mut rest = number;
+    for byte in front.iter_mut() {
+        *byte = (rest & 0x7F) as u8 | 0x80;
+        rest >>= 7;
+    }
+    front[count - 1] &= 0x7F;
+    Ok(count)
+}
+
+/// Writes `numbers` one behind the other, all of them or none.
+///
+/// # Errors
+/// 10 when the buffer is too short for all; it then keeps its contents.
+pub fn write_numbers(numbers: &[u32], buffer: &mut [u8]) -> Result<usize, u8> {
+    let total = numbers.iter().map(|&number| byte_count(number)).sum();
+    if buffer.len() < total {
+        return Err(refusal::TOO_SHORT);
+    }
+    let mut at = 0;
+    for &number in numbers {
+        at += write_number(number, &mut buffer[at..])?;
+    }
+    Ok(at)
+}
+
+/// A place in lent bytes from which numbers are read one by one.
+#[derive(Clone, Copy, Debug)]
+pub struct NumberReader<'a> {
+    /// The lent bytes.
+    pub bytes: &'a [u8],
+    /// The place of the next number.
+    pub at: usize,
+}
+
+impl<'a> NumberReader<'a> {
+    /// A reader of `bytes` that stands at place `at`.
+    #[must_use]
+    pub fn new(bytes: &'a [u8], at: usize) -> Self {
+        Self { bytes, at }
+    }
+
+    /// Reads the next number and steps behind it.
+    ///
+    /// # Errors
+    /// 1 or 2 as [`read_number`]; the place then stays.
+    pub fn number(&mut self) -> Result<u32, u8> {
+        let (number, next) = read_number(self.bytes, self.at)?;
+        self.at = next;
+        Ok(number)
+    }
+
+    /// "A place past the end counts as the end."
+    #[must_use]
+    pub fn at_end(&self) -> bool {
+        self.at >= self.bytes.len()
+    }
+}

@@ -1,0 +1,77 @@
+//! The generator: equal seeds give equal bytes, whole scenarios are accepted,
+//! and together the pairs reach every answer that `play` can print.
+
+use std::collections::BTreeSet;
+
+use lsq_ref::event::{read_header, EventReader};
+use lsq_ref::gen::{self, Scenario};
+use lsq_ref::play::play;
+use lsq_ref::rng::Rng;
+use lsq_ref::{Queue, Table};
+
+#[test]
+fn equal_seeds_give_equal_pairs() {
+    for seed in 0..200 {
+        assert_eq!(gen::pair(seed), gen::pair(seed));
+    }
+    assert_ne!(gen::pair(0), gen::pair(1));
+}
+
+#[test]
+fn scenarios_come_back_from_their_bytes() {
+    for seed in 0..500 {
+        let scenario = Scenario::random(&mut Rng::new(seed));
+        assert_eq!(scenario.table.check(), 0);
+        let (table, trace) = scenario.bytes();
+        assert_eq!(Table::read(&table), Ok(scenario.table.clone()));
+        let (header, at) = read_header(&trace).expect("a header");
+        assert_eq!(header, scenario.header);
+        assert!(Queue::open(scenario.table, header).is_ok());
+        let events = EventReader { bytes: &trace, at }.rest();
+        assert_eq!(events, Ok(scenario.events));
+    }
+}
+
+#[test]
+fn spoiled_tables_are_wrong() {
+    let mut met = BTreeSet::new();
+    for seed in 0..500 {
+        let mut rng = Rng::new(seed);
+        let mut table = gen::table(&mut rng);
+        gen::spoil_table(&mut rng, &mut table);
+        met.insert(table.check());
+    }
+    assert_eq!(met, BTreeSet::from([4, 5, 6, 7, 8]));
+}
+
+/// The number in a line's second field.
+fn second(line: &str) -> u8 {
+    let field = line.split(' ').nth(1).expect("a second field");
+    field.parse().expect("an answer")
+}
+
+#[test]
+fn pairs_reach_every_answer() {
+    let mut tables = BTreeSet::new();
+    let mut traces = BTreeSet::new();
+    let mut answers = BTreeSet::new();
+    let mut played = 0;
+    for seed in 0..12_000 {
+        let (table, trace) = gen::pair(seed);
+        let text = play(Some(&table), Some(&trace));
+        if text.starts_with("table") {
+            tables.insert(second(text.trim_end()));
+        } else if text.starts_with("trace") {
+            traces.insert(second(text.trim_end()));
+        } else {
+            played += 1;
+            let is_event = |line: &&str| line.starts_with(|c: char| c.is_ascii_digit());
+            answers.extend(text.lines().filter(is_event).map(second));
+        }
+    }
+    assert_eq!(tables, BTreeSet::from([1, 2, 3, 4, 5, 6, 7, 8, 9, 36]));
+    assert_eq!(traces, BTreeSet::from([1, 2, 11, 12, 13, 14, 35, 36]));
+    let calls = [0, 20, 21, 22, 23, 24, 25, 26, 27, 28, 29, 31, 32, 33, 34];
+    assert_eq!(answers, BTreeSet::from(calls));
+    assert!(played > 6_000, "only {played} pairs were played");
+}

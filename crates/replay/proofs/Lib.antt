@@ -1,0 +1,4 @@
+-- Laws that the functions' proofs cite.
+pub mod EventLaws
+pub mod PlayLaws
+pub mod PrepareLaws

@@ -1,0 +1,85 @@
+-- Laws of playing one event: what the contract of its call says is what the definition of playing gives.
+use Prim.Native.Nat.{ℕ}
+use mathlib.Core.Path.{_≡_, refl, sym, ap, ap₂, _∙_}
+use mathlib.Core.List.{List}
+use mathlib.Core.Option.{Option}
+use Rattle.table.specs.declared.Event.{Event}
+use Rattle.table.specs.declared.Event.the-variants.{Activate, LoadAddress, StoreAddress, StoreData, Serve, Write, Take}
+use Rattle.queue.specs.declared.Queue.{Queue}
+use Rattle.queue.specs.declared.Counts.{Counts}
+use Rattle.queue.specs.declared.Outcome.{Outcome}
+use Rattle.queue.specs.declared.Counted.{Counted}
+use Rattle.queue.specs.Ruled.{Ruled, refuse, accept}
+use Rattle.queue.specs.Contents.{Contents, contentsOf}
+use Rattle.queue.specs.Activate.{activate}
+use Rattle.queue.specs.Arguments.{loadAddress, storeAddress, storeData}
+use Rattle.queue.specs.Serve.{Served, serve}
+use Rattle.queue.specs.Write.{Written, write}
+use Rattle.queue.specs.Take.{Taken, take}
+use Rattle.queue.specs.Outcome.{Moves, Takes, Serves, Writes}
+use Rattle.queue.specs.ServeLent.{withCounts}
+use Rattle.queue.specs.Records.{valueIn}
+use Rattle.queue.specs.Call.{Machine, Step, moved, served, written, taken}
+use Rattle.replay.specs.Playing.{Playing, playing, stepOf, played, countsAfter, afterServe}
+use Rattle.replay.specs.Outcome.{Plays}
+
+abbrev made : Machine → Counts → Playing
+made m c = record { machine = m; counts = c }
+
+abbrev machine : Contents → List ℕ → Machine
+machine q m = record { queue = q; memory = m }
+
+-- the event and the outcome by their values
+pub plays-as : {q : Queue} {c : Counts} {m : List ℕ} {e₁ e₂ : Event} {r₁ r₂ : Counted} {left : List ℕ} → e₁ ≡ e₂ → r₁ ≡ r₂ → Plays q c m e₂ r₂ left → Plays q c m e₁ r₁ left
+plays-as e r w = rw (e, r) w
+
+module _ (q : Queue) (c : Counts) (m : List ℕ) (e : Event) where
+  abbrev now : Playing
+  now = playing (contentsOf q) m c
+
+  -- what a step gives, piece by piece
+  from-step : (s : Step) (r : Counted) (left : List ℕ) → stepOf now e ≡ s → s .number ≡ r .answer → s .value ≡ valueIn (r .value) → s .machine ≡ machine (contentsOf (r .queue)) left → countsAfter now e ≡ r .counts → Plays q c m e r left
+  from-step s r left is number value next counts = record {
+    answer = ap (λ (x : Step). x .number) is ∙ number;
+    value = ap (λ (x : Step). x .value) is ∙ value;
+    next = ap₂ made (ap (λ (x : Step). x .machine) is ∙ next) counts;
+  }
+
+  moves-play : (rule : Ruled Contents) (o : Outcome) → stepOf now e ≡ moved (machine (contentsOf q) m) rule → countsAfter now e ≡ c → Moves q rule o → Plays q c m e (withCounts o c) m
+  moves-play (refuse n) o is counts w = rw w (from-step _ _ m is refl refl refl counts)
+  moves-play (accept next) o is counts w = from-step _ (withCounts o c) m is (sym (w .answer)) (ap valueIn (sym (w .gives))) (ap (λ (x : Contents). machine x m) (sym (w .holds))) counts
+
+  takes-play : (rule : Ruled Taken) (o : Outcome) → stepOf now e ≡ taken (machine (contentsOf q) m) rule → countsAfter now e ≡ c → Takes q rule o → Plays q c m e (withCounts o c) m
+  takes-play (refuse n) o is counts w = rw w (from-step _ _ m is refl refl refl counts)
+  takes-play (accept t) o is counts w = from-step _ (withCounts o c) m is (sym (w .answer)) (ap valueIn (sym (w .gives))) (ap (λ (x : Contents). machine x m) (sym (w .holds))) counts
+
+  writes-play : (rule : Ruled Written) (o : Outcome) (left : List ℕ) → stepOf now e ≡ written (machine (contentsOf q) m) rule → countsAfter now e ≡ c → Writes q m rule o left → Plays q c m e (withCounts o c) left
+  writes-play (refuse n) o left is counts w = rw (w .outcome, w .memory-is) (from-step _ _ m is refl refl refl counts)
+  writes-play (accept t) o left is counts w = from-step _ (withCounts o c) left is (sym (w .outcome .answer)) (ap valueIn (sym (w .outcome .gives))) (ap₂ machine (sym (w .outcome .holds)) (sym (w .memory-is))) counts
+
+  serves-play : (rule : Ruled Served) (r : Counted) → stepOf now e ≡ served (machine (contentsOf q) m) rule → countsAfter now e ≡ afterServe c rule → Serves q c rule r → Plays q c m e r m
+  serves-play (refuse n) r is counts w = rw w (from-step _ _ m is refl refl refl counts)
+  serves-play (accept s) r is counts w = from-step _ r m is (sym (w .answer)) (ap valueIn (sym (w .gives))) (ap (λ (x : Contents). machine x m) (sym (w .holds))) (counts ∙ sym (w .counts))
+
+-- the same for each kind of event
+module _ (q : Queue) (c : Counts) (m : List ℕ) where
+  pub play-activate : (g : ℕ) (o : Outcome) → Moves q (activate (contentsOf q) g) o → Plays q c m (Activate g) (withCounts o c) m
+  play-activate g o w = moves-play q c m (Activate g) (activate (contentsOf q) g) o refl refl w
+
+  pub play-load-address : (p a : ℕ) (o : Outcome) → Moves q (loadAddress (contentsOf q) p a) o → Plays q c m (LoadAddress p a) (withCounts o c) m
+  play-load-address p a o w = moves-play q c m (LoadAddress p a) (loadAddress (contentsOf q) p a) o refl refl w
+
+  pub play-store-address : (p a : ℕ) (o : Outcome) → Moves q (storeAddress (contentsOf q) p a) o → Plays q c m (StoreAddress p a) (withCounts o c) m
+  play-store-address p a o w = moves-play q c m (StoreAddress p a) (storeAddress (contentsOf q) p a) o refl refl w
+
+  pub play-store-data : (p d : ℕ) (o : Outcome) → Moves q (storeData (contentsOf q) p d) o → Plays q c m (StoreData p d) (withCounts o c) m
+  play-store-data p d o w = moves-play q c m (StoreData p d) (storeData (contentsOf q) p d) o refl refl w
+
+  pub play-serve : (s : ℕ) (r : Counted) → Serves q c (serve (contentsOf q) m s) r → Plays q c m (Serve s) r m
+  play-serve s r w = serves-play q c m (Serve s) (serve (contentsOf q) m s) r refl refl w
+
+  pub play-write : (s : ℕ) (o : Outcome) (left : List ℕ) → Writes q m (write (contentsOf q) m s) o left → Plays q c m (Write s) (withCounts o c) left
+  play-write s o left w = writes-play q c m (Write s) (write (contentsOf q) m s) o left refl refl w
+
+  pub play-take : (p : ℕ) (o : Outcome) → Takes q (take (contentsOf q) p) o → Plays q c m (Take p) (withCounts o c) m
+  play-take p o w = takes-play q c m (Take p) (take (contentsOf q) p) o refl refl w

@@ -1,0 +1,127 @@
+-- Laws of making a trace ready.
+use Prim.Native.Nat.{ℕ, _+_, _≤_}
+use mathlib.Core.Path.{_≡_, refl, sym, ap, _∙_}
+use mathlib.Core.Bool.{Bool, true, false, not}
+use mathlib.Core.List.{List, [], _++_}
+use native.Mathlib.Omega.{arith}
+use lib.Dec.{eqb}
+use lib.ListN.{length, drop, length-append, length-drop}
+use lib.Seq.{drop-at, drop-drop}
+use borrow.Author.Tests.{eq-eqb}
+use Rattle.table.specs.Basics.{all}
+use Rattle.table.specs.Number.{Got, got, bad, andThen, readNumber, placeOf}
+use Rattle.table.specs.Group.{GroupPairs}
+use Rattle.table.specs.Table.{tableFault}
+use Rattle.table.specs.declared.Event.{Event}
+use Rattle.table.specs.declared.Header.{Header}
+use Rattle.table.specs.declared.HeaderRead.the-variants.{Leading, NoHeader}
+use Rattle.table.specs.Event.{readHeader, headerAnswer}
+use Rattle.table.proofs.NumberLaws.{place-drop}
+use Rattle.table.proofs.RoundTripLaws.{only-spelled-numbers}
+use Rattle.queue.specs.declared.Opened.{Opened}
+use Rattle.queue.specs.Refusal.{badLoadDepth, badStoreDepth, badMemoryLength, groupTooLarge}
+use Rattle.queue.specs.Ruled.{Ruled, refuse, accept, need}
+use Rattle.queue.specs.Contents.{Contents, contentsOf}
+use Rattle.queue.specs.Sound.{depthRight, memoryRight}
+use Rattle.queue.specs.NoQueue.{noQueue}
+use Rattle.queue.specs.Open.{groupFits, opened, openQueue}
+use Rattle.queue.specs.Outcome.{Opens}
+use Rattle.queue.proofs.Refusals.{proper, need-proper}
+use Rattle.replay.specs.declared.Prepared.{Prepared}
+use Rattle.replay.specs.Events.{eventsOf, eventsFrom}
+use Rattle.replay.specs.Replay.{Start, startOf, openTrace, prepare}
+use Rattle.replay.specs.Outcome.{Prepares, unprepared, Prepared-as}
+
+-- ---- the leading numbers: what is left is the last part of the bytes
+record Suffix (s rest : List ℕ) : Type 0 where
+  pub front : ℕ
+  pub is : rest ≡ drop front s
+  pub inside : front ≤ length s
+
+number-suffix : (s rest : List ℕ) (n : ℕ) → readNumber s ≡ got n rest → Suffix s rest
+number-suffix s rest n h =
+    let (bytes, is, spelled, value) = only-spelled-numbers s rest n h in
+    record { front = length bytes; is = sym (drop-at bytes rest (length bytes) refl) ∙ ap (drop (length bytes)) (sym is); inside = omega (arith, ap length is, length-append bytes rest) }
+
+suffix-suffix : {s t u : List ℕ} → Suffix s t → Suffix t u → Suffix s u
+suffix-suffix {s} a b = record {
+  front = a .front + b .front;
+  is = b .is ∙ ap (drop (b .front)) (a .is) ∙ drop-drop (b .front) (a .front) s;
+  inside = omega (arith, a .inside, b .inside, ap length (a .is), length-drop (a .front) s);
+}
+
+suffix-place : {s rest : List ℕ} → Suffix s rest → rest ≡ drop (placeOf s rest) s
+suffix-place {s} {rest} w =
+    let m : placeOf s rest ≡ w .front = ap (placeOf s) (w .is) ∙ place-drop s (w .front) (w .inside) in
+    w .is ∙ ap (λ (k : ℕ). drop k s) (sym m)
+
+-- reading a number and going on
+numbers-suffix : {A : Type 0} (s : List ℕ) (k : ℕ → List ℕ → Got A) {a : A} {rest : List ℕ} → ((n : ℕ) (t : List ℕ) → k n t ≡ got a rest → Suffix t rest) → andThen (readNumber s) k ≡ got a rest → Suffix s rest
+numbers-suffix {A} s k {a} {rest} then h = go (readNumber s) refl h
+  where
+    go : (g : Got ℕ) → readNumber s ≡ g → andThen g k ≡ got a rest → Suffix s rest
+    go (bad n) d f = let z : _≡_ {A = ℕ} 0 1 = cc in absurd (omega arith)
+    go (got n t) d f = suffix-suffix (number-suffix s t n d) (then n t f)
+
+header-suffix : (s rest : List ℕ) (h : Header) → readHeader s ≡ got h rest → Suffix s rest
+unfolding readHeader
+header-suffix s rest h e = numbers-suffix s _ (λ n₁ s₁. numbers-suffix s₁ _ (λ n₂ s₂. numbers-suffix s₂ _ (λ n₃ s₃. numbers-suffix s₃ _ (λ n₄ s₄ f. let y : s₄ ≡ rest = cc in record { front = 0; is = sym y; inside = omega arith })))) e
+
+pub header-got : (s : List ℕ) {h : Header} {place : ℕ} → headerAnswer s (readHeader s) ≡ Leading h place → readHeader s ≡ got h (drop place s)
+header-got s {h} {place} e = go (readHeader s) refl e
+  where
+    go : (g : Got Header) → readHeader s ≡ g → headerAnswer s g ≡ Leading h place → g ≡ got h (drop place s)
+    go (bad n) d f = let z : _≡_ {A = ℕ} 0 1 = cc in absurd (omega arith)
+    go (got h₂ rest) d f =
+        let w : rest ≡ drop (placeOf s rest) s = suffix-place (header-suffix s rest h₂ d) in
+        let x : h₂ ≡ h = cc in
+        let y : placeOf s rest ≡ place = cc in
+        cc
+
+pub header-bad : (s : List ℕ) {k : ℕ} → headerAnswer s (readHeader s) ≡ NoHeader k → readHeader s ≡ bad k
+header-bad s {k} e = go (readHeader s) e
+  where
+    go : (g : Got Header) → headerAnswer s g ≡ NoHeader k → g ≡ bad k
+    go (got h rest) f = let z : _≡_ {A = ℕ} 0 1 = cc in absurd (omega arith)
+    go (bad n) f = cc
+
+-- ---- opening
+open-proper : (gs : List GroupPairs) (loads stores first words : ℕ) → proper (openQueue gs loads stores first words) ≡ true
+unfolding openQueue
+open-proper gs loads stores first words = go (eqb (tableFault gs) 0) refl
+  where
+    go : (t : Bool) → eqb (tableFault gs) 0 ≡ t → proper (need t (tableFault gs) (need (depthRight loads) badLoadDepth (need (depthRight stores) badStoreDepth (need (memoryRight words) badMemoryLength (need (all (groupFits loads stores) gs) groupTooLarge (accept (opened gs loads stores first words))))))) ≡ true
+    go true e = need-proper (depthRight loads) _ _ refl (need-proper (depthRight stores) _ _ refl (need-proper (memoryRight words) _ _ refl (need-proper (all (groupFits loads stores) gs) _ _ refl refl)))
+    go false e = rw e
+
+pub opened-refused : (rule : Ruled Contents) (o : Opened) → Opens noQueue rule o → (o .answer ≡ 0 → ⊥) → rule ≡ refuse (o .answer)
+opened-refused (refuse n) o w apart = ap refuse (sym (ap (λ (x : Opened). x .answer) w))
+opened-refused (accept c) o w apart = absurd (apart (w .0))
+
+accepted : (rule : Ruled Contents) (o : Opened) → proper rule ≡ true → Opens noQueue rule o → o .answer ≡ 0 → rule ≡ accept (contentsOf (o .queue))
+accepted (refuse n) o p w zero =
+    let z : eqb n 0 ≡ true = eq-eqb n 0 (sym (ap (λ (x : Opened). x .answer) w) ∙ zero) in
+    let f : false ≡ true = sym (ap not z) ∙ p in
+    let y : _≡_ {A = ℕ} 0 1 = cc in
+    absurd (omega arith)
+accepted (accept c) o p w zero = ap accept (sym (w .1))
+
+pub opened-accepted : (gs : List GroupPairs) (loads stores first words : ℕ) (o : Opened) → Opens noQueue (openQueue gs loads stores first words) o → o .answer ≡ 0 → openQueue gs loads stores first words ≡ accept (contentsOf (o .queue))
+opened-accepted gs loads stores first words o = accepted (openQueue gs loads stores first words) o (open-proper gs loads stores first words)
+
+-- ---- what is handed back
+module _ (gs : List GroupPairs) (trace : List ℕ) (h : Header) (at : ℕ) where
+  abbrev opening : Ruled Contents
+  opening = openQueue gs (h .loads) (h .stores) (h .serial) (h .words)
+
+  abbrev rule : Ruled Start
+  rule = openTrace gs (got h (drop at trace))
+
+  pub prepared-refused : {n : ℕ} {r : Prepared} → opening ≡ refuse n → r ≡ unprepared n → Prepared-as gs trace rule r
+  prepared-refused e f = rw e f
+
+  pub prepared-fault : {q : Contents} {n : ℕ} {r : Prepared} → opening ≡ accept q → eventsFrom trace at ≡ bad n → r ≡ unprepared n → Prepared-as gs trace rule r
+  prepared-fault e d f = rw (e, d) f
+
+  pub prepared-well : {q : Contents} {es : List Event} {count : ℕ} → opening ≡ accept q → eventsFrom trace at ≡ got es [] → count ≡ length es → Prepared-as gs trace rule (record { answer = 0; header = h; at = at; events = count })
+  prepared-well e d f = rw (e, d) (record { answer = refl; opens = e; words = refl; events = d; count = f })

@@ -1,0 +1,72 @@
+-- What the calls of this crate hand back.
+use Prim.Native.Nat.{ℕ, _<_}
+use mathlib.Core.Path.{_≡_}
+use mathlib.Core.List.{List, [], _++_, map}
+use mathlib.Core.Option.{Option}
+use lib.ListN.{length, drop}
+use Rattle.table.specs.Number.{Got, got}
+use Rattle.table.specs.Group.{GroupPairs}
+use Rattle.table.specs.declared.Event.{Event}
+use Rattle.queue.specs.declared.Counts.{Counts}
+use Rattle.queue.specs.declared.Counted.{Counted}
+use Rattle.queue.specs.declared.Queue.{Queue}
+use Rattle.queue.specs.Ruled.{Ruled, refuse, accept}
+use Rattle.queue.specs.Contents.{Contents, contentsOf}
+use Rattle.queue.specs.Open.{openQueue}
+use Rattle.queue.specs.Records.{valueIn}
+use Rattle.replay.specs.declared.Prepared.{Prepared}
+use Rattle.replay.specs.declared.Replayed.{Replayed}
+use Rattle.replay.specs.Events.{eventsFrom}
+use Rattle.replay.specs.Playing.{Playing, playing, stepOf, played, Logged, answerOf, givenOf, wordOf}
+use Rattle.replay.specs.Replay.{Start, Replay}
+
+-- one event played on a queue's record, with the memory and the counts as they were and as they are left
+pub record Plays (q : Queue) (c : Counts) (memory : List ℕ) (e : Event) (r : Counted) (left : List ℕ) : Type 0 where
+  pub answer : stepOf (playing (contentsOf q) memory c) e .number ≡ r .answer
+  pub value : stepOf (playing (contentsOf q) memory c) e .value ≡ valueIn (r .value)
+  pub next : played (playing (contentsOf q) memory c) e ≡ playing (contentsOf (r .queue)) left (r .counts)
+
+-- a trace that can be played: its leading numbers, with which the queue opens, and its events, which stand from a place on
+pub record Prepares (gs : List GroupPairs) (trace : List ℕ) (s : Start) (r : Prepared) : Type 0 where
+  pub answer : r .answer ≡ 0
+  pub opens : openQueue gs (r .header .loads) (r .header .stores) (r .header .serial) (r .header .words) ≡ accept (s .queue)
+  pub words : r .header .words ≡ s .words
+  pub events : eventsFrom trace (r .at) ≡ got (s .events) []
+  pub count : r .events ≡ length (s .events)
+
+-- a refused one: all else is 0, and means nothing
+abbrev pub unprepared : ℕ → Prepared
+unprepared n = record { answer = n; header = record { loads = 0; stores = 0; serial = 0; words = 0 }; at = 0; events = 0 }
+
+abbrev pub Prepared-as : List GroupPairs → List ℕ → Ruled Start → Prepared → Type 0
+Prepared-as gs trace (refuse n) r = r ≡ unprepared n
+Prepared-as gs trace (accept s) r = Prepares gs trace s r
+
+-- the lent buffers: answers, whether each gave a value, the values
+pub record Buffers : Type 0 where
+  pub answers : List ℕ
+  pub given : List ℕ
+  pub words : List ℕ
+
+-- a list at the front of a buffer, which keeps the rest
+abbrev pub over : List ℕ → List ℕ → List ℕ
+over xs buffer = xs ++ drop (length xs) buffer
+
+abbrev pub logIn : List Logged → Buffers → Buffers
+logIn l b = record { answers = over (map answerOf l) (b .answers); given = over (map givenOf l) (b .given); words = over (map wordOf l) (b .words) }
+
+-- a refused replay changes nothing that was lent
+pub record Unplayed (n : ℕ) (memory : List ℕ) (c : Counts) (b : Buffers) (r : Replayed) (memory₂ : List ℕ) (b₂ : Buffers) : Type 0 where
+  pub outcome : r ≡ record { answer = n; events = 0; counts = c }
+  pub memory-is : memory₂ ≡ memory
+  pub buffers-are : b₂ ≡ b
+
+-- an accepted one: the counts, the memory, and the events' answers and values at the buffers' front
+pub record Replays (p : Replay) (b : Buffers) (r : Replayed) (memory₂ : List ℕ) (b₂ : Buffers) : Type 0 where
+  pub outcome : r ≡ record { answer = 0; events = length (p .log); counts = p .left .counts }
+  pub memory-is : memory₂ ≡ p .left .machine .memory
+  pub buffers-are : b₂ ≡ logIn (p .log) b
+
+abbrev pub Replayed-as : List ℕ → Counts → Buffers → Ruled Replay → Replayed → List ℕ → Buffers → Type 0
+Replayed-as memory c b (refuse n) r memory₂ b₂ = Unplayed n memory c b r memory₂ b₂
+Replayed-as memory c b (accept p) r memory₂ b₂ = Replays p b r memory₂ b₂

@@ -2,3 +2,4 @@
 pub mod EventLaws
 pub mod PlayLaws
 pub mod PrepareLaws
+pub mod ReplayLaws

@@ -18,7 +18,7 @@ use Rattle.replay.specs.declared.Prepared.{Prepared}
 use Rattle.replay.specs.declared.Replayed.{Replayed}
 use Rattle.replay.specs.Events.{eventsFrom}
 use Rattle.replay.specs.Playing.{Playing, playing, stepOf, played, Logged, answerOf, givenOf, wordOf}
-use Rattle.replay.specs.Replay.{Start, Replay}
+use Rattle.replay.specs.Replay.{Start, Replay, Buffers}
 
 -- one event played on a queue's record, with the memory and the counts as they were and as they are left
 pub record Plays (q : Queue) (c : Counts) (memory : List ℕ) (e : Event) (r : Counted) (left : List ℕ) : Type 0 where
@@ -41,12 +41,6 @@ unprepared n = record { answer = n; header = record { loads = 0; stores = 0; ser
 abbrev pub Prepared-as : List GroupPairs → List ℕ → Ruled Start → Prepared → Type 0
 Prepared-as gs trace (refuse n) r = r ≡ unprepared n
 Prepared-as gs trace (accept s) r = Prepares gs trace s r
-
--- the lent buffers: answers, whether each gave a value, the values
-pub record Buffers : Type 0 where
-  pub answers : List ℕ
-  pub given : List ℕ
-  pub words : List ℕ
 
 -- a list at the front of a buffer, which keeps the rest
 abbrev pub over : List ℕ → List ℕ → List ℕ

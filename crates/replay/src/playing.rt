@@ -45,7 +45,7 @@ pub(crate) fn play_event(queue: Queue, counts: Counts, memory: &mut [u32], event
 }
 
 // 1 where there is a value, else 0.
-pub(crate) fn given(value: Value) -> u8
+pub(crate) fn value_given(value: Value) -> u8
     ensures { λ r. ⌜ r ≡ givenIn (valueIn value) ⌝ }
 {
     match value {
@@ -55,7 +55,7 @@ pub(crate) fn given(value: Value) -> u8
 }
 
 // The value, or 0 where there is none.
-pub(crate) fn word_of(value: Value) -> u32
+pub(crate) fn value_word(value: Value) -> u32
     ensures { λ r. ⌜ r ≡ wordIn (valueIn value) ⌝ }
 {
     match value {

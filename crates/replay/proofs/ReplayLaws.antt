@@ -1,0 +1,157 @@
+-- Laws of playing events one after another into lent buffers.
+use Prim.Native.Nat.{ℕ, suc, _+_, _≤_, _<_}
+use mathlib.Core.Path.{_≡_, refl, sym, ap, ap₂, _∙_}
+use mathlib.Core.List.{List, [], _∷_, _++_, map, map-append, append-assoc, append-nil}
+use mathlib.Core.Option.{Option}
+use native.Mathlib.Omega.{arith}
+use native.Mathlib.Nat.{zero-add}
+use native.Mathlib.Numerals.{add-one}
+use lib.ListN.{length, drop, set, getD, length-append, length-drop, length-map}
+use lib.Seq.{set-at, drop-cons, append-snoc}
+use Rattle.table.specs.Number.{Got, got, bad}
+use Rattle.table.specs.TableBytes.{before}
+use Rattle.table.specs.declared.Event.{Event}
+use Rattle.queue.specs.declared.Counts.{Counts}
+use Rattle.queue.specs.declared.Counted.{Counted}
+use Rattle.queue.specs.declared.Queue.{Queue}
+use Rattle.queue.specs.Contents.{contentsOf}
+use Rattle.queue.specs.Records.{valueIn}
+use Rattle.replay.specs.declared.Replayed.{Replayed}
+use Rattle.replay.specs.Events.{eventsFrom}
+use Rattle.replay.specs.Playing.{Playing, playing, stepOf, played, Logged, logged, log, playedAll, answerOf, givenOf, wordOf, givenIn, wordIn}
+use Rattle.replay.specs.Replay.{Buffers}
+use Rattle.replay.specs.Outcome.{Plays, over, logIn, Replays}
+use Rattle.replay.specs.Internal.{Playable, eventsIn, through}
+use Rattle.replay.proofs.EventLaws.{EventGot}
+
+abbrev pub buffers : List ℕ → List ℕ → List ℕ → Buffers
+buffers a g w = record { answers = a; given = g; words = w }
+
+-- one number more behind those at a buffer's front
+over-more : (f : Logged → ℕ) (done : List Logged) (l : Logged) (d : List ℕ) (i v : ℕ) → length done ≡ i → i < length d → v ≡ f l → set (over (map f done) d) i v ≡ over (map f (done ++ l ∷ [])) d
+over-more f done l d i v many h e =
+    let n : length (map f done) ≡ i = length-map done f ∙ many in
+    let m : length (map f done ++ f l ∷ []) ≡ suc i = length-append (map f done) (f l ∷ []) ∙ omega arith in
+    rw (map-append f done (l ∷ []), m, n, drop-cons d i 0 h, e) (set-at (map f done) (getD d i 0) (drop (suc i) d) (f l) i n ∙ sym (append-snoc (map f done) (f l) (drop (suc i) d)))
+
+over-length : (f : Logged → ℕ) (done : List Logged) (d : List ℕ) → length done ≤ length d → length (over (map f done) d) ≡ length d
+over-length f done d h = rw (length-append, length-drop, length-map) (omega arith)
+
+-- The events up to a place have been played: these answers were logged, and these events are left.
+pub record Walk (s : List ℕ) (start : ℕ) (p₀ : Playing) (b₀ : Buffers) (place i : ℕ) (p : Playing) (b : Buffers) : Type 0 where
+  pub done : List Logged
+  pub left : List Event
+  pub reads : eventsFrom s place ≡ got left []
+  pub logs : log p₀ (eventsIn (eventsFrom s start)) ≡ done ++ log p left
+  pub ends : playedAll p₀ (eventsIn (eventsFrom s start)) ≡ playedAll p left
+  pub many : length done ≡ i
+  pub are : b ≡ logIn done b₀
+  pub answers : i + length left ≤ length (b₀ .answers)
+  pub given : i + length left ≤ length (b₀ .given)
+  pub words : i + length left ≤ length (b₀ .words)
+
+pub walk-none : {s : List ℕ} {start : ℕ} {p₀ : Playing} {b₀ : Buffers} → Playable s start b₀ → Walk s start p₀ b₀ start 0 p₀ b₀
+walk-none {p₀ = p₀} w = record {
+  done = [];
+  left = w .events;
+  reads = w .is;
+  logs = ap (λ (g : Got (List Event)). log p₀ (eventsIn g)) (w .is);
+  ends = ap (λ (g : Got (List Event)). playedAll p₀ (eventsIn g)) (w .is);
+  many = refl;
+  are = refl;
+  answers = omega (arith, w .answers);
+  given = omega (arith, w .given);
+  words = omega (arith, w .words);
+}
+
+-- the next event is one of those that are left
+record Next (s : List ℕ) (next : ℕ) (left : List Event) (e : Event) : Type 0 where
+  pub rest : List Event
+  pub is : left ≡ e ∷ rest
+  pub reads : eventsFrom s next ≡ got rest []
+
+next-left : {s : List ℕ} {place next : ℕ} {e : Event} (left : List Event) → eventsFrom s place ≡ got left [] → EventGot s place e next → Next s next left e
+next-left {s} {place} {next} {e} left reads g = go (eventsFrom s next) refl
+  where
+    go : (h : Got (List Event)) → eventsFrom s next ≡ h → Next s next left e
+    go (bad n) d = let f : before e (bad n) ≡ got left [] = ap (before e) (sym d) ∙ sym (g .is) ∙ reads in let z : _≡_ {A = ℕ} 0 1 = cc in absurd (omega arith)
+    go (got es rest) d =
+        let f : before e (got es rest) ≡ got left [] = ap (before e) (sym d) ∙ sym (g .is) ∙ reads in
+        let x : left ≡ e ∷ es = cc in
+        let y : rest ≡ [] = cc in
+        record { rest = es; is = x; reads = d ∙ ap (got es) y }
+
+abbrev asLogged : ℕ → Option ℕ → Logged
+asLogged n v = record { number = n; value = v }
+
+module _ {s : List ℕ} {start : ℕ} {p₀ : Playing} {b₀ : Buffers} {place i : ℕ} {p : Playing} {b : Buffers} (w : Walk s start p₀ b₀ place i p b) where
+  -- there is room for the next event's answer
+  pub record Room : Type 0 where
+    pub answers : i < length (b .answers)
+    pub given : i < length (b .given)
+    pub words : i < length (b .words)
+
+  pub walk-room : {e : Event} {next : ℕ} → EventGot s place e next → Room
+  walk-room g =
+      let n = next-left (w .left) (w .reads) g in
+      let l : length (w .left) ≡ suc (length (n .rest)) = ap length (n .is) in
+      record {
+        answers = rw (w .are, over-length answerOf (w .done) (b₀ .answers) (omega (arith, w .many, w .answers))) (omega (arith, w .answers));
+        given = rw (w .are, over-length givenOf (w .done) (b₀ .given) (omega (arith, w .many, w .given))) (omega (arith, w .given));
+        words = rw (w .are, over-length wordOf (w .done) (b₀ .words) (omega (arith, w .many, w .words))) (omega (arith, w .words));
+      }
+
+  pub walk-lengths : (length (b .answers) ≡ length (b₀ .answers)) × (length (b .given) ≡ length (b₀ .given)) × (length (b .words) ≡ length (b₀ .words))
+  walk-lengths = (
+    rw (w .are) (over-length answerOf (w .done) (b₀ .answers) (omega (arith, w .many, w .answers))),
+    rw (w .are) (over-length givenOf (w .done) (b₀ .given) (omega (arith, w .many, w .given))),
+    rw (w .are) (over-length wordOf (w .done) (b₀ .words) (omega (arith, w .many, w .words))),
+  )
+
+same-buffers : {a a₂ g g₂ w w₂ : List ℕ} → a ≡ a₂ → g ≡ g₂ → w ≡ w₂ → buffers a g w ≡ buffers a₂ g₂ w₂
+same-buffers e f h = cc
+
+-- one event more
+pub walk-more : {s : List ℕ} {start : ℕ} {p₀ : Playing} {b₀ : Buffers} {place i next : ℕ} {q : Queue} {c : Counts} {m left : List ℕ} {a g w : List ℕ} {e : Event} {r : Counted} {x y : ℕ} → Walk s start p₀ b₀ place i (playing (contentsOf q) m c) (buffers a g w) → EventGot s place e next → Plays q c m e r left → x ≡ givenIn (valueIn (r .value)) → y ≡ wordIn (valueIn (r .value)) → Walk s start p₀ b₀ next (i + 1) (playing (contentsOf (r .queue)) left (r .counts)) (buffers (set a i (r .answer)) (set g i x) (set w i y))
+walk-more {s} {start} {p₀} {b₀} {place} {i} {next} {q} {c} {m} {left} {a} {g} {w} {e} {r} {x} {y} k ev pl ex ey =
+    let n = next-left (k .left) (k .reads) ev in
+    let l : length (k .left) ≡ suc (length (n .rest)) = ap length (n .is) in
+    let p = playing (contentsOf q) m c in
+    let new = asLogged (r .answer) (valueIn (r .value)) in
+    let same : logged (stepOf p e) ≡ new = ap₂ asLogged (pl .answer) (pl .value) in
+    let tail : log p (k .left) ≡ new ∷ log (playing (contentsOf (r .queue)) left (r .counts)) (n .rest) = ap (log p) (n .is) ∙ ap₂ (λ (h : Logged) (z : Playing). h ∷ log z (n .rest)) same (pl .next) in
+    record {
+      done = k .done ++ new ∷ [];
+      left = n .rest;
+      reads = n .reads;
+      logs = k .logs ∙ ap (λ (t : List Logged). k .done ++ t) tail ∙ sym (append-snoc (k .done) new _);
+      ends = k .ends ∙ ap (playedAll p) (n .is) ∙ ap (λ (z : Playing). playedAll z (n .rest)) (pl .next);
+      many = length-append (k .done) (new ∷ []) ∙ omega (arith, k .many);
+      are = same-buffers
+          (ap (λ (z : Buffers). set (z .answers) i (r .answer)) (k .are) ∙ over-more answerOf (k .done) new (b₀ .answers) i (r .answer) (k .many) (omega (arith, k .answers)) refl)
+          (ap (λ (z : Buffers). set (z .given) i x) (k .are) ∙ over-more givenOf (k .done) new (b₀ .given) i x (k .many) (omega (arith, k .given)) ex)
+          (ap (λ (z : Buffers). set (z .words) i y) (k .are) ∙ over-more wordOf (k .done) new (b₀ .words) i y (k .many) (omega (arith, k .words)) ey);
+      answers = omega (arith, k .answers);
+      given = omega (arith, k .given);
+      words = omega (arith, k .words);
+    }
+
+-- no event is left
+pub walk-end : {s : List ℕ} {start : ℕ} {p₀ : Playing} {b₀ : Buffers} {place i : ℕ} {p : Playing} {b : Buffers} → Walk s start p₀ b₀ place i p b → eventsFrom s place ≡ got [] [] → Replays (through p₀ (eventsIn (eventsFrom s start))) b₀ (record { answer = 0; events = i; counts = p .counts }) (p .machine .memory) b
+walk-end {s} {start} {p₀} {b₀} {place} {i} {p} {b} w h =
+    let z : got (w .left) [] ≡ got [] [] = sym (w .reads) ∙ h in
+    let none : w .left ≡ [] = cc in
+    let logs : log p₀ (eventsIn (eventsFrom s start)) ≡ w .done = w .logs ∙ ap (λ (l : List Event). w .done ++ log p l) none ∙ append-nil (w .done) in
+    let ends : playedAll p₀ (eventsIn (eventsFrom s start)) ≡ p = w .ends ∙ ap (playedAll p) none in
+    record {
+      outcome = rw (logs, ends, w .many);
+      memory-is = rw ends;
+      buffers-are = rw logs (w .are);
+    }
+
+-- every event that is left can be read
+pub walk-no-fault : {s : List ℕ} {start : ℕ} {p₀ : Playing} {b₀ : Buffers} {place i : ℕ} {p : Playing} {b : Buffers} {k : ℕ} → Walk s start p₀ b₀ place i p b → eventsFrom s place ≡ bad k → ⊥
+walk-no-fault {k = k} w h =
+    let z : got (w .left) [] ≡ bad k = sym (w .reads) ∙ h in
+    let y : _≡_ {A = ℕ} 0 1 = cc in
+    omega arith

@@ -1,0 +1,70 @@
+// Replaying a whole trace.
+ghost use mathlib.Core.Path.{_≡_};
+ghost use Rattle.table.specs.Table.{groupsOf};
+ghost use Rattle.queue.specs.Contents.{contentsOf};
+ghost use Rattle.replay.specs.Events.{eventsFrom};
+ghost use Rattle.replay.specs.Playing.{playing};
+ghost use Rattle.replay.specs.Replay.{replay};
+ghost use Rattle.replay.specs.Outcome.{Replays, Replayed-as};
+ghost use Rattle.replay.specs.Internal.{Playable, eventsIn, through};
+use crate::Replayed;
+use crate::playing::play_event;
+use crate::playing::value_given;
+use crate::playing::value_word;
+use crate::preparing::prepare;
+use queue::Counts;
+use queue::Queue;
+use queue::refusal::WRONG_MEMORY;
+use table::EventRead;
+use table::Table;
+use table::refusal::TOO_SHORT;
+use table::trace::read_event;
+
+// So many events were played.
+fn played(events: usize, counts: Counts) -> Replayed
+    ensures { λ r. ⌜ r ≡ record { answer = 0; events = events; counts = counts } ⌝ }
+{
+    Replayed {
+        answer: 0,
+        events,
+        counts,
+    }
+}
+
+// Plays the events from a place on, which can all be read.
+fn play_all(
+    mut queue: Queue,
+    mut counts: Counts,
+    trace: &[u8],
+    at: usize,
+    memory: &mut [u32],
+    answers: &mut [u8],
+    given: &mut [u8],
+    words: &mut [u32],
+) -> Replayed
+    requires { ⌜ Playable (now trace) at (record { answers = now answers; given = now given; words = now words }) ⌝ }
+    ensures { λ r. ⌜ Replays (through (playing (contentsOf queue) (now (memory .entry)) counts) (eventsIn (eventsFrom (now (trace .entry)) at)))
+        (record { answers = now (answers .entry); given = now (given .entry); words = now (words .entry) }) r (now (memory .exit))
+        (record { answers = now (answers .exit); given = now (given .exit); words = now (words .exit) }) ⌝ }
+{
+    let mut place = at;
+    let mut i: usize = 0;
+    loop {
+        let read = read_event(trace, place);
+        match read {
+            EventRead::Found(event, next) => {
+                let step = play_event(queue, counts, memory, event);
+                let value = step.value;
+                answers[i] = step.answer;
+                given[i] = value_given(value);
+                words[i] = value_word(value);
+                queue = step.queue;
+                counts = step.counts;
+                place = next;
+                i += 1;
+            }
+            EventRead::End => return played(i, counts),
+            EventRead::NoEvent(_) => return played(i, counts),
+        }
+    }
+}

@@ -1,22 +1,25 @@
 -- Laws of making a trace ready.
-use Prim.Native.Nat.{ℕ, _+_, _≤_}
+use Prim.Native.Nat.{ℕ, zero, suc, _+_, _≤_}
 use mathlib.Core.Path.{_≡_, refl, sym, ap, _∙_}
 use mathlib.Core.Bool.{Bool, true, false, not}
-use mathlib.Core.List.{List, [], _++_}
+use mathlib.Core.List.{List, [], _∷_, _++_}
 use native.Mathlib.Omega.{arith}
-use lib.Dec.{eqb}
+use lib.Dec.{eqb, leb}
 use lib.ListN.{length, drop, length-append, length-drop}
 use lib.Seq.{drop-at, drop-drop}
-use borrow.Author.Tests.{eq-eqb}
-use Rattle.table.specs.Basics.{all}
+use borrow.Author.Tests.{eq-eqb, ne-eqb}
+use Rattle.table.specs.Basics.{pick, all}
+use Rattle.table.specs.Refusal.{ended}
 use Rattle.table.specs.Number.{Got, got, bad, andThen, readNumber, placeOf}
 use Rattle.table.specs.Group.{GroupPairs}
 use Rattle.table.specs.Table.{tableFault}
 use Rattle.table.specs.declared.Event.{Event}
 use Rattle.table.specs.declared.Header.{Header}
 use Rattle.table.specs.declared.HeaderRead.the-variants.{Leading, NoHeader}
-use Rattle.table.specs.Event.{readHeader, headerAnswer}
+use Rattle.table.specs.Event.{readHeader, headerAnswer, readEvent, readKind, hasSecond}
+use Rattle.table.specs.TableBytes.{before}
 use Rattle.table.proofs.NumberLaws.{place-drop}
+use Rattle.table.proofs.ReadLaws.{number-refused}
 use Rattle.table.proofs.RoundTripLaws.{only-spelled-numbers}
 use Rattle.queue.specs.declared.Opened.{Opened}
 use Rattle.queue.specs.Refusal.{badLoadDepth, badStoreDepth, badMemoryLength, groupTooLarge}
@@ -26,9 +29,9 @@ use Rattle.queue.specs.Sound.{depthRight, memoryRight}
 use Rattle.queue.specs.NoQueue.{noQueue}
 use Rattle.queue.specs.Open.{groupFits, opened, openQueue}
 use Rattle.queue.specs.Outcome.{Opens}
-use Rattle.queue.proofs.Refusals.{proper, need-proper}
+use Rattle.queue.proofs.Refusals.{proper, need-proper, andThen-proper}
 use Rattle.replay.specs.declared.Prepared.{Prepared}
-use Rattle.replay.specs.Events.{eventsOf, eventsFrom}
+use Rattle.replay.specs.Events.{unlessEnd, eventsUpTo, eventsOf, eventsFrom}
 use Rattle.replay.specs.Replay.{Start, startOf, openTrace, prepare}
 use Rattle.replay.specs.Outcome.{Prepares, unprepared, Prepared-as}
 
@@ -99,12 +102,12 @@ opened-refused (refuse n) o w apart = ap refuse (sym (ap (λ (x : Opened). x .an
 opened-refused (accept c) o w apart = absurd (apart (w .0))
 
 accepted : (rule : Ruled Contents) (o : Opened) → proper rule ≡ true → Opens noQueue rule o → o .answer ≡ 0 → rule ≡ accept (contentsOf (o .queue))
-accepted (refuse n) o p w zero =
-    let z : eqb n 0 ≡ true = eq-eqb n 0 (sym (ap (λ (x : Opened). x .answer) w) ∙ zero) in
+accepted (refuse n) o p w nought =
+    let z : eqb n 0 ≡ true = eq-eqb n 0 (sym (ap (λ (x : Opened). x .answer) w) ∙ nought) in
     let f : false ≡ true = sym (ap not z) ∙ p in
     let y : _≡_ {A = ℕ} 0 1 = cc in
     absurd (omega arith)
-accepted (accept c) o p w zero = ap accept (sym (w .1))
+accepted (accept c) o p w nought = ap accept (sym (w .1))
 
 pub opened-accepted : (gs : List GroupPairs) (loads stores first words : ℕ) (o : Opened) → Opens noQueue (openQueue gs loads stores first words) o → o .answer ≡ 0 → openQueue gs loads stores first words ≡ accept (contentsOf (o .queue))
 opened-accepted gs loads stores first words o = accepted (openQueue gs loads stores first words) o (open-proper gs loads stores first words)
@@ -125,3 +128,81 @@ module _ (gs : List GroupPairs) (trace : List ℕ) (h : Header) (at : ℕ) where
 
   pub prepared-well : {q : Contents} {es : List Event} {count : ℕ} → opening ≡ accept q → eventsFrom trace at ≡ got es [] → count ≡ length es → Prepared-as gs trace rule (record { answer = 0; header = h; at = at; events = count })
   prepared-well e d f = rw (e, d) (record { answer = refl; opens = e; words = refl; events = d; count = f })
+
+-- ---- no refusal is 0
+module _ {A : Type 0} where
+  abbrev named : Got A → Bool
+  named (got a s) = true
+  named (bad n) = not (eqb n 0)
+
+andThen-named : {A B : Type 0} (g : Got A) (k : A → List ℕ → Got B) → named g ≡ true → ((a : A) (s : List ℕ) → named (k a s) ≡ true) → named (andThen g k) ≡ true
+andThen-named (got a s) k e h = h a s
+andThen-named (bad n) k e h = e
+
+number-named : (s : List ℕ) → named (readNumber s) ≡ true
+number-named s = go (readNumber s) refl
+  where
+    go : (g : Got ℕ) → readNumber s ≡ g → named g ≡ true
+    go (got n rest) d = refl
+    go (bad n) d = ap not (ne-eqb n 0 (number-refused 4 15 s d))
+
+header-named : (s : List ℕ) → named (readHeader s) ≡ true
+unfolding readHeader
+header-named s = andThen-named (readNumber s) _ (number-named s) λ n₁ s₁. andThen-named (readNumber s₁) _ (number-named s₁) λ n₂ s₂. andThen-named (readNumber s₂) _ (number-named s₂) λ n₃ s₃. andThen-named (readNumber s₃) _ (number-named s₃) λ n₄ s₄. refl
+
+pick-named : {A : Type 0} (t : Bool) (g h : Got A) → named g ≡ true → named h ≡ true → named (pick t g h) ≡ true
+pick-named true g h e f = e
+pick-named false g h e f = f
+
+event-named : (s : List ℕ) → named (readEvent s) ≡ true
+unfolding readEvent
+event-named s = andThen-named (readNumber s) readKind (number-named s) λ kind s₁. pick-named (leb kind 6) _ _ (andThen-named (readNumber s₁) _ (number-named s₁) λ x s₂. pick-named (hasSecond kind) _ _ (andThen-named (readNumber s₂) _ (number-named s₂) λ y s₃. refl) refl) refl
+
+before-named : (e : Event) (g : Got (List Event)) → named g ≡ true → named (before e g) ≡ true
+before-named e (got es rest) h = refl
+before-named e (bad n) h = h
+
+unless-named : (s : List ℕ) (g : Got (List Event)) → named g ≡ true → named (unlessEnd s g) ≡ true
+unless-named [] g h = refl
+unless-named (b ∷ s) g h = h
+
+events-named : (m : ℕ) (s : List ℕ) → named (eventsUpTo m s) ≡ true
+unfolding eventsUpTo
+events-named zero s = unless-named s (bad ended) refl
+events-named (suc m) s = unless-named s (andThen (readEvent s) λ e rest. before e (eventsUpTo m rest)) (andThen-named (readEvent s) _ (event-named s) λ e rest. before-named e (eventsUpTo m rest) (events-named m rest))
+
+start-proper : (q : Contents) (words : ℕ) (g : Got (List Event)) → named g ≡ true → proper (startOf q words g) ≡ true
+start-proper q words (got es rest) h = refl
+start-proper q words (bad n) h = h
+
+trace-proper : (gs : List GroupPairs) (g : Got Header) → named g ≡ true → proper (openTrace gs g) ≡ true
+trace-proper gs (bad n) h = h
+trace-proper gs (got x rest) h = andThen-proper (openQueue gs (x .loads) (x .stores) (x .serial) (x .words)) _ (open-proper gs (x .loads) (x .stores) (x .serial) (x .words)) λ q. start-proper q (x .words) (eventsOf rest) (events-named (length rest) rest)
+
+prepare-proper : (gs : List GroupPairs) (trace : List ℕ) → proper (prepare gs trace) ≡ true
+unfolding prepare
+prepare-proper gs trace = trace-proper gs (readHeader trace) (header-named trace)
+
+-- ---- what a caller learns
+pub prepare-refused : (gs : List GroupPairs) (trace : List ℕ) (r : Prepared) → Prepared-as gs trace (prepare gs trace) r → (r .answer ≡ 0 → ⊥) → prepare gs trace ≡ refuse (r .answer)
+prepare-refused gs trace r w apart = go (prepare gs trace) w
+  where
+    go : (rule : Ruled Start) → Prepared-as gs trace rule r → rule ≡ refuse (r .answer)
+    go (refuse n) w = ap refuse (sym (ap (λ (x : Prepared). x .answer) w))
+    go (accept s) w = absurd (apart (w .answer))
+
+pub record Started (gs : List GroupPairs) (trace : List ℕ) (r : Prepared) : Type 0 where
+  pub start : Start
+  pub is : prepare gs trace ≡ accept start
+  pub well : Prepares gs trace start r
+
+pub prepare-accepted : (gs : List GroupPairs) (trace : List ℕ) (r : Prepared) → Prepared-as gs trace (prepare gs trace) r → r .answer ≡ 0 → Started gs trace r
+prepare-accepted gs trace r w nought = go (prepare gs trace) refl (prepare-proper gs trace) w
+  where
+    go : (rule : Ruled Start) → prepare gs trace ≡ rule → proper rule ≡ true → Prepared-as gs trace rule r → Started gs trace r
+    go (accept s) d p w = record { start = s; is = d; well = w }
+    go (refuse n) d p w =
+        let z : eqb n 0 ≡ true = eq-eqb n 0 (sym (ap (λ (x : Prepared). x .answer) w) ∙ nought) in
+        let f : false ≡ true = sym (ap not z) ∙ p in
+        let y : _≡_ {A = ℕ} 0 1 = cc in
+        absurd (omega arith)

@@ -1,5 +1,6 @@
 -- Laws of playing events one after another into lent buffers.
 use Prim.Native.Nat.{ℕ, suc, _+_, _≤_, _<_}
+use mathlib.Core.Bool.{true, false}
 use mathlib.Core.Path.{_≡_, refl, sym, ap, ap₂, _∙_}
 use mathlib.Core.List.{List, [], _∷_, _++_, map, map-append, append-assoc, append-nil}
 use mathlib.Core.Option.{Option}
@@ -7,20 +8,28 @@ use native.Mathlib.Omega.{arith}
 use native.Mathlib.Nat.{zero-add}
 use native.Mathlib.Numerals.{add-one}
 use lib.ListN.{length, drop, set, getD, length-append, length-drop, length-map}
+use borrow.Author.Tests.{eq-eqb, ne-eqb, lt-leb, le-leb}
 use lib.Seq.{set-at, drop-cons, append-snoc}
 use Rattle.table.specs.Number.{Got, got, bad}
+use Rattle.table.specs.Refusal.{tooShort}
+use Rattle.table.specs.Group.{GroupPairs}
 use Rattle.table.specs.TableBytes.{before}
 use Rattle.table.specs.declared.Event.{Event}
 use Rattle.queue.specs.declared.Counts.{Counts}
 use Rattle.queue.specs.declared.Counted.{Counted}
 use Rattle.queue.specs.declared.Queue.{Queue}
-use Rattle.queue.specs.Contents.{contentsOf}
+use Rattle.queue.specs.Refusal.{wrongMemory}
+use Rattle.queue.specs.Ruled.{Ruled, refuse, accept}
+use Rattle.queue.specs.declared.Opened.{Opened}
+use Rattle.queue.specs.Contents.{Contents, contentsOf}
+use Rattle.queue.specs.NoQueue.{noQueue}
+use Rattle.queue.specs.Outcome.{Opens}
 use Rattle.queue.specs.Records.{valueIn}
 use Rattle.replay.specs.declared.Replayed.{Replayed}
 use Rattle.replay.specs.Events.{eventsFrom}
 use Rattle.replay.specs.Playing.{Playing, playing, stepOf, played, Logged, logged, log, playedAll, answerOf, givenOf, wordOf, givenIn, wordIn}
-use Rattle.replay.specs.Replay.{Buffers}
-use Rattle.replay.specs.Outcome.{Plays, over, logIn, Replays}
+use Rattle.replay.specs.Replay.{Start, prepare, Replay, replayed, Buffers, fits, replay}
+use Rattle.replay.specs.Outcome.{Plays, over, logIn, Replays, Replayed-as}
 use Rattle.replay.specs.Internal.{Playable, eventsIn, through}
 use Rattle.replay.proofs.EventLaws.{EventGot}
 
@@ -155,3 +164,51 @@ walk-no-fault {k = k} w h =
     let z : got (w .left) [] ≡ bad k = sym (w .reads) ∙ h in
     let y : _≡_ {A = ℕ} 0 1 = cc in
     omega arith
+
+-- ---- the order of checking
+module _ (gs : List GroupPairs) (trace memory : List ℕ) (c : Counts) (b : Buffers) where
+  pub replay-fault : {n : ℕ} → prepare gs trace ≡ refuse n → replay gs trace memory c b ≡ refuse n
+  unfolding replay
+  replay-fault e = rw e
+
+  module _ (s : Start) (is : prepare gs trace ≡ accept s) where
+    pub replay-memory : (length memory ≡ s .words → ⊥) → replay gs trace memory c b ≡ refuse wrongMemory
+    unfolding replay
+    replay-memory h = rw (is, ne-eqb (length memory) (s .words) h)
+
+    module _ (long : length memory ≡ s .words) where
+      pub replay-short : fits (length (s .events)) b ≡ false → replay gs trace memory c b ≡ refuse tooShort
+      unfolding replay
+      replay-short h = rw (is, eq-eqb (length memory) (s .words) long, h)
+
+      pub replay-accepted : fits (length (s .events)) b ≡ true → replay gs trace memory c b ≡ accept (replayed s memory c)
+      unfolding replay
+      replay-accepted h = rw (is, eq-eqb (length memory) (s .words) long, h)
+
+module _ (n : ℕ) (b : Buffers) where
+  pub short-answers : length (b .answers) < n → fits n b ≡ false
+  short-answers h = rw (lt-leb _ _ h)
+
+  pub short-given : n ≤ length (b .answers) → length (b .given) < n → fits n b ≡ false
+  short-given e h = rw (le-leb _ _ e, lt-leb _ _ h)
+
+  pub short-words : n ≤ length (b .answers) → n ≤ length (b .given) → length (b .words) < n → fits n b ≡ false
+  short-words e f h = rw (le-leb _ _ e, le-leb _ _ f, lt-leb _ _ h)
+
+  pub long-enough : n ≤ length (b .answers) → n ≤ length (b .given) → n ≤ length (b .words) → fits n b ≡ true
+  long-enough e f h = rw (le-leb _ _ e, le-leb _ _ f, le-leb _ _ h)
+
+-- ---- what is handed back
+module _ (memory : List ℕ) (c : Counts) (b : Buffers) (rule : Ruled Replay) where
+  pub refused-replay : {n : ℕ} {r : Replayed} → rule ≡ refuse n → r ≡ record { answer = n; events = 0; counts = c } → Replayed-as memory c b rule r memory b
+  refused-replay e f = rw e (record { outcome = f; memory-is = refl; buffers-are = refl })
+
+  pub accepted-replay : {p : Replay} {r : Replayed} {memory₂ : List ℕ} {b₂ : Buffers} → rule ≡ accept p → Replays p b r memory₂ b₂ → Replayed-as memory c b rule r memory₂ b₂
+  accepted-replay e w = rw e w
+
+-- the queue that was opened, and the events that were counted, are those of the trace
+pub replays-start : (s : Start) (q : Queue) (memory : List ℕ) (c : Counts) (trace : List ℕ) (at : ℕ) {b : Buffers} {r : Replayed} {memory₂ : List ℕ} {b₂ : Buffers} → contentsOf q ≡ s .queue → eventsFrom trace at ≡ got (s .events) [] → Replays (through (playing (contentsOf q) memory c) (eventsIn (eventsFrom trace at))) b r memory₂ b₂ → Replays (replayed s memory c) b r memory₂ b₂
+replays-start s q memory c trace at e f w = rw (e, f) at w
+
+pub opened-holds : (rule : Ruled Contents) (o : Opened) {q : Contents} → Opens noQueue rule o → rule ≡ accept q → contentsOf (o .queue) ≡ q
+opened-holds rule o w e = (rw e at w) .1

@@ -31,6 +31,17 @@ fn played(events: usize, counts: Counts) -> Replayed
     }
 }
 
+// A replay that is refused plays nothing.
+fn unplayed(answer: u8, counts: Counts) -> Replayed
+    ensures { λ r. ⌜ r ≡ record { answer = answer; events = 0; counts = counts } ⌝ }
+{
+    Replayed {
+        answer,
+        events: 0,
+        counts,
+    }
+}
+
 // Plays the events from a place on, which can all be read.
 fn play_all(
     mut queue: Queue,
@@ -67,4 +78,58 @@ fn play_all(
             EventRead::NoEvent(_) => return played(i, counts),
         }
     }
+}
+
+// Replays a trace from a fresh opening of the table, on the memory and the counts as they are lent, and puts what each event
+// is answered at the front of the buffers: its answer, 1 or 0 as it gave a value or none, and the value or 0. Nothing that
+// was lent is changed where it answers a fault of the trace, 30 or 10.
+pub fn replay(
+    table: Table,
+    trace: &[u8],
+    memory: &mut [u32],
+    counts: Counts,
+    answers: &mut [u8],
+    given: &mut [u8],
+    words: &mut [u32],
+) -> Replayed
+    ensures { λ r. ⌜ Replayed-as (now (memory .entry)) counts (record { answers = now (answers .entry); given = now (given .entry); words = now (words .entry) })
+        (replay (groupsOf table) (now (trace .entry)) (now (memory .entry)) counts (record { answers = now (answers .entry); given = now (given .entry); words = now (words .entry) }))
+        r (now (memory .exit)) (record { answers = now (answers .exit); given = now (given .exit); words = now (words .exit) }) ⌝ }
+{
+    let ready = prepare(table, trace);
+    if ready.answer != 0 {
+        return unplayed(ready.answer, counts);
+    }
+    let header = ready.header;
+    if memory.len() != header.words as usize {
+        return unplayed(WRONG_MEMORY, counts);
+    }
+    let events = ready.events;
+    if answers.len() < events {
+        return unplayed(TOO_SHORT, counts);
+    }
+    if given.len() < events {
+        return unplayed(TOO_SHORT, counts);
+    }
+    if words.len() < events {
+        return unplayed(TOO_SHORT, counts);
+    }
+    let opened = Queue::open(
+        table,
+        header.loads,
+        header.stores,
+        header.serial,
+        header.words,
+    );
+    let queue = opened.queue;
+    play_all(
+        queue,
+        counts,
+        trace,
+        ready.at,
+        memory,
+        answers,
+        given,
+        words,
+    )
 }

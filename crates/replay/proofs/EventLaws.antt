@@ -220,3 +220,29 @@ not-read s place {k} h = go (eventsFrom s place) h
     go : (g : Got (List Event)) → BadEvent k ≡ countAnswer g → g ≡ bad k
     go (got es rest) f = let z : _≡_ {A = ℕ} 0 1 = cc in absurd (omega arith)
     go (bad n) f = cc
+
+-- ---- there are no more events than bytes
+few-step : (m : ℕ) (s : List ℕ) → ((t : List ℕ) (es : List Event) (rest : List ℕ) → eventsUpTo m t ≡ got es rest → length es ≤ m) → {es : List Event} {rest : List ℕ} → eventsUpTo (suc m) s ≡ got es rest → length es ≤ suc m
+unfolding eventsUpTo
+few-step m [] ih {es} h = let y : es ≡ [] = cc in rw y (omega arith)
+few-step m (b ∷ s) ih {es} {rest} h = go (readEvent (b ∷ s)) h
+  where
+    more : (e : Event) (t : List ℕ) (g : Got (List Event)) → eventsUpTo m t ≡ g → before e g ≡ got es rest → length es ≤ suc m
+    more e t (bad k) d f = let z : _≡_ {A = ℕ} 0 1 = cc in absurd (omega arith)
+    more e t (got es₂ rest₂) d f = let y : es ≡ e ∷ es₂ = cc in rw y (omega (arith, ih t es₂ rest₂ d))
+
+    go : (g : Got Event) → andThen g (λ e t. before e (eventsUpTo m t)) ≡ got es rest → length es ≤ suc m
+    go (bad k) f = let z : _≡_ {A = ℕ} 0 1 = cc in absurd (omega arith)
+    go (got e t) f = more e t (eventsUpTo m t) refl f
+
+few-none : (s : List ℕ) {es : List Event} {rest : List ℕ} → eventsUpTo 0 s ≡ got es rest → length es ≤ 0
+unfolding eventsUpTo
+few-none [] {es} h = let y : es ≡ [] = cc in rw y (omega arith)
+few-none (b ∷ s) h = let z : _≡_ {A = ℕ} 0 1 = cc in absurd (omega arith)
+
+events-few : (m : ℕ) (s : List ℕ) (es : List Event) (rest : List ℕ) → eventsUpTo m s ≡ got es rest → length es ≤ m
+events-few zero s es rest h = few-none s h
+events-few (suc m) s es rest h = few-step m s (events-few m) h
+
+pub events-few-from : (s : List ℕ) (place : ℕ) {es : List Event} {rest : List ℕ} → eventsFrom s place ≡ got es rest → length es ≤ length s
+events-few-from s place {es} {rest} h = omega (arith, events-few (length (drop place s)) (drop place s) es rest h, length-drop place s)

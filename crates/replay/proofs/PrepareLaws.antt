@@ -31,6 +31,7 @@ use Rattle.queue.specs.Open.{groupFits, opened, openQueue}
 use Rattle.queue.specs.Outcome.{Opens}
 use Rattle.queue.proofs.Refusals.{proper, need-proper, andThen-proper}
 use Rattle.replay.specs.declared.Prepared.{Prepared}
+use Rattle.replay.proofs.Named.{named, header-named, events-named}
 use Rattle.replay.specs.Events.{unlessEnd, eventsUpTo, eventsOf, eventsFrom}
 use Rattle.replay.specs.Replay.{Start, startOf, openTrace, prepare}
 use Rattle.replay.specs.Outcome.{Prepares, unprepared, Prepared-as}
@@ -130,47 +131,6 @@ module _ (gs : List GroupPairs) (trace : List ℕ) (h : Header) (at : ℕ) where
   prepared-well e d f = rw (e, d) (record { answer = refl; opens = e; words = refl; events = d; count = f })
 
 -- ---- no refusal is 0
-module _ {A : Type 0} where
-  abbrev named : Got A → Bool
-  named (got a s) = true
-  named (bad n) = not (eqb n 0)
-
-andThen-named : {A B : Type 0} (g : Got A) (k : A → List ℕ → Got B) → named g ≡ true → ((a : A) (s : List ℕ) → named (k a s) ≡ true) → named (andThen g k) ≡ true
-andThen-named (got a s) k e h = h a s
-andThen-named (bad n) k e h = e
-
-number-named : (s : List ℕ) → named (readNumber s) ≡ true
-number-named s = go (readNumber s) refl
-  where
-    go : (g : Got ℕ) → readNumber s ≡ g → named g ≡ true
-    go (got n rest) d = refl
-    go (bad n) d = ap not (ne-eqb n 0 (number-refused 4 15 s d))
-
-header-named : (s : List ℕ) → named (readHeader s) ≡ true
-unfolding readHeader
-header-named s = andThen-named (readNumber s) _ (number-named s) λ n₁ s₁. andThen-named (readNumber s₁) _ (number-named s₁) λ n₂ s₂. andThen-named (readNumber s₂) _ (number-named s₂) λ n₃ s₃. andThen-named (readNumber s₃) _ (number-named s₃) λ n₄ s₄. refl
-
-pick-named : {A : Type 0} (t : Bool) (g h : Got A) → named g ≡ true → named h ≡ true → named (pick t g h) ≡ true
-pick-named true g h e f = e
-pick-named false g h e f = f
-
-event-named : (s : List ℕ) → named (readEvent s) ≡ true
-unfolding readEvent
-event-named s = andThen-named (readNumber s) readKind (number-named s) λ kind s₁. pick-named (leb kind 6) _ _ (andThen-named (readNumber s₁) _ (number-named s₁) λ x s₂. pick-named (hasSecond kind) _ _ (andThen-named (readNumber s₂) _ (number-named s₂) λ y s₃. refl) refl) refl
-
-before-named : (e : Event) (g : Got (List Event)) → named g ≡ true → named (before e g) ≡ true
-before-named e (got es rest) h = refl
-before-named e (bad n) h = h
-
-unless-named : (s : List ℕ) (g : Got (List Event)) → named g ≡ true → named (unlessEnd s g) ≡ true
-unless-named [] g h = refl
-unless-named (b ∷ s) g h = h
-
-events-named : (m : ℕ) (s : List ℕ) → named (eventsUpTo m s) ≡ true
-unfolding eventsUpTo
-events-named zero s = unless-named s (bad ended) refl
-events-named (suc m) s = unless-named s (andThen (readEvent s) λ e rest. before e (eventsUpTo m rest)) (andThen-named (readEvent s) _ (event-named s) λ e rest. before-named e (eventsUpTo m rest) (events-named m rest))
-
 start-proper : (q : Contents) (words : ℕ) (g : Got (List Event)) → named g ≡ true → proper (startOf q words g) ≡ true
 start-proper q words (got es rest) h = refl
 start-proper q words (bad n) h = h

@@ -1,1 +1,4 @@
 pub mod CasesHold
+-- laws that the functions' proofs cite
+pub mod PutLaws
+pub mod LineLaws

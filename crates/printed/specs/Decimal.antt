@@ -5,7 +5,7 @@ use lib.Dec.{ltb}
 use Rattle.table.specs.Basics.{pick}
 
 -- one digit, and up to `more` before it
-abbrev pub digitsUpTo : ℕ → ℕ → List ℕ
+unfoldable pub digitsUpTo : ℕ → ℕ → List ℕ
 digitsUpTo zero n = (48 + n % 10) ∷ []
 digitsUpTo (suc more) n = let high = digitsUpTo more (n / 10) in pick (ltb n 10) ((48 + n) ∷ []) (high ++ (48 + n % 10) ∷ [])
 

@@ -1,6 +1,7 @@
 -- The printed run, in the order of document 01.
 pub mod Words
 pub mod Decimal
-pub mod Played
 pub mod Text
 pub mod Cases
+pub mod Outcome
+pub mod Internal

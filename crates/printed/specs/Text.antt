@@ -8,17 +8,13 @@ use Rattle.table.specs.Basics.{pick}
 use Rattle.table.specs.Number.{Got, got, bad}
 use Rattle.table.specs.Group.{GroupPairs}
 use Rattle.table.specs.TableBytes.{readTable}
-use Rattle.table.specs.declared.Event.{Event}
-use Rattle.table.specs.declared.Header.{Header}
-use Rattle.table.specs.Event.{readHeader}
 use Rattle.queue.specs.declared.Counts.{Counts}
 use Rattle.queue.specs.Ruled.{Ruled, refuse, accept}
-use Rattle.queue.specs.Contents.{Contents}
-use Rattle.queue.specs.Open.{openQueue}
 use Rattle.queue.specs.Counts.{share}
+use Rattle.replay.specs.Playing.{Logged}
+use Rattle.replay.specs.Replay.{Start, prepare, Replay, replayed}
 use Rattle.printed.specs.Words.{tableWord, traceWord, wordWord, loadsWord, forwardedWord, shareWord, dash, line}
 use Rattle.printed.specs.Decimal.{decimal}
-use Rattle.printed.specs.Played.{Playing, eventsUpTo, stepOf, played}
 
 -- "each at most 16,384 bytes (else 36, checked first for that file)"
 abbrev pub mostBytes : ℕ
@@ -33,35 +29,30 @@ shown none = dash
 shown (some v) = decimal v
 
 -- "one line per event: its number from 1, the answer, and the value"
-abbrev pub eventLines : ℕ → Playing → List Event → List ℕ
-eventLines n p [] = []
-eventLines n p (e ∷ es) = line (decimal n) (decimal (stepOf p e .number) ∷ shown (stepOf p e .value) ∷ []) ++ eventLines (suc n) (played p e) es
+abbrev pub eventLine : ℕ → Logged → List ℕ
+eventLine n l = line (decimal n) (decimal (l .number) ∷ shown (l .value) ∷ [])
 
-abbrev pub playedAll : Playing → List Event → Playing
-playedAll p [] = p
-playedAll p (e ∷ es) = playedAll (played p e) es
+abbrev pub eventLines : ℕ → List Logged → List ℕ
+eventLines n [] = []
+eventLines n (l ∷ ls) = eventLine n l ++ eventLines (suc n) ls
 
 -- "then `word`, address and content for each word not 0, by address"
+abbrev pub wordLine : ℕ → ℕ → List ℕ
+wordLine a w = pick (eqb w 0) [] (line wordWord (decimal a ∷ decimal w ∷ []))
+
 abbrev pub wordLines : ℕ → List ℕ → List ℕ
 wordLines a [] = []
-wordLines a (w ∷ ws) = pick (eqb w 0) [] (line wordWord (decimal a ∷ decimal w ∷ [])) ++ wordLines (suc a) ws
+wordLines a (w ∷ ws) = wordLine a w ++ wordLines (suc a) ws
 
 -- "then one line of `loads`, `forwarded` and `share`, each followed by its number"
 abbrev pub countsLine : Counts → List ℕ
 countsLine c = line loadsWord (decimal (c .loads) ∷ forwardedWord ∷ decimal (c .forwarded) ∷ shareWord ∷ decimal (share c) ∷ [])
 
-abbrev pub endLines : Playing → List ℕ
-endLines p = wordLines 0 (p .machine .memory) ++ countsLine (p .counts)
-
-abbrev pub playText : Playing → List Event → List ℕ
-playText p es = eventLines 1 p es ++ endLines (playedAll p es)
+abbrev pub playText : Replay → List ℕ
+playText r = eventLines 1 (r .log) ++ wordLines 0 (r .left .machine .memory) ++ countsLine (r .left .counts)
 
 abbrev pub noCounts : Counts
 noCounts = record { loads = 0; forwarded = 0 }
-
--- memory all zero
-abbrev pub start : Contents → ℕ → Playing
-start q words = record { machine = record { queue = q; memory = replicate words 0 }; counts = noCounts }
 
 abbrev pub tableFaultText : ℕ → List ℕ
 tableFaultText n = line tableWord (decimal n ∷ [])
@@ -70,21 +61,13 @@ abbrev pub traceFaultText : ℕ → List ℕ
 traceFaultText n = line traceWord (decimal n ∷ [])
 
 -- "a fault in the trace's four leading numbers, then in opening, then in any event, found before one is played, prints
--- `trace N`"
-abbrev pub eventsText : Contents → ℕ → Got (List Event) → List ℕ
-eventsText q words (got es rest) = playText (start q words) es
-eventsText q words (bad n) = traceFaultText n
+-- `trace N`"; else the events are played on a memory all zero
+abbrev pub startText : Ruled Start → List ℕ
+startText (refuse n) = traceFaultText n
+startText (accept s) = playText (replayed s (replicate (s .words) 0) noCounts)
 
-abbrev pub openedText : List ℕ → ℕ → Ruled Contents → List ℕ
-openedText rest words (refuse n) = traceFaultText n
-openedText rest words (accept q) = eventsText q words (eventsUpTo (length rest) rest)
-
-abbrev pub headerText : List GroupPairs → Got Header → List ℕ
-headerText gs (got h rest) = openedText rest (h .words) (openQueue gs (h .loads) (h .stores) (h .serial) (h .words))
-headerText gs (bad n) = traceFaultText n
-
-abbrev pub traceText : List GroupPairs → List ℕ → List ℕ
-traceText gs trace = pick (ltb mostBytes (length trace)) (traceFaultText fileTooLong) (headerText gs (readHeader trace))
+unfoldable pub traceText : List GroupPairs → List ℕ → List ℕ
+traceText gs trace = pick (ltb mostBytes (length trace)) (traceFaultText fileTooLong) (startText (prepare gs trace))
 
 -- "A table fault prints one line `table N`."
 abbrev pub groupsText : List ℕ → Got (List GroupPairs) → List ℕ

@@ -1,1 +1,5 @@
 // The printed run: the text that `play` prints of a table and a trace.
+
+pub mod lines;
+pub mod put;
+pub mod text;

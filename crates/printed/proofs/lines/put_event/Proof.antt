@@ -1,0 +1,113 @@
+use Prim.Native.Nat.{_+_, _≤_}
+use mathlib.Core.List.{[], _++_}
+use native.Mathlib.Omega.{arith}
+use borrow.Author.Needs.{needs}
+use lib.ListN.{length, length-append}
+use Rattle.printed.specs.Internal.{item}
+use Rattle.printed.proofs.PutLaws.{puts-as, puts-length, item-few}
+use Rattle.printed.proofs.LineLaws.{both, both-end, both-long, event-value, event-none}
+use Rattle.printed.proofs.lines.put_event.Statement.{statement}
+use Rattle.printed.proofs.lines.put_event.Tie as tie
+use Rattle.printed.proofs.lines.put_event.Reads as reads
+use Rattle.printed.proofs.lines.put_event.Lts as lts
+use Rattle.printed.proofs.put.put_bytes.Reads as put-bytes-reads
+use Rattle.printed.proofs.put.put_item.Reads as put-item-reads
+
+-- src/lines.rt:18:35
+slice-aggregate-put-item : tie.Need-slice-aggregate-put-item
+slice-aggregate-put-item c = search needs
+
+-- src/lines.rt:18:9
+put-item-requires : tie.Need-put-item-requires
+put-item-requires c κs = search needs
+
+-- src/lines.rt:19:38
+slice-aggregate-put-item-2 : tie.Need-slice-aggregate-put-item-2
+slice-aggregate-put-item-2 c = search needs
+
+-- src/lines.rt:19:9
+put-item-requires-2 : tie.Need-put-item-requires-2
+put-item-requires-2 c κs =
+    let w = c .before .before .before .before .put-item .ensures in
+    let s = c .before .before .before .before .before .before .before .before in
+    let few = item-few [] (s .args .number) 32 in
+    omega (arith, s .pre, w .ends, puts-length w (omega (arith, s .pre)))
+
+-- the number and the answer are put: what they take
+fits : (c : tie.After-slice-known3) → c .before .before .before .before .before .before .before .before .before .before .before .args .at + length (item [] (c .before .before .before .before .before .before .before .before .before .before .before .args .number) 32) + length (item [] (c .before .before .before .before .before .before .before .before .before .before .before .args .answer) 32) + 21 ≤ length (c .before .before .before .before .before .before .before .before .before .before .before .args .out .now)
+fits c =
+    let s = c .before .before .before .before .before .before .before .before .before .before .before in
+    omega (arith, s .pre, item-few [] (s .args .number) 32, item-few [] (s .args .answer) 32)
+
+-- src/lines.rt:21:37
+slice-aggregate-put-item-3 : tie.Need-slice-aggregate-put-item-3
+slice-aggregate-put-item-3 c = search needs
+
+-- src/lines.rt:21:9
+put-item-requires-3 : tie.Need-put-item-requires-3
+put-item-requires-3 c κs =
+    let k = c .before .before .before in
+    let w = k .before .before .before .before .before .before .before .put-item .ensures in
+    let v = k .before .before .put-item2 .ensures in
+    let s = k .before .before .before .before .before .before .before .before .before .before .before .args in
+    let h = fits k in
+    omega (arith, h, both-end w v (omega arith), both-long w v (omega arith))
+
+-- src/lines.rt:21:9
+same-length : tie.Need-same-length
+same-length c = search needs
+
+-- src/lines.rt:21:9
+returns : tie.Need-returns
+returns c =
+    let k = c .before .before .before .before .before .before in
+    let w = k .before .before .before .before .before .before .before .put-item .ensures in
+    let v = k .before .before .put-item2 .ensures in
+    let s = k .before .before .before .before .before .before .before .before .before .before .before .args in
+    let h = fits k in
+    puts-as (event-value (s .number) (s .answer) (s .given) (s .word) (c .before .before .before .before .before .if1 .taken)) (both (both w v (omega arith)) (c .before .before .put-item3 .ensures) (omega (arith, h, item-few [] (s .word) 10, length-append (item [] (s .number) 32) (item [] (s .answer) 32))))
+
+-- src/lines.rt:23:27
+slice-aggregate-put-bytes : tie.Need-slice-aggregate-put-bytes
+slice-aggregate-put-bytes c = search needs
+
+-- src/lines.rt:23:5
+put-bytes-requires : tie.Need-put-bytes-requires
+put-bytes-requires c κs =
+    let k = c .before .before .before in
+    let w = k .before .before .before .before .before .before .before .put-item .ensures in
+    let v = k .before .before .put-item2 .ensures in
+    let s = k .before .before .before .before .before .before .before .before .before .before .before .args in
+    let h = fits k in
+    omega (arith, h, both-end w v (omega arith), both-long w v (omega arith))
+
+-- src/lines.rt:14:1
+same-length-2 : tie.Need-same-length-2
+same-length-2 c = search needs
+
+-- src/lines.rt:14:1
+returns-2 : tie.Need-returns-2
+returns-2 c =
+    let k = c .before .before .before .before .before .before in
+    let w = k .before .before .before .before .before .before .before .put-item .ensures in
+    let v = k .before .before .put-item2 .ensures in
+    let s = k .before .before .before .before .before .before .before .before .before .before .before .args in
+    let h = fits k in
+    puts-as (event-none (s .number) (s .answer) (s .given) (s .word) (c .before .before .before .before .before .if1 .left)) (both (both w v (omega arith)) (c .before .before .put-bytes .ensures) (omega (arith, h, length-append (item [] (s .number) 32) (item [] (s .answer) 32))))
+
+pub put-event-spec : {M : Type 1} → statement M
+put-event-spec =
+    tie.close
+    (tie.spec
+    slice-aggregate-put-item
+    put-item-requires
+    slice-aggregate-put-item-2
+    put-item-requires-2
+    slice-aggregate-put-item-3
+    put-item-requires-3
+    same-length
+    returns
+    slice-aggregate-put-bytes
+    put-bytes-requires
+    same-length-2
+    returns-2)

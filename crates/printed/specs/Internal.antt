@@ -1,0 +1,31 @@
+-- What the crate's own functions promise each other: nothing here is promised to a caller from outside.
+use Prim.Native.Nat.{ℕ, _+_}
+use mathlib.Core.Path.{_≡_}
+use mathlib.Core.Bool.{Bool}
+use mathlib.Core.List.{List, [], _∷_, _++_}
+use mathlib.Core.Option.{none, some}
+use lib.Dec.{eqb}
+use lib.ListN.{length}
+use Rattle.table.specs.Basics.{pick}
+use Rattle.table.specs.Internal.{splice}
+use Rattle.replay.specs.Playing.{Logged}
+use Rattle.printed.specs.Decimal.{decimal}
+
+-- bytes put at a place of a buffer, and where they end
+pub record Puts (buffer : List ℕ) (place : ℕ) (bytes : List ℕ) (end : ℕ) (left : List ℕ) : Type 0 where
+  pub ends : end ≡ place + length bytes
+  pub is : left ≡ splice buffer place bytes
+
+-- words, a number, and the byte after it
+abbrev pub item : List ℕ → ℕ → ℕ → List ℕ
+item words n end = words ++ decimal n ++ end ∷ []
+
+-- an event's answer and value, from the three numbers that a replay puts down for it
+abbrev pub loggedAs : ℕ → ℕ → ℕ → Logged
+loggedAs answer given word = record { number = answer; value = pick (eqb given 1) (some word) none }
+
+abbrev pub rows : List ℕ → List ℕ → List ℕ → List Logged
+rows [] given words = []
+rows (a ∷ answers) [] words = []
+rows (a ∷ answers) (g ∷ given) [] = []
+rows (a ∷ answers) (g ∷ given) (w ∷ words) = loggedAs a g w ∷ rows answers given words

@@ -1,0 +1,22 @@
+-- What printing hands back. "Here and wherever else bytes are written to a lent buffer, those beyond keep their contents."
+use Prim.Native.Nat.{ℕ, _+_, _*_}
+use mathlib.Core.List.{List, _++_}
+use lib.Dec.{leb}
+use lib.ListN.{length, drop}
+use Rattle.table.specs.Basics.{pick}
+use Rattle.table.specs.Refusal.{tooShort}
+use Rattle.table.specs.Number.{Wrote}
+use Rattle.table.specs.declared.Written.the-variants.{Bytes, Unwritten}
+use Rattle.printed.specs.Text.{mostBytes, text}
+
+-- No text is longer: an event's line takes at most 63 bytes and there are no more events than bytes, a word's line takes at
+-- most 47, and the last line at most 85.
+abbrev pub mostText : ℕ
+mostText = 63 * mostBytes + 47 * 4096 + 85
+
+-- the text at the front of a buffer that has room for every text; else 10, and nothing is written
+unfoldable pub printed : List ℕ → List ℕ → List ℕ → Wrote
+printed table trace buffer =
+    pick (leb mostText (length buffer))
+    (record { answer = Bytes (length (text table trace)); buffer = text table trace ++ drop (length (text table trace)) buffer })
+    (record { answer = Unwritten tooShort; buffer = buffer })

@@ -22,3 +22,59 @@ fn put_event(out: &mut [u8], at: usize, number: u64, answer: u8, given: u8, word
     }
     put_bytes(out, place, b"-\n")
 }
+
+// Puts the lines of the first events, from what a replay put down of them.
+pub(crate) fn put_events(
+    out: &mut [u8],
+    answers: &[u8],
+    given: &[u8],
+    words: &[u32],
+    count: usize,
+) -> usize
+    requires { ⌜ (count ≤ length (now answers)) × (count ≤ length (now given)) × (count ≤ length (now words)) × (63 * count ≤ length (now out)) ⌝ }
+    ensures { λ r. ⌜ Puts (now (out .entry)) 0 (eventLines 1 (take count (rows (now (answers .entry)) (now (given .entry)) (now (words .entry))))) r (now (out .exit)) ⌝ }
+{
+    let mut place: usize = 0;
+    let mut i: usize = 0;
+    while i < count {
+        place = put_event(out, place, i as u64 + 1, answers[i], given[i], words[i]);
+        i += 1;
+    }
+    place
+}
+
+// Puts a word's line, or nothing for a word that is 0.
+fn put_word(out: &mut [u8], at: usize, address: u64, word: u32) -> usize
+    requires { ⌜ at + 47 ≤ length (now out) ⌝ }
+    ensures { λ r. ⌜ Puts (now (out .entry)) at (wordLine address word) r (now (out .exit)) ⌝ }
+{
+    if word == 0 {
+        return at;
+    }
+    let place = put_item(out, at, b"word ", address, 32);
+    put_item(out, place, b"", word as u64, 10)
+}
+
+// Puts the lines of a memory's words that are not 0, by address.
+pub(crate) fn put_words(out: &mut [u8], at: usize, memory: &[u32]) -> usize
+    requires { ⌜ at + 47 * length (now memory) ≤ length (now out) ⌝ }
+    ensures { λ r. ⌜ Puts (now (out .entry)) at (wordLines 0 (now (memory .entry))) r (now (out .exit)) ⌝ }
+{
+    let mut place = at;
+    let mut i: usize = 0;
+    while i < memory.len() {
+        place = put_word(out, place, i as u64, memory[i]);
+        i += 1;
+    }
+    place
+}
+
+// Puts the last line.
+pub(crate) fn put_counts(out: &mut [u8], at: usize, counts: Counts) -> usize
+    requires { ⌜ at + 85 ≤ length (now out) ⌝ }
+    ensures { λ r. ⌜ Puts (now (out .entry)) at (countsLine counts) r (now (out .exit)) ⌝ }
+{
+    let place = put_item(out, at, b"loads ", counts.loads as u64, 32);
+    let place = put_item(out, place, b"forwarded ", counts.forwarded as u64, 32);
+    put_item(out, place, b"share ", share(counts), 10)
+}

@@ -1,0 +1,98 @@
+use mathlib.Core.List.{[], _∷_}
+use native.Mathlib.Omega.{arith}
+use lib.ListN.{length-append}
+use Rattle.queue.specs.Counts.{share}
+use Rattle.printed.specs.Internal.{item}
+use Rattle.printed.proofs.PutLaws.{puts-as, puts-length, item-few}
+use Rattle.printed.proofs.LineLaws.{both, both-end, both-long, loadsSpace, forwardedSpace, shareSpace, counts-line}
+use borrow.Author.Needs.{needs}
+use Rattle.printed.proofs.lines.put_counts.Statement.{statement}
+use Rattle.printed.proofs.lines.put_counts.Tie as tie
+use Rattle.printed.proofs.lines.put_counts.Reads as reads
+use Rattle.printed.proofs.lines.put_counts.Lts as lts
+use Rattle.printed.proofs.put.put_item.Reads as put-item-reads
+use Rattle.queue.proofs.counting.share.Reads as share-reads
+
+-- src/lines.rt:77:35
+slice-aggregate-put-item : tie.Need-slice-aggregate-put-item
+slice-aggregate-put-item c = search needs
+
+-- src/lines.rt:77:46
+cast-put-item : tie.Need-cast-put-item
+cast-put-item c = search needs
+
+-- src/lines.rt:77:9
+put-item-requires : tie.Need-put-item-requires
+put-item-requires c κs = search needs
+
+-- src/lines.rt:78:38
+slice-aggregate-put-item-2 : tie.Need-slice-aggregate-put-item-2
+slice-aggregate-put-item-2 c = search needs
+
+-- src/lines.rt:78:53
+cast-put-item-2 : tie.Need-cast-put-item-2
+cast-put-item-2 c = search needs
+
+-- src/lines.rt:78:9
+put-item-requires-2 : tie.Need-put-item-requires-2
+put-item-requires-2 c κs =
+    let w = c .before .before .before .before .before .put-item .ensures in
+    let s = c .before .before .before .before .before .before .before .before .before .before in
+    let few = item-few loadsSpace (s .args .counts .loads) 32 in
+    omega (arith, s .pre, few, w .ends, puts-length w (omega (arith, s .pre, few)))
+
+-- src/lines.rt:79:26
+slice-aggregate-put-item-3 : tie.Need-slice-aggregate-put-item-3
+slice-aggregate-put-item-3 c = search needs
+
+-- src/lines.rt:79:37
+share-requires : tie.Need-share-requires
+share-requires c κs = search needs
+
+-- src/lines.rt:79:5
+put-item-requires-3 : tie.Need-put-item-requires-3
+put-item-requires-3 c κs =
+    let k = c .before .before .before in
+    let w = k .before .before .before .before .before .before .before .before .put-item .ensures in
+    let v = k .before .before .put-item2 .ensures in
+    let s = k .before .before .before .before .before .before .before .before .before .before .before .before .before in
+    let f = item-few loadsSpace (s .args .counts .loads) 32 in
+    let g = item-few forwardedSpace (s .args .counts .forwarded) 32 in
+    let h = s .pre in
+    omega (arith, f, g, h, both-end w v (omega (arith, f, g, h)), both-long w v (omega (arith, f, g, h)))
+
+-- src/lines.rt:73:1
+same-length : tie.Need-same-length
+same-length c = search needs
+
+-- src/lines.rt:73:1
+returns : tie.Need-returns
+returns c =
+    let k = c .before .before .before .before .before .before in
+    let w = k .before .before .before .before .before .before .before .before .put-item .ensures in
+    let v = k .before .before .put-item2 .ensures in
+    let s = k .before .before .before .before .before .before .before .before .before .before .before .before .before in
+    let f = item-few loadsSpace (s .args .counts .loads) 32 in
+    let g = item-few forwardedSpace (s .args .counts .forwarded) 32 in
+    let h = s .pre in
+    let i = item loadsSpace (s .args .counts .loads) 32 in
+    let j = item forwardedSpace (s .args .counts .forwarded) 32 in
+    let p = c .before .before .before .share .ensures in
+    let z = both (both w v (omega (arith, f, g, h))) (c .before .before .put-item3 .ensures) (omega (arith, f, g, h, item-few shareSpace (c .before .before .before .share .result) 10, length-append i j)) in
+    puts-as (counts-line (s .args .counts)) (rw p at z)
+
+pub put-counts-spec : {M : Type 1} → statement M
+put-counts-spec =
+    tie.close
+    (tie.spec
+    slice-aggregate-put-item
+    cast-put-item
+    put-item-requires
+    slice-aggregate-put-item-2
+    cast-put-item-2
+    put-item-requires-2
+    slice-aggregate-put-item-3
+    share-requires
+    put-item-requires-3
+    same-length
+    returns)

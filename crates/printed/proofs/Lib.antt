@@ -2,3 +2,4 @@ pub mod CasesHold
 -- laws that the functions' proofs cite
 pub mod PutLaws
 pub mod LineLaws
+pub mod TextLaws

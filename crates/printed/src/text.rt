@@ -1,1 +1,114 @@
-// The whole text.
+// The whole text of a table file and a trace file.
+ghost use mathlib.Core.Path.{_≡_};
+ghost use Prim.Native.Nat.{_≤_};
+ghost use lib.ListN.{length, replicate};
+ghost use Rattle.table.specs.Table.{groupsOf};
+ghost use Rattle.replay.specs.Replay.{prepare};
+ghost use Rattle.printed.specs.Text.{startText, traceText, text};
+ghost use Rattle.printed.specs.Outcome.{mostText, printed};
+ghost use Rattle.printed.specs.Internal.{Puts, Printable};
+use crate::lines::put_counts;
+use crate::lines::put_events;
+use crate::lines::put_words;
+use crate::put::put_item;
+use queue::Counts;
+use replay::preparing::prepare;
+use replay::replaying::replay;
+use table::Table;
+use table::Written;
+use table::read::read_table;
+use table::refusal::TOO_SHORT;
+
+// A file is at most this long.
+const MOST_BYTES: usize = 16384;
+
+const FILE_TOO_LONG: u64 = 36;
+// No text is longer.
+pub const MOST_TEXT: usize = 1224789;
+
+// Room for an answer to each event, and for its value.
+fn no_answers() -> [u8; 16384] {
+    [0; 16384]
+}
+
+fn no_values() -> [u32; 16384] {
+    [0; 16384]
+}
+
+// "Memory all zero".
+fn no_memory() -> [u32; 4096]
+    ensures { λ r. ⌜ r ≡ replicate 4096 0 ⌝ }
+{
+    [0; 4096]
+}
+
+// Plays a trace on a memory all zero, and puts its text.
+fn put_played(out: &mut [u8], table: Table, trace: &[u8], memory: &mut [u32]) -> usize
+    requires { ⌜ Printable (groupsOf table) (now trace) (now memory) (now out) ⌝ }
+    ensures { λ r. ⌜ Puts (now (out .entry)) 0 (startText (prepare (groupsOf table) (now (trace .entry)))) r (now (out .exit)) ⌝ }
+{
+    let mut answers = no_answers();
+    let mut given = no_answers();
+    let mut words = no_values();
+    let counts = Counts {
+        loads: 0,
+        forwarded: 0,
+    };
+    let played = replay(
+        table,
+        trace,
+        memory,
+        counts,
+        &mut answers,
+        &mut given,
+        &mut words,
+    );
+    let place = put_events(out, &answers, &given, &words, played.events);
+    let place = put_words(out, place, memory);
+    let counts = played.counts;
+    put_counts(out, place, counts)
+}
+
+// Puts the text of a trace, once its table is read.
+fn put_trace(out: &mut [u8], table: Table, trace: &[u8]) -> usize
+    requires { ⌜ mostText ≤ length (now out) ⌝ }
+    ensures { λ r. ⌜ Puts (now (out .entry)) 0 (traceText (groupsOf table) (now (trace .entry))) r (now (out .exit)) ⌝ }
+{
+    if MOST_BYTES < trace.len() {
+        return put_item(out, 0, b"trace ", FILE_TOO_LONG, 10);
+    }
+    let ready = prepare(table, trace);
+    if ready.answer != 0 {
+        return put_item(out, 0, b"trace ", ready.answer as u64, 10);
+    }
+    let header = ready.header;
+    let words = header.words as usize;
+    let mut memory = no_memory();
+    put_played(out, table, trace, &mut memory[..words])
+}
+
+// Puts the text of both files' bytes.
+fn put_text(out: &mut [u8], table: &[u8], trace: &[u8]) -> usize
+    requires { ⌜ mostText ≤ length (now out) ⌝ }
+    ensures { λ r. ⌜ Puts (now (out .entry)) 0 (text (now (table .entry)) (now (trace .entry))) r (now (out .exit)) ⌝ }
+{
+    if MOST_BYTES < table.len() {
+        return put_item(out, 0, b"table ", FILE_TOO_LONG, 10);
+    }
+    let read = read_table(table);
+    if read.answer != 0 {
+        return put_item(out, 0, b"table ", read.answer as u64, 10);
+    }
+    let groups = read.table;
+    put_trace(out, groups, trace)
+}
+
+// Writes the text of both files' bytes at the front of a buffer that has room for every text.
+pub fn print(table: &[u8], trace: &[u8], out: &mut [u8]) -> Written
+    ensures { λ r. ⌜ (r ≡ printed (now (table .entry)) (now (trace .entry)) (now (out .entry)) .answer) × (now (out .exit) ≡ printed (now (table .entry)) (now (trace .entry)) (now (out .entry)) .buffer) ⌝ }
+{
+    if out.len() < MOST_TEXT {
+        return Written::Unwritten(TOO_SHORT);
+    }
+    Written::Bytes(put_text(out, table, trace))
+}

@@ -3,3 +3,4 @@ pub mod CasesHold
 pub mod PutLaws
 pub mod LineLaws
 pub mod TextLaws
+pub mod TextFits

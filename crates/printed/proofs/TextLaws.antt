@@ -44,7 +44,7 @@ plays-well {gs} {trace} {memory} b w ha hg hw played =
     let fit = long-enough n b (omega (arith, w .few, ha)) (omega (arith, w .few, hg)) (omega (arith, w .few, hw)) in
     rw (replay-accepted gs trace memory noCounts b (w .start) (w .is) long fit) at played
 
-log-many : (p : Playing) (es : List Event) → length (log p es) ≡ length es
+pub log-many : (p : Playing) (es : List Event) → length (log p es) ≡ length es
 log-many p [] = refl
 log-many p (e ∷ es) = ap suc (log-many (played p e) es)
 

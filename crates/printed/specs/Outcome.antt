@@ -1,5 +1,5 @@
 -- What printing hands back. "Here and wherever else bytes are written to a lent buffer, those beyond keep their contents."
-use Prim.Native.Nat.{ℕ, _+_, _*_}
+use Prim.Native.Nat.{ℕ, _+_, _*_, _≤_}
 use mathlib.Core.List.{List, _++_}
 use lib.Dec.{leb}
 use lib.ListN.{length, drop}
@@ -9,10 +9,13 @@ use Rattle.table.specs.Number.{Wrote}
 use Rattle.table.specs.declared.Written.the-variants.{Bytes, Unwritten}
 use Rattle.printed.specs.Text.{mostBytes, text}
 
--- No text is longer: an event's line takes at most 63 bytes and there are no more events than bytes, a word's line takes at
+-- No text is longer (`TextFits`): an event's line takes at most 63 bytes and there are no more events than bytes, a word's line takes at
 -- most 47, and the last line at most 85.
 abbrev pub mostText : ℕ
 mostText = 63 * mostBytes + 47 * 4096 + 85
+
+abbrev pub TextFits : Type 0
+TextFits = (table trace : List ℕ) → length (text table trace) ≤ mostText
 
 -- the text at the front of a buffer that has room for every text; else 10, and nothing is written
 unfoldable pub printed : List ℕ → List ℕ → List ℕ → Wrote

@@ -71,6 +71,10 @@ header-suffix : (s rest : List ℕ) (h : Header) → readHeader s ≡ got h rest
 unfolding readHeader
 header-suffix s rest h e = numbers-suffix s _ (λ n₁ s₁. numbers-suffix s₁ _ (λ n₂ s₂. numbers-suffix s₂ _ (λ n₃ s₃. numbers-suffix s₃ _ (λ n₄ s₄ f. let y : s₄ ≡ rest = cc in record { front = 0; is = sym y; inside = omega arith })))) e
 
+-- what follows the leading numbers is no longer than the bytes
+pub header-shorter : (s rest : List ℕ) (h : Header) → readHeader s ≡ got h rest → length rest ≤ length s
+header-shorter s rest h e = let w = header-suffix s rest h e in omega (arith, ap length (w .is), length-drop (w .front) s)
+
 pub header-got : (s : List ℕ) {h : Header} {place : ℕ} → headerAnswer s (readHeader s) ≡ Leading h place → readHeader s ≡ got h (drop place s)
 header-got s {h} {place} e = go (readHeader s) refl e
   where

@@ -1,0 +1,45 @@
+// Prints the run of the files table.bin and trace.bin of the current folder.
+ghost use Prim.Native.Nat.{_≤_};
+ghost use lib.ListN.{length};
+use libc::STDOUT_FILENO;
+use table::Written;
+
+// One byte more than a file may have, so that a longer file is seen to be too long.
+fn file_buffer() -> [u8; 16385] {
+    [0; 16385]
+}
+
+// Room for every text.
+fn text_buffer() -> [u8; 1224789] {
+    [0; 1224789]
+}
+
+// The front of a file, as much of it as the buffer holds. A file that can't be opened counts as empty.
+fn read_file(name: &[u8], into: &mut [u8]) -> usize
+    ensures { λ r. ⌜ r ≤ length (now (into .entry)) ⌝ }
+{
+    let fd = os::open_read(name);
+    if fd < 0 {
+        return 0;
+    }
+    let n = io::read_full(fd, into);
+    libc::close(fd);
+    n
+}
+
+// Prints the text of both files' bytes.
+fn show(table: &[u8], trace: &[u8]) {
+    let mut out = text_buffer();
+    let written = printed::text::print(table, trace, &mut out);
+    if let Written::Bytes(n) = written {
+        io::write_all(STDOUT_FILENO, &out[..n]);
+    }
+}
+
+fn main() {
+    let mut table = file_buffer();
+    let mut trace = file_buffer();
+    let table_length = read_file(b"table.bin", &mut table);
+    let trace_length = read_file(b"trace.bin", &mut trace);
+    show(&table[..table_length], &trace[..trace_length]);
+}

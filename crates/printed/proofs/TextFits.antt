@@ -1,0 +1,170 @@
+-- No text is longer than `mostText`.
+use Prim.Native.Nat.{ℕ, _+_, _*_, _≤_, _<_}
+use mathlib.Core.Path.{_≡_, refl, sym, ap, _∙_}
+use mathlib.Core.Bool.{Bool, true, false, not}
+use mathlib.Core.List.{List, [], _∷_, _++_}
+use mathlib.Core.Option.{Option, none, some}
+use native.Mathlib.Omega.{arith}
+use lib.Dec.{eqb, leb, ltb}
+use lib.ListN.{length, take, set, drop, replicate, length-append, length-set, length-replicate}
+use borrow.Author.Tests.{eq-eqb, eqb-true, leb-true, ltb-false}
+use Rattle.table.specs.Basics.{pick, all, nth}
+use Rattle.table.specs.Refusal.{tooShort}
+use Rattle.table.specs.Number.{Got, got, bad, Wrote}
+use Rattle.table.specs.Group.{GroupPairs}
+use Rattle.table.specs.TableBytes.{readTable}
+use Rattle.table.specs.declared.Written.the-variants.{Bytes, Unwritten}
+use Rattle.table.specs.declared.Event.{Event}
+use Rattle.table.specs.declared.Event.the-variants.{Activate, LoadAddress, StoreAddress, StoreData, Serve, Write, Take}
+use Rattle.table.specs.declared.Header.{Header}
+use Rattle.table.specs.Event.{readHeader}
+use Rattle.queue.specs.declared.Counts.{Counts}
+use Rattle.queue.specs.Counts.{share}
+use Rattle.queue.specs.Ruled.{Ruled, refuse, accept, need, have, andThen}
+use Rattle.queue.specs.Contents.{Contents, storePlace}
+use Rattle.queue.specs.Sound.{sound}
+use Rattle.queue.specs.Open.{openQueue}
+use Rattle.queue.specs.Activate.{activate}
+use Rattle.queue.specs.Serve.{Served, serve}
+use Rattle.queue.specs.Write.{Written, loadGivesWay, storeGivesWay, write}
+use Rattle.queue.specs.Take.{Taken}
+use Rattle.queue.specs.Call.{Argument, Machine, Step, moved, served, written, taken, give, step}
+use Rattle.queue.specs.Take as Takes
+use Rattle.queue.proofs.Refusals.{andThen-accepts}
+use Rattle.replay.specs.Events.{eventsOf}
+use Rattle.replay.specs.Playing.{Playing, playing, stepOf, played, log, playedAll}
+use Rattle.replay.specs.Replay.{Start, startOf, openTrace, prepare, replayed}
+use Rattle.replay.proofs.EventLaws.{events-few-from}
+use Rattle.replay.proofs.PrepareLaws.{header-shorter}
+use Rattle.printed.specs.Decimal.{decimal}
+use Rattle.printed.specs.Text.{mostBytes, fileTooLong, tableFaultText, traceFaultText, noCounts, eventLines, wordLines, countsLine, playText, startText, traceText, groupsText, text}
+use Rattle.printed.specs.Outcome.{mostText, TextFits, printed}
+use Rattle.printed.specs.Internal.{item}
+use Rattle.printed.proofs.PutLaws.{item-few}
+use Rattle.printed.proofs.LineLaws.{events-text-few, words-few, loadsSpace, forwardedSpace, shareSpace, counts-line, table-line, trace-line}
+use Rattle.printed.proofs.TextLaws.{log-many, opened-words}
+
+-- ---- a memory keeps its length
+abbrev keeps : ℕ → Ruled Written → Bool
+keeps n (refuse k) = true
+keeps n (accept w) = eqb (length (w .memory)) n
+
+need-keeps : (n : ℕ) (t : Bool) (k : ℕ) (rest : Ruled Written) → keeps n rest ≡ true → keeps n (need t k rest) ≡ true
+need-keeps n true k rest h = h
+need-keeps n false k rest h = refl
+
+have-keeps : {A : Type 0} (n : ℕ) (o : Option A) (k : ℕ) (rest : A → Ruled Written) → ((a : A) → keeps n (rest a) ≡ true) → keeps n (have o k rest) ≡ true
+have-keeps n none k rest h = refl
+have-keeps n (some a) k rest h = h a
+
+write-keeps : (q : Contents) (m : List ℕ) (serial : ℕ) → keeps (length m) (write q m serial) ≡ true
+unfolding write
+write-keeps q m serial = need-keeps _ (sound q) _ _ (need-keeps _ (eqb (length m) (q .memoryLength)) _ _ (have-keeps _ (nth (q .stores) (storePlace q serial)) _ _ λ s. need-keeps _ (not (s .written)) _ _ (have-keeps _ (s .address) _ _ λ a. have-keeps _ (s .word) _ _ λ w. need-keeps _ (all (loadGivesWay a) (take (s .before) (q .loads))) _ _ (need-keeps _ (all (storeGivesWay a) (take (storePlace q serial) (q .stores))) _ _ (eq-eqb (length (set m a w)) (length m) (length-set m a w))))))
+
+moved-long : (m : Machine) (rule : Ruled Contents) → length (moved m rule .machine .memory) ≡ length (m .memory)
+moved-long m (refuse n) = refl
+moved-long m (accept q) = refl
+
+served-long : (m : Machine) (rule : Ruled Served) → length (served m rule .machine .memory) ≡ length (m .memory)
+served-long m (refuse n) = refl
+served-long m (accept s) = refl
+
+taken-long : (m : Machine) (rule : Ruled Taken) → length (taken m rule .machine .memory) ≡ length (m .memory)
+taken-long m (refuse n) = refl
+taken-long m (accept t) = refl
+
+written-long : (m : Machine) (rule : Ruled Written) → keeps (length (m .memory)) rule ≡ true → length (written m rule .machine .memory) ≡ length (m .memory)
+written-long m (refuse n) h = refl
+written-long m (accept w) h = eqb-true (length (w .memory)) (length (m .memory)) h
+
+step-long : (p : Playing) (e : Event) → length (stepOf p e .machine .memory) ≡ length (p .machine .memory)
+step-long p (Activate g) = moved-long (p .machine) (activate (p .machine .queue) g)
+step-long p (LoadAddress q a) = moved-long (p .machine) (give Argument.LoadAddress (p .machine .queue) q a)
+step-long p (StoreAddress q a) = moved-long (p .machine) (give Argument.StoreAddress (p .machine .queue) q a)
+step-long p (StoreData q w) = moved-long (p .machine) (give Argument.StoreData (p .machine .queue) q w)
+step-long p (Serve s) = served-long (p .machine) (serve (p .machine .queue) (p .machine .memory) s)
+step-long p (Write s) = written-long (p .machine) (write (p .machine .queue) (p .machine .memory) s) (write-keeps (p .machine .queue) (p .machine .memory) s)
+step-long p (Take q) = taken-long (p .machine) (Takes.take (p .machine .queue) q)
+
+played-long : (p : Playing) (es : List Event) → length (playedAll p es .machine .memory) ≡ length (p .machine .memory)
+played-long p [] = refl
+played-long p (e ∷ es) = played-long (played p e) es ∙ step-long p e
+
+-- ---- what a trace that can be played is like
+record Small (s : Start) : Type 0 where
+  pub events : length (s .events) ≤ mostBytes
+  pub words : s .words ≤ 4096
+
+start-small : (q : Contents) (words : ℕ) (rest : List ℕ) {s : Start} → words ≤ 4096 → length rest ≤ mostBytes → startOf q words (eventsOf rest) ≡ accept s → Small s
+start-small q words rest {s} h k e = go (eventsOf rest) refl e
+  where
+    go : (g : Got (List Event)) → eventsOf rest ≡ g → startOf q words g ≡ accept s → Small s
+    go (bad n) d f = let z : _≡_ {A = ℕ} 0 1 = cc in absurd (omega arith)
+    go (got es left) d f =
+        let y : s ≡ record { queue = q; words = words; events = es } = cc in
+        rw y (record { events = omega (arith, events-few-from rest 0 d); words = h })
+
+prepare-small : (gs : List GroupPairs) (trace : List ℕ) {s : Start} → length trace ≤ mostBytes → prepare gs trace ≡ accept s → Small s
+unfolding prepare
+prepare-small gs trace {s} k e = go (readHeader trace) refl e
+  where
+    go : (g : Got Header) → readHeader trace ≡ g → openTrace gs g ≡ accept s → Small s
+    go (bad n) d f = let z : _≡_ {A = ℕ} 0 1 = cc in absurd (omega arith)
+    go (got h rest) d f =
+        let (q, opens, starts) = andThen-accepts (openQueue gs (h .loads) (h .stores) (h .serial) (h .words)) _ f in
+        start-small q (h .words) rest (opened-words gs (h .loads) (h .stores) (h .serial) (h .words) opens) (omega (arith, header-shorter trace rest h d)) starts
+
+-- ---- the texts
+counts-few : (c : Counts) → length (countsLine c) ≤ 85
+counts-few c =
+    let i = item loadsSpace (c .loads) 32 in
+    let j = item forwardedSpace (c .forwarded) 32 in
+    let k = item shareSpace (share c) 10 in
+    omega (arith, ap length (counts-line c), length-append (i ++ j) k, length-append i j, item-few loadsSpace (c .loads) 32, item-few forwardedSpace (c .forwarded) 32, item-few shareSpace (share c) 10)
+
+table-fault-few : (n : ℕ) → length (tableFaultText n) ≤ mostText
+table-fault-few n = omega (arith, ap length (table-line n), item-few (116 ∷ 97 ∷ 98 ∷ 108 ∷ 101 ∷ 32 ∷ []) n 10)
+
+trace-fault-few : (n : ℕ) → length (traceFaultText n) ≤ mostText
+trace-fault-few n = omega (arith, ap length (trace-line n), item-few (116 ∷ 114 ∷ 97 ∷ 99 ∷ 101 ∷ 32 ∷ []) n 10)
+
+play-few : (s : Start) → Small s → length (playText (replayed s (replicate (s .words) 0) noCounts)) ≤ mostText
+play-few s w =
+    let p = playing (s .queue) (replicate (s .words) 0) noCounts in
+    let l = log p (s .events) in
+    let q = playedAll p (s .events) in
+    let m : length (q .machine .memory) ≡ s .words = played-long p (s .events) ∙ length-replicate (s .words) 0 in
+    omega (arith, w .events, w .words, log-many p (s .events), events-text-few 1 l, words-few 0 (q .machine .memory), counts-few (q .counts), length-append (eventLines 1 l ++ wordLines 0 (q .machine .memory)) (countsLine (q .counts)), length-append (eventLines 1 l) (wordLines 0 (q .machine .memory)))
+
+start-few : (rule : Ruled Start) → ((s : Start) → rule ≡ accept s → Small s) → length (startText rule) ≤ mostText
+start-few (refuse n) h = trace-fault-few n
+start-few (accept s) h = play-few s (h s refl)
+
+trace-few : (gs : List GroupPairs) (trace : List ℕ) → length (traceText gs trace) ≤ mostText
+unfolding traceText
+trace-few gs trace = go (ltb mostBytes (length trace)) refl
+  where
+    go : (t : Bool) → ltb mostBytes (length trace) ≡ t → length (pick t (traceFaultText fileTooLong) (startText (prepare gs trace))) ≤ mostText
+    go true e = trace-fault-few fileTooLong
+    go false e = start-few (prepare gs trace) λ s d. prepare-small gs trace (ltb-false mostBytes (length trace) e) d
+
+groups-few : (trace : List ℕ) (g : Got (List GroupPairs)) → length (groupsText trace g) ≤ mostText
+groups-few trace (got gs rest) = trace-few gs trace
+groups-few trace (bad n) = table-fault-few n
+
+pub text-fits : TextFits
+unfolding text
+text-fits table trace = go (ltb mostBytes (length table))
+  where
+    go : (t : Bool) → length (pick t (tableFaultText fileTooLong) (groupsText trace (readTable table))) ≤ mostText
+    go true = table-fault-few fileTooLong
+    go false = groups-few trace (readTable table)
+
+-- what is printed is no longer than the buffer
+pub bytes-few : (table trace out : List ℕ) {n : ℕ} → Bytes n ≡ printed table trace out .answer → n ≤ length out
+unfolding printed
+bytes-few table trace out {n} h = go (leb mostText (length out)) refl h
+  where
+    go : (t : Bool) → leb mostText (length out) ≡ t → Bytes n ≡ pick {A = Wrote} t (record { answer = Bytes (length (text table trace)); buffer = text table trace ++ drop (length (text table trace)) out }) (record { answer = Unwritten tooShort; buffer = out }) .answer → n ≤ length out
+    go true e f = let y : n ≡ length (text table trace) = cc in omega (arith, text-fits table trace, leb-true mostText (length out) e)
+    go false e f = let z : _≡_ {A = ℕ} 0 1 = cc in absurd (omega arith)

@@ -1,0 +1,114 @@
+-- Each test on the way is a step of the rule; the counts that a replay hands back are stored, and a refused one hands back those it was lent.
+use Prim.Native.Nat.{ℕ}
+use mathlib.Core.Path.{_≡_}
+use mathlib.Core.List.{List, []}
+use Rattle.table.specs.Number.{got}
+use Rattle.table.specs.Table.{groupsOf}
+use Rattle.table.specs.TableBytes.{readTable}
+use Rattle.replay.proofs.TableLaws.{table-refused, table-got}
+use Rattle.exports.specs.Replay.{Lent, lent}
+use Rattle.exports.proofs.ReplayLaws.{lent-table, lent-short, answered-refused, answered-lent}
+use borrow.Author.Needs.{needs}
+use Rattle.exports.proofs.lsq_replay.Statement.{statement}
+use Rattle.exports.proofs.lsq_replay.Tie as tie
+
+-- what was handed in and lent, and the groups that were read
+abbrev bytesAt : tie.After-read-table → List ℕ
+bytesAt t = t .before .before .before .before .before .before .before .before .args .table .now
+
+abbrev traceAt : tie.After-read-table → List ℕ
+traceAt t = t .before .before .before .before .before .before .before .before .args .trace .now
+
+abbrev lentAt : tie.After-read-table → Lent
+lentAt t =
+    let a = t .before .before .before .before .before .before .before .before .args in
+    lent (a .memory .now) (a .counts .now) (a .answers .now) (a .given .now) (a .values .now)
+
+table-right : (e : tie.Else1) → readTable (bytesAt (e .before .before)) ≡ got (groupsOf (e .before .before .read-table .result .table)) []
+table-right e = table-got (bytesAt (e .before .before)) (e .before .before .read-table .result) (e .before .before .read-table .ensures) (e .if1 .left) .is
+
+read-table-requires : tie.Need-read-table-requires
+read-table-requires c κs = search needs
+
+cast-result : tie.Need-cast-result
+cast-result c = search needs
+
+returns : tie.Need-returns
+returns c =
+    let t = c .before .before .before in
+    let l = lentAt t in
+    answered-refused l (lent-table (bytesAt t) (traceAt t) l (table-refused (bytesAt t) (t .read-table .result) (t .read-table .ensures) (c .before .if1 .taken)))
+
+cast-result-2 : tie.Need-cast-result-2
+cast-result-2 c = search needs
+
+returns-2 : tie.Need-returns-2
+returns-2 c =
+    let e = c .before in
+    let t = e .before .before in
+    let l = lentAt t in
+    answered-refused l (lent-short (bytesAt t) (traceAt t) l (table-right e) (c .if2 .taken))
+
+slice-read-t16 : tie.Need-slice-read-t16
+slice-read-t16 c = search needs
+
+slice-read-t18 : tie.Need-slice-read-t18
+slice-read-t18 c = search needs
+
+replay-requires : tie.Need-replay-requires
+replay-requires c κs = search needs
+
+slice-write-counts : tie.Need-slice-write-counts
+slice-write-counts c = search needs
+
+slice-write-counts-2 : tie.Need-slice-write-counts-2
+slice-write-counts-2 c = search needs
+
+cast-result-3 : tie.Need-cast-result-3
+cast-result-3 c = search needs
+
+same-length : tie.Need-same-length
+same-length c = search needs
+
+same-length-2 : tie.Need-same-length-2
+same-length-2 c = search needs
+
+same-length-3 : tie.Need-same-length-3
+same-length-3 c = search needs
+
+same-length-4 : tie.Need-same-length-4
+same-length-4 c = search needs
+
+same-length-5 : tie.Need-same-length-5
+same-length-5 c = search needs
+
+returns-3 : tie.Need-returns-3
+returns-3 c =
+    let done = c .before .before .before .before .before .before .before .before .before .before in
+    let long = done .before .before .before .before .before .before .before .before in
+    let e = long .before in
+    let t = e .before .before in
+    let l = lentAt t in
+    answered-lent (bytesAt t) (traceAt t) l (table-right e) (long .if2 .left) (done .replay .result) (done .replay .ensures)
+
+pub lsq-replay-spec : {M : Type 1} → statement M
+lsq-replay-spec =
+    tie.close
+    (tie.spec
+    read-table-requires
+    cast-result
+    returns
+    cast-result-2
+    returns-2
+    slice-read-t16
+    slice-read-t18
+    replay-requires
+    slice-write-counts
+    slice-write-counts-2
+    cast-result-3
+    same-length
+    same-length-2
+    same-length-3
+    same-length-4
+    same-length-5
+    returns-3)

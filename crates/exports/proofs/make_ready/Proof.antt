@@ -1,0 +1,32 @@
+-- The table is refused, or read; then the trace is made ready on the groups that were read.
+use Rattle.replay.proofs.TableLaws.{table-refused, table-got}
+use Rattle.exports.proofs.PreparedLaws.{tells-table, tells-trace}
+use borrow.Author.Needs.{needs}
+use Rattle.exports.proofs.make_ready.Statement.{statement}
+use Rattle.exports.proofs.make_ready.Tie as tie
+
+read-table-requires : tie.Need-read-table-requires
+read-table-requires c κs = search needs
+
+no-table-requires : tie.Need-no-table-requires
+no-table-requires c κs = search needs
+
+returns : tie.Need-returns
+returns c =
+    let t = c .before .before .before in
+    let a = t .before .before .before .args in
+    tells-table (a .table .now) (a .trace .now) (c .no-table .result) (table-refused (a .table .now) (t .read-table .result) (t .read-table .ensures) (c .before .if1 .taken)) (c .no-table .ensures)
+
+prepare-requires : tie.Need-prepare-requires
+prepare-requires c κs = search needs
+
+returns-2 : tie.Need-returns-2
+returns-2 c =
+    let e = c .before .before in
+    let t = e .before .before in
+    let a = t .before .before .before .args in
+    tells-trace (a .table .now) (a .trace .now) (c .prepare .result) (table-got (a .table .now) (t .read-table .result) (t .read-table .ensures) (e .if1 .left) .is) (c .prepare .ensures)
+
+pub make-ready-spec : {M : Type 1} → statement M
+make-ready-spec =
+    tie.close (tie.spec read-table-requires no-table-requires returns prepare-requires returns-2)

@@ -1,0 +1,131 @@
+// Functions for C and Rust to link: tables and traces as bytes, replays as numbers in lent runs. A name is the whole
+// program's, as in C, so each begins with `lsq_`. Whatever is handed in, each answers as its contract says.
+ghost use mathlib.Core.Path.{_≡_};
+ghost use Rattle.table.specs.TableBytes.{readTable, tableAnswer};
+ghost use Rattle.queue.specs.Counts.{share};
+ghost use Rattle.queue.specs.Ruled.{number};
+ghost use Rattle.replay.specs.Outcome.{unprepared};
+ghost use Rattle.exports.specs.Prepared.{prepared, eventCount, memoryLength};
+ghost use Rattle.exports.specs.Replay.{lent, replayLent, answered};
+ghost use Rattle.exports.specs.Internal.{Tells};
+use queue::Counts;
+use queue::counting::share;
+use replay::Prepared;
+use replay::preparing::prepare;
+use replay::replaying::replay;
+use table::Header;
+use table::read::read_table;
+use table::refusal::TOO_SHORT;
+
+// A trace that cannot be played, because its table cannot be read.
+fn no_table(answer: u8) -> Prepared
+    ensures { λ r. ⌜ r ≡ unprepared answer ⌝ }
+{
+    let header = Header {
+        loads: 0,
+        stores: 0,
+        serial: 0,
+        words: 0,
+    };
+    Prepared {
+        answer,
+        header,
+        at: 0,
+        events: 0,
+    }
+}
+
+// Reads the table and makes the trace ready.
+fn make_ready(table: &[u8], trace: &[u8]) -> Prepared
+    ensures { λ r. ⌜ Tells (prepared (now (table .entry)) (now (trace .entry))) r ⌝ }
+{
+    let read = read_table(table);
+    if read.answer != 0 {
+        return no_table(read.answer);
+    }
+    let groups = read.table;
+    prepare(groups, trace)
+}
+
+// 0 where the bytes are a table, else their refusal.
+#[no_mangle]
+pub extern "C" fn lsq_table_fault(table: &[u8]) -> u32
+    ensures { λ r. ⌜ r ≡ tableAnswer (readTable (now (table .entry))) .answer ⌝ }
+{
+    let read = read_table(table);
+    read.answer as u32
+}
+
+// 0 where the trace can be played on the table; else the table's refusal, or that of the trace's leading numbers, of
+// opening, or of an event.
+#[no_mangle]
+pub extern "C" fn lsq_trace_fault(table: &[u8], trace: &[u8]) -> u32
+    ensures { λ r. ⌜ r ≡ number (prepared (now (table .entry)) (now (trace .entry))) ⌝ }
+{
+    let ready = make_ready(table, trace);
+    ready.answer as u32
+}
+
+// How many events the trace has: the length that a replay's buffers need. 0 where the trace cannot be played.
+#[no_mangle]
+pub extern "C" fn lsq_event_count(table: &[u8], trace: &[u8]) -> u64
+    ensures { λ r. ⌜ r ≡ eventCount (prepared (now (table .entry)) (now (trace .entry))) ⌝ }
+{
+    let ready = make_ready(table, trace);
+    ready.events as u64
+}
+
+// The memory length that the trace asks for, in words. 0 where the trace cannot be played.
+#[no_mangle]
+pub extern "C" fn lsq_memory_length(table: &[u8], trace: &[u8]) -> u32
+    ensures { λ r. ⌜ r ≡ memoryLength (prepared (now (table .entry)) (now (trace .entry))) ⌝ }
+{
+    let ready = make_ready(table, trace);
+    let header = ready.header;
+    header.words
+}
+
+// Replays the trace on the memory and the counts as they are lent; `counts` holds loads, then forwarded. Where it answers 0,
+// each event's answer, 1 or 0 as it gave a value or none, and the value or 0 stand at the front of the three buffers. Else
+// nothing that was lent is changed: a refused replay hands back the very counts that it was handed.
+#[no_mangle]
+pub extern "C" fn lsq_replay(
+    table: &[u8],
+    trace: &[u8],
+    memory: &mut [u32],
+    counts: &mut [u32],
+    answers: &mut [u8],
+    given: &mut [u8],
+    values: &mut [u32],
+) -> u32
+    ensures { λ r. ⌜ record { answer = r; left = lent (now (memory .exit)) (now (counts .exit)) (now (answers .exit)) (now (given .exit)) (now (values .exit)) }
+        ≡ answered (lent (now (memory .entry)) (now (counts .entry)) (now (answers .entry)) (now (given .entry)) (now (values .entry)))
+        (replayLent (now (table .entry)) (now (trace .entry))
+        (lent (now (memory .entry)) (now (counts .entry)) (now (answers .entry)) (now (given .entry)) (now (values .entry)))) ⌝ }
+{
+    let read = read_table(table);
+    if read.answer != 0 {
+        return read.answer as u32;
+    }
+    if counts.len() < 2 {
+        return TOO_SHORT as u32;
+    }
+    let groups = read.table;
+    let before = Counts {
+        loads: counts[0],
+        forwarded: counts[1],
+    };
+    let done = replay(groups, trace, memory, before, answers, given, values);
+    let after = done.counts;
+    counts[0] = after.loads;
+    counts[1] = after.forwarded;
+    done.answer as u32
+}
+
+// Thousandths of the loads that were forwarded, to the nearest, half going up; 0 for no loads.
+#[no_mangle]
+pub extern "C" fn lsq_share(loads: u32, forwarded: u32) -> u64
+    ensures { λ r. ⌜ r ≡ share (record { loads = loads; forwarded = forwarded }) ⌝ }
+{
+    share(Counts { loads, forwarded })
+}

@@ -1,7 +1,7 @@
 //! Cases from seeds: a table's and a trace's bytes, and what is lent to play
 //! them.
 
-use lsq_ref::event::Header;
+use lsq_ref::event::{Event, Header};
 use lsq_ref::gen::{self, Lean, Scenario};
 use lsq_ref::number::write_numbers;
 use lsq_ref::play::MAX_FILE;
@@ -28,6 +28,10 @@ pub enum Kind {
     Wide,
     /// Accesses to one address that wait for each other.
     Conflicts,
+    /// Stores that hurry past each other.
+    Stores,
+    /// Many entries that leave at once.
+    Leaving,
     /// Refusals next to acceptances.
     Neighbours,
     /// 10,000 events and more, or some thousand.
@@ -55,8 +59,9 @@ pub enum Kind {
 use Kind::*;
 
 /// The kinds that are played whole.
-const PLAYED: [Kind; 8] = [
-    Mixed, Brief, Full, Forwarded, Shallow, Wide, Conflicts, Neighbours,
+#[rustfmt::skip]
+const PLAYED: [Kind; 10] = [
+    Mixed, Brief, Full, Forwarded, Shallow, Wide, Conflicts, Stores, Leaving, Neighbours,
 ];
 
 /// The kinds, each as often as it comes: seeds that follow each other go
@@ -64,13 +69,13 @@ const PLAYED: [Kind; 8] = [
 #[rustfmt::skip]
 pub const TURN: [Kind; 64] = [
     Mixed, BadTable, Full, BadTrace, Forwarded, Lengths, Shallow, WrongTable,
-    Neighbours, Noise, Wide, BadTrace, Conflicts, Brief, Mixed, BadHeader,
+    Neighbours, Noise, Wide, BadTrace, Conflicts, Brief, Stores, BadHeader,
     Long, BadTable, Full, Lengths, Forwarded, Padded, Shallow, BadTrace,
-    Neighbours, Brief, Wide, BadTable, Conflicts, Lengths, Mixed, Noise,
+    Neighbours, Brief, Leaving, BadTable, Conflicts, Lengths, Mixed, WrongTable,
     Mixed, BadTable, Full, BadTrace, Forwarded, Lengths, Shallow, WrongTable,
-    Neighbours, Noise, Wide, BadTrace, Conflicts, Brief, Mixed, BadHeader,
-    Conflicts, BadTable, Full, Lengths, Forwarded, Limit, Shallow, BadTrace,
-    Neighbours, Brief, Conflicts, BadTable, Conflicts, Lengths, Mixed, WrongTable,
+    Neighbours, Noise, Wide, BadTrace, Stores, Brief, Mixed, BadHeader,
+    Conflicts, BadTable, Full, Lengths, Forwarded, Limit, Wide, BadTrace,
+    Neighbours, Brief, Leaving, BadTable, Stores, Lengths, Mixed, WrongTable,
 ];
 
 /// One seed in so many is of kind [`Kind::Huge`].
@@ -162,6 +167,8 @@ fn scenario(rng: &mut Rng, kind: Kind) -> Scenario {
         Shallow => shallow(rng),
         Wide => wide(rng),
         Conflicts => conflicts(rng),
+        Stores => stores(rng),
+        Leaving => leaving(rng),
         Neighbours => {
             let table = gen::table(rng);
             let header = gen::header(rng, &table);
@@ -248,6 +255,122 @@ fn conflicts(rng: &mut Rng) -> Scenario {
     leaning(rng, table, header, (50, 400), &Lean::CONFLICTS)
 }
 
+fn stores(rng: &mut Rng) -> Scenario {
+    let groups = rng.between(1, 2) as usize;
+    let loads = rng.between(0, 1) as usize;
+    let stores = rng.between(2, 8) as usize;
+    let table = gen::table_of(rng, groups, loads, stores);
+    let header = gen::header(rng, &table);
+    leaning(rng, table, header, (50, 400), &Lean::STORES)
+}
+
+/// Two groups of a load and a store. One activation of the first group stands
+/// among others of the second and is finished last, so that all behind it leave
+/// at once.
+fn leaving(rng: &mut Rng) -> Scenario {
+    let table = gen::table_of(rng, 2, 1, 1);
+    let depth = rng.pick(&[2, 8, 33, 63, 64]);
+    let header = Header {
+        load_depth: depth,
+        store_depth: depth,
+        memory_length: rng.between(2, 9),
+        ..gen::header(rng, &table)
+    };
+    let mut events = Vec::new();
+    for round in 0..3 {
+        let first = header.first_serial.wrapping_add(round * depth);
+        let last = rng.pick(&[0, 0, depth / 2, depth - 1]);
+        events.extend(held_back(&table, first, depth, last));
+    }
+    Scenario {
+        table,
+        header,
+        events,
+    }
+}
+
+/// Fills an empty queue with `depth` activations, the one at place `last` of
+/// group 0, and finishes that one last.
+fn held_back(table: &Table, first: u32, depth: u32, last: u32) -> Vec<Event> {
+    let activation = |place: u32| Activation {
+        table,
+        group: usize::from(place != last),
+        serial: first.wrapping_add(place),
+    };
+    let all: Vec<Activation> = (0..depth).map(activation).collect();
+    let begun = [
+        Activation::activate,
+        Activation::load_address,
+        Activation::store_address,
+        Activation::store_data,
+        Activation::serve,
+    ];
+    let finished = [Activation::take, Activation::write];
+    let mut events = Vec::new();
+    events.extend(begun.iter().flat_map(|call| all.iter().map(call)));
+    for group in [1, 0] {
+        let activations = all.iter().filter(|each| each.group == group);
+        events.extend(
+            finished
+                .iter()
+                .flat_map(|call| activations.clone().map(call)),
+        );
+    }
+    events
+}
+
+/// An activation of a group of a load and a store, on a word of its group.
+struct Activation<'a> {
+    table: &'a Table,
+    group: usize,
+    serial: u32,
+}
+
+impl Activation<'_> {
+    fn load_port(&self) -> u32 {
+        self.table.groups[self.group].loads[0].port
+    }
+
+    fn store_port(&self) -> u32 {
+        self.table.groups[self.group].stores[0].port
+    }
+
+    fn activate(&self) -> Event {
+        let group = self.group as u32;
+        Event::Activate { group }
+    }
+
+    fn load_address(&self) -> Event {
+        let (port, address) = (self.load_port(), self.group as u32);
+        Event::LoadAddress { port, address }
+    }
+
+    fn store_address(&self) -> Event {
+        let (port, address) = (self.store_port(), self.group as u32);
+        Event::StoreAddress { port, address }
+    }
+
+    fn store_data(&self) -> Event {
+        let (port, word) = (self.store_port(), self.serial);
+        Event::StoreData { port, word }
+    }
+
+    fn serve(&self) -> Event {
+        let serial = self.serial;
+        Event::Serve { serial }
+    }
+
+    fn take(&self) -> Event {
+        let port = self.load_port();
+        Event::Take { port }
+    }
+
+    fn write(&self) -> Event {
+        let serial = self.serial;
+        Event::Write { serial }
+    }
+}
+
 /// One in three has 10,000 events or more.
 fn long(rng: &mut Rng) -> Scenario {
     let table = gen::table(rng);
@@ -280,11 +403,13 @@ fn reach_limit(rng: &mut Rng, table: &mut Vec<u8>, trace: &mut Vec<u8>) {
     }
 }
 
-/// A table that meets one of 3 to 9, in bytes that can be read.
+/// A table that mostly meets one of 3 to 9, in bytes that can be read.
 fn wrong_table(rng: &mut Rng, mut table: Table) -> Vec<u8> {
-    let fault = rng.below(4);
-    if fault > 1 {
-        gen::spoil_table(rng, &mut table);
+    let fault = rng.below(8);
+    match fault {
+        0..=1 => {}
+        2..=3 => gen::spoil_table(rng, &mut table),
+        _ => gen::nudge_table(rng, &mut table),
     }
     let mut numbers = table.numbers();
     match fault {

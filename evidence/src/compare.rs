@@ -3,6 +3,7 @@
 use std::fmt::{Debug, Display};
 
 use lsq::{Buffer, Error, TEXT_BYTES};
+use lsq_ref::gen;
 use lsq_ref::play::play;
 use lsq_ref::replay::{self, replay_watched};
 use lsq_ref::rng::Rng;
@@ -16,6 +17,10 @@ use crate::tally::Tally;
 /// What differs, in words.
 #[derive(Clone, Debug, PartialEq, Eq)]
 pub struct Difference(pub String);
+
+/// Damaged copies of each case, and the longest trace that is copied.
+const DAMAGED_COPIES: usize = 16;
+const DAMAGED_BYTES: usize = 2_000;
 
 /// Stands in the text buffer wherever no text is.
 const FILLER: u8 = 0xA5;
@@ -42,14 +47,14 @@ impl<'a, S: Subject> Comparer<'a, S> {
     /// # Errors
     /// The first difference.
     pub fn case(&mut self, case: &Case, tally: &mut Tally) -> Result<(), Difference> {
-        self.faults(case)?;
+        self.faults(&case.table, &case.trace)?;
+        self.damaged(case, tally)?;
         let played = self.replay(case, tally)?;
         self.shares(case, &played)?;
         self.text(case, tally)
     }
 
-    fn faults(&self, case: &Case) -> Result<(), Difference> {
-        let Case { table, trace, .. } = case;
+    fn faults(&self, table: &[u8], trace: &[u8]) -> Result<(), Difference> {
         let subject = self.subject;
         let expected = u32::from(replay::table_fault(table));
         same("lsq_table_fault", expected, subject.table_fault(table))?;
@@ -60,6 +65,30 @@ impl<'a, S: Subject> Comparer<'a, S> {
         same("lsq_event_count", expected, subject.event_count(trace))?;
         let expected = replay::memory_length(trace);
         same("lsq_memory_length", expected, subject.memory_length(trace))
+    }
+
+    /// Compares the faults alone on damaged copies of the bytes.
+    fn damaged(&self, case: &Case, tally: &mut Tally) -> Result<(), Difference> {
+        if case.trace.len() > DAMAGED_BYTES {
+            return Ok(());
+        }
+        let mut rng = Rng::new(!case.seed);
+        for copy in 0..DAMAGED_COPIES {
+            let (mut table, mut trace) = (case.table.clone(), case.trace.clone());
+            let bytes = if copy % 2 == 0 {
+                &mut table
+            } else {
+                &mut trace
+            };
+            gen::damage(&mut rng, bytes);
+            tally.damaged += 1;
+            let named = |Difference(words)| {
+                let spelled = format!("table {table:02X?}, trace {trace:02X?}");
+                Difference(format!("{words}, on a damaged copy: {spelled}"))
+            };
+            self.faults(&table, &trace).map_err(named)?;
+        }
+        Ok(())
     }
 
     /// Gives the buffers that the replay leaves.

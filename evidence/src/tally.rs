@@ -101,6 +101,8 @@ pub struct Tally {
     pub cases: u64,
     /// Cases on which the wrapper was compared too.
     pub wrapped: u64,
+    /// Damaged copies of which the faults alone were compared.
+    pub damaged: u64,
     /// Calls on a queue that were compared through text.
     pub text_calls: u64,
     longest_text: usize,
@@ -295,6 +297,11 @@ impl fmt::Display for Tally {
         for (kind, count) in &self.kinds {
             writeln!(f, "{count:>9}   {kind}")?;
         }
+        writeln!(
+            f,
+            "{:>9} damaged copies, for their faults alone",
+            self.damaged
+        )?;
         let (calls, refused) = (self.calls, self.refused);
         writeln!(f, "{calls:>9} calls through replay, {refused} refused")?;
         let (calls, longest) = (self.text_calls, self.longest_text);

@@ -8,7 +8,7 @@ use crate::number::{read_number, write_number};
 use crate::play::MAX_FILE;
 use crate::queue::{LoadEntry, Queue, StoreEntry, TrustingQueue, MAX_DEPTH, MAX_MEMORY};
 use crate::rng::Rng;
-use crate::table::{Access, Group, Table, MAX_PORT};
+use crate::table::{Access, Group, Pair, Table, MAX_PORT};
 
 /// Longest encodings: of one number, and of a whole valid table.
 const NUMBER_BYTES: usize = 5;
@@ -277,6 +277,14 @@ impl Lean {
         profiles: &[[6, 6, 6, 3, 6, 6, 4], LOADS_HURRY],
         hot: 1,
         refused: 5,
+        neighbours: 0,
+        even: false,
+    };
+    /// Stores that hurry past each other.
+    pub const STORES: Self = Self {
+        profiles: &[[8, 3, 5, 8, 4, 12, 2], [8, 3, 3, 8, 4, 12, 2]],
+        hot: 3,
+        refused: 8,
         neighbours: 0,
         even: false,
     };
@@ -582,7 +590,7 @@ pub fn damage(rng: &mut Rng, bytes: &mut Vec<u8>) {
 fn damage_once(rng: &mut Rng, bytes: &mut Vec<u8>) {
     let at = rng.below(bytes.len() + 1);
     let inside = at < bytes.len();
-    match rng.below(10) {
+    match rng.below(12) {
         0 if inside => bytes[at] ^= 1 << rng.below(8),
         1 if inside => bytes[at] = rng.word() as u8,
         2 if inside => drop(bytes.remove(at)),
@@ -590,6 +598,7 @@ fn damage_once(rng: &mut Rng, bytes: &mut Vec<u8>) {
         4 => bytes.insert(at, rng.pick(&[0x00, 0x01, 0x7F, 0x80, 0xFF])),
         5 => bytes.extend([rng.word() as u8, 0x00].iter().take(rng.below(3))),
         6 => pad_number(rng, bytes, NUMBER_BYTES + 2),
+        7..=8 => widen_number(rng, bytes),
         _ => change_number(rng, bytes),
     }
 }
@@ -619,6 +628,20 @@ fn change_number(rng: &mut Rng, bytes: &mut Vec<u8>) {
     let mut buffer = [0; NUMBER_BYTES];
     let count = write_number(other, &mut buffer).unwrap_or(0);
     bytes.splice(start..end, buffer[..count].iter().copied());
+}
+
+/// Spells one number with five bytes, the fifth at an edge: 0F is the last one
+/// that can be read.
+fn widen_number(rng: &mut Rng, bytes: &mut Vec<u8>) {
+    let places = number_places(bytes);
+    if places.is_empty() {
+        return;
+    }
+    let (start, end) = rng.pick(&places);
+    let number = read_number(bytes, start).map_or(0, |(number, _)| number);
+    let fifth = rng.pick(&[0x00, 0x01, 0x0F, 0x10, 0x1F, 0x7F, 0x80, 0x8F]);
+    let four = (0..4).map(|i| (number >> (7 * i)) as u8 | 0x80);
+    bytes.splice(start..end, four.chain([fifth]));
 }
 
 /// Pads some numbers within the limits, which changes no meaning.
@@ -742,5 +765,29 @@ pub fn spoil_table(rng: &mut Rng, table: &mut Table) {
         (2, Some(pair)) => pair.offset = rng.pick(&[17, u32::MAX]),
         (3, Some(pair)) => pair.port = rng.pick(&[32, u32::MAX]),
         _ => table.groups.push(table.groups[group].clone()),
+    }
+}
+
+/// Changes one pair of a table a little: its offset by one, or its port to
+/// that of another access of its kind, to the last port or past it. The table
+/// may stay a right one.
+pub fn nudge_table(rng: &mut Rng, table: &mut Table) {
+    let groups = table.groups.iter_mut();
+    let mut pairs: Vec<&mut Pair> = match rng.chance(1, 2) {
+        true => groups.flat_map(|group| &mut group.loads).collect(),
+        false => groups.flat_map(|group| &mut group.stores).collect(),
+    };
+    if pairs.is_empty() {
+        return;
+    }
+    let other = pairs[rng.below(pairs.len())].port;
+    let place = rng.below(pairs.len());
+    let pair = &mut pairs[place];
+    match rng.below(5) {
+        0 => pair.offset = pair.offset.wrapping_add(1),
+        1 => pair.offset = pair.offset.wrapping_sub(1),
+        2 => pair.offset = 0,
+        3 => pair.port = other,
+        _ => pair.port = rng.pick(&[MAX_PORT, MAX_PORT + 1]),
     }
 }

@@ -14,8 +14,6 @@ const FIRST_SERIAL: u32 = u32::MAX - 100;
 /// A table and a trace, and what happens in it.
 #[derive(Clone, Debug)]
 pub struct Workload {
-    /// A word for the command line.
-    pub name: String,
     /// What it is.
     pub title: String,
     /// The table's bytes.
@@ -35,11 +33,10 @@ pub struct Workload {
 }
 
 impl Workload {
-    fn new(name: &str, title: &str, scenario: &Scenario) -> Self {
+    fn new(title: String, scenario: &Scenario) -> Self {
         let (table, trace) = scenario.bytes();
         let mut workload = Self {
-            name: name.into(),
-            title: title.into(),
+            title,
             table,
             trace,
             memory_length: scenario.header.memory_length as usize,
@@ -78,43 +75,40 @@ impl Workload {
 }
 
 /// The workloads whose ratios are held to the target.
-#[must_use]
-pub fn main_workloads() -> Vec<Workload> {
-    vec![
-        Workload::new("a", "(a) histogram loop, depth 8", &histogram(8)),
-        Workload::new("b", "(b) full queues of depth 64, conflicts", &conflicts()),
-        Workload::new(
-            "c1",
-            "(c) one group of 1 load and 1 store, depth 8",
-            &mixed(1, 1, 8),
-        ),
-        Workload::new(
-            "c16",
-            "(c) 16 groups of 2 loads and 2 stores, depth 8",
-            &mixed(16, 2, 8),
-        ),
-    ]
-}
+pub const MAIN: [&str; 4] = ["a", "b", "c1", "c16"];
 
 /// The same kind of trace at each depth, over one small group.
-#[must_use]
-pub fn by_depth() -> Vec<Workload> {
-    let depths = [1, 2, 4, 8, 16, 32, 64];
-    let one = |depth| {
-        let name = format!("depth{depth}");
-        Workload::new(&name, &format!("depth {depth}"), &mixed(1, 1, depth))
-    };
-    depths.map(one).into()
-}
+pub const BY_DEPTH: [&str; 7] = [
+    "depth1", "depth2", "depth4", "depth8", "depth16", "depth32", "depth64",
+];
 
 /// The same kind of trace at each number of groups, at depth 8.
+pub const BY_GROUPS: [&str; 5] = ["groups1", "groups2", "groups4", "groups8", "groups16"];
+
+/// The workload of one of the names above.
 #[must_use]
-pub fn by_groups() -> Vec<Workload> {
-    let one = |groups| {
-        let name = format!("groups{groups}");
-        Workload::new(&name, &format!("{groups} groups"), &mixed(groups, 2, 8))
+pub fn named(name: &str) -> Option<Workload> {
+    let all = [&MAIN[..], &BY_DEPTH, &BY_GROUPS].concat();
+    if !all.contains(&name) {
+        return None;
+    }
+    let number = name.trim_start_matches(char::is_alphabetic);
+    let number: u32 = number.parse().unwrap_or(0);
+    let (title, scenario) = match name.trim_end_matches(char::is_numeric) {
+        "a" => ("(a) histogram loop, depth 8".into(), histogram(8)),
+        "b" => ("(b) full queues of depth 64, conflicts".into(), conflicts()),
+        "depth" => (format!("{number}"), mixed(1, 1, number)),
+        "groups" => (format!("{number}"), mixed(number as usize, 2, 8)),
+        _ if number == 1 => (
+            "(c) one group of 1 load and 1 store, depth 8".into(),
+            mixed(1, 1, 8),
+        ),
+        _ => (
+            "(c) 16 groups of 2 loads and 2 stores, depth 8".into(),
+            mixed(16, 2, 8),
+        ),
     };
-    [1, 2, 4, 8, 16].map(one).into()
+    Some(Workload::new(title, &scenario))
 }
 
 fn header(depth: u32, memory_length: u32) -> Header {

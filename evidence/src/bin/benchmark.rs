@@ -10,7 +10,7 @@ use std::time::Duration;
 
 use evidence::clock::processor_time;
 use evidence::timing::{agree, reading, rounds, Implementation, Run, Spread};
-use evidence::workloads::{by_depth, by_groups, main_workloads, Workload};
+use evidence::workloads::{named, Workload, BY_DEPTH, BY_GROUPS, MAIN};
 
 const ROUNDS: usize = 9;
 const SAMPLE: Duration = Duration::from_millis(60);
@@ -27,7 +27,7 @@ fn main() -> ExitCode {
         [] => all(),
         ["only", workload, implementation, seconds] => {
             let seconds = seconds.parse().map(Duration::from_secs_f64);
-            match (find(workload), implementation_of(implementation), seconds) {
+            match (named(workload), implementation_of(implementation), seconds) {
                 (Some(workload), Some(implementation), Ok(time)) => {
                     only(&workload, implementation, time)
                 }
@@ -41,11 +41,6 @@ fn main() -> ExitCode {
 fn usage() -> ExitCode {
     eprintln!("usage: benchmark [only WORKLOAD IMPLEMENTATION SECONDS]");
     ExitCode::from(2)
-}
-
-fn find(name: &str) -> Option<Workload> {
-    let all = [main_workloads(), by_depth(), by_groups()];
-    all.into_iter().flatten().find(|each| each.name == name)
 }
 
 fn implementation_of(name: &str) -> Option<Implementation> {
@@ -72,8 +67,9 @@ fn only(workload: &Workload, implementation: Implementation, time: Duration) -> 
 }
 
 fn all() -> ExitCode {
-    let workloads = main_workloads();
-    let growth = [by_depth(), by_groups()];
+    let all_of = |names: &[&str]| names.iter().filter_map(|name| named(name)).collect();
+    let workloads: Vec<Workload> = all_of(&MAIN);
+    let growth: [Vec<Workload>; 2] = [all_of(&BY_DEPTH), all_of(&BY_GROUPS)];
     let every = workloads.iter().chain(growth.iter().flatten());
     if let Some(workload) = every.into_iter().find(|workload| !agree(workload)) {
         println!("{}: the implementations differ", workload.title);

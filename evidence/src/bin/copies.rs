@@ -1,12 +1,12 @@
 //! `copies` counts what a call on the queue copies: every memcpy, memmove and
 //! memset that a replay makes, by size, divided by the calls on the queue.
-//! Copies that the compiler makes inline (up to 128 bytes or so) are not seen.
+//! Copies that the compiler makes inline are not seen.
 
 use std::ffi::c_void;
 use std::sync::atomic::{AtomicU64, Ordering::Relaxed};
 
 use evidence::timing::{Implementation, Run};
-use evidence::workloads::{main_workloads, Workload};
+use evidence::workloads::{named, Workload, MAIN};
 
 /// Sizes up to this are counted one by one, larger ones together.
 const SIZES: usize = 16_384;
@@ -55,7 +55,7 @@ unsafe extern "C" fn __wrap_memset(to: *mut c_void, byte: i32, size: usize) -> *
 fn main() {
     println!("| Workload | Implementation | Bytes copied a call | Copies a call | Largest shares: size in bytes x copies a call | Bytes filled a call |");
     println!("|---|---|---|---|---|---|");
-    for workload in main_workloads() {
+    for workload in MAIN.into_iter().filter_map(named) {
         print_row(&workload, Implementation::Proved);
         print_row(&workload, Implementation::Checked);
     }

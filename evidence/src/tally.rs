@@ -287,48 +287,40 @@ fn each_number(
     numbers.iter().map(move |&number| (place, number))
 }
 
+/// What the report says of numbers that it does not count.
+const CANNOT_OCCUR: &str = concat!(
+    "        -   30 serve, write: a replay tests the memory's length first\n",
+    "        -   40 cannot occur through replay: no opening leads to such a record",
+);
+
 impl fmt::Display for Tally {
     fn fmt(&self, f: &mut fmt::Formatter) -> fmt::Result {
-        writeln!(
-            f,
-            "{:>9} cases, {} of them through the wrapper too",
-            self.cases, self.wrapped
-        )?;
-        for (kind, count) in &self.kinds {
-            writeln!(f, "{count:>9}   {kind}")?;
-        }
-        writeln!(
-            f,
-            "{:>9} damaged copies, for their faults alone",
-            self.damaged
-        )?;
-        let (calls, refused) = (self.calls, self.refused);
-        writeln!(f, "{calls:>9} calls through replay, {refused} refused")?;
-        let (calls, longest) = (self.text_calls, self.longest_text);
-        writeln!(
-            f,
-            "{calls:>9} calls through text, the longest of {longest} bytes"
-        )?;
+        let row = |count: u64, what: String| format!("{count:>9} {what}\n");
+        let wrapped = format!("cases, {} of them through the wrapper too", self.wrapped);
+        let kinds = self.kinds.iter();
+        let kinds = kinds.map(|(kind, &count)| row(count, format!("  {kind}")));
+        let numbers = CAN_OCCUR
+            .iter()
+            .flat_map(each_number)
+            .map(|(place, number)| {
+                let count = self.numbers(place, number);
+                row(count, format!("  {number:>2} {place}"))
+            });
+        let states = STATES.iter();
+        let states = states.map(|state| row(self.states(state), format!("  {state}")));
+        let damaged = "damaged copies, for their faults alone".into();
+        let refused = format!("calls through replay, {} refused", self.refused);
+        let longest = self.longest_text;
+        let texts = format!("calls through text, the longest of {longest} bytes");
+        f.write_str(&row(self.cases, wrapped))?;
+        f.write_str(&kinds.collect::<String>())?;
+        f.write_str(&row(self.damaged, damaged))?;
+        f.write_str(&row(self.calls, refused))?;
+        f.write_str(&row(self.text_calls, texts))?;
         writeln!(f, "How often each number was answered, and where:")?;
-        for (place, number) in CAN_OCCUR.iter().flat_map(each_number) {
-            writeln!(
-                f,
-                "{:>9}   {number:>2} {place}",
-                self.numbers(place, number)
-            )?;
-        }
-        writeln!(
-            f,
-            "        -   30 serve, write: a replay tests the memory's length first"
-        )?;
-        writeln!(
-            f,
-            "        -   40 cannot occur through replay: no opening leads to such a record"
-        )?;
+        f.write_str(&numbers.collect::<String>())?;
+        writeln!(f, "{CANNOT_OCCUR}")?;
         writeln!(f, "What was reached:")?;
-        for state in STATES {
-            writeln!(f, "{:>9}   {state}", self.states(state))?;
-        }
-        Ok(())
+        f.write_str(&states.collect::<String>())
     }
 }

@@ -6,9 +6,9 @@ use crate::counts::Counts;
 use crate::event::{write_event, write_header, Event, Header};
 use crate::number::{read_number, write_number};
 use crate::play::MAX_FILE;
-use crate::queue::{LoadEntry, Queue, StoreEntry, MAX_DEPTH, MAX_MEMORY};
+use crate::queue::{LoadEntry, Queue, StoreEntry, TrustingQueue, MAX_DEPTH, MAX_MEMORY};
 use crate::rng::Rng;
-use crate::table::{Access, Group, Table, MAX_PORT};
+use crate::table::{Access, Group, Pair, Table, MAX_PORT};
 
 /// Longest encodings: of one number, and of a whole valid table.
 const NUMBER_BYTES: usize = 5;
@@ -87,17 +87,25 @@ impl Scenario {
 /// The bytes of a trace.
 ///
 /// # Panics
-/// Never: the buffers are long enough.
+/// Never: the buffer is long enough.
 #[must_use]
 pub fn trace_bytes(header: &Header, events: &[Event]) -> Vec<u8> {
     let mut buffer = [0; 4 * NUMBER_BYTES];
     let count = write_header(header, &mut buffer).expect("room for a header");
     let mut trace = buffer[..count].to_vec();
-    for event in events {
-        let count = write_event(event, &mut buffer).expect("room for an event");
-        trace.extend(&buffer[..count]);
-    }
+    trace.extend(events.iter().flat_map(event_bytes));
     trace
+}
+
+/// The bytes of an event.
+///
+/// # Panics
+/// Never: the buffer is long enough.
+#[must_use]
+pub fn event_bytes(event: &Event) -> Vec<u8> {
+    let mut buffer = [0; 3 * NUMBER_BYTES];
+    let count = write_event(event, &mut buffer).expect("room for an event");
+    buffer[..count].to_vec()
 }
 
 // Tables and headers.
@@ -119,6 +127,26 @@ pub fn table(rng: &mut Rng) -> Table {
     }
     if table.groups.is_empty() {
         let order = [Access::Load(load_ports[0]), Access::Store(store_ports[0])];
+        table.groups.push(Group::from_order(&order));
+    }
+    table
+}
+
+/// A valid table of `groups` groups, each of `loads` loads and `stores` stores
+/// in random order. Each kind's accesses are at most 32 in all, as its ports.
+///
+/// # Panics
+/// When there are too few ports.
+pub fn table_of(rng: &mut Rng, groups: usize, loads: usize, stores: usize) -> Table {
+    let mut load_ports = shuffled_ports(rng);
+    let mut store_ports = shuffled_ports(rng);
+    let mut table = Table::default();
+    for _ in 0..groups {
+        let last_loads = load_ports.drain(load_ports.len() - loads..);
+        let mut order: Vec<Access> = last_loads.map(Access::Load).collect();
+        let last_stores = store_ports.drain(store_ports.len() - stores..);
+        order.extend(last_stores.map(Access::Store));
+        rng.shuffle(&mut order);
         table.groups.push(Group::from_order(&order));
     }
     table
@@ -164,7 +192,7 @@ fn depth(rng: &mut Rng, most: u32) -> u32 {
 }
 
 /// Mostly a serial soon before the turn from 4294967295 to 0.
-fn first_serial(rng: &mut Rng) -> u32 {
+pub fn first_serial(rng: &mut Rng) -> u32 {
     let soon = u32::MAX - rng.between(0, 8);
     let later = u32::MAX - rng.between(0, 120);
     let middle = (1 << 31) - rng.between(0, 8);
@@ -178,7 +206,7 @@ fn memory_length(rng: &mut Rng) -> u32 {
 }
 
 /// Puts one of the header's numbers at or over the edge of its limits.
-fn spoil_header(rng: &mut Rng, header: &mut Header) {
+pub fn spoil_header(rng: &mut Rng, header: &mut Header) {
     let extreme = rng.pick(&[0, 0, 1, u32::MAX]);
     match rng.below(3) {
         0 => header.load_depth = rng.pick(&[extreme, header.load_depth - 1, 64, 65]),
@@ -196,79 +224,230 @@ const PROFILES: [[usize; 7]; 8] = [
     [12, 2, 2, 2, 1, 1, 1], // fill the queue
     [3, 8, 8, 8, 2, 2, 2],  // bring the arguments
     [1, 4, 4, 4, 8, 8, 8],  // empty the queue
-    [4, 8, 3, 1, 8, 1, 4],  // loads hurry
-    [4, 2, 8, 8, 1, 8, 1],  // stores hurry
-    [6, 6, 6, 1, 8, 2, 4],  // data comes late
+    LOADS_HURRY,
+    [4, 2, 8, 8, 1, 8, 1], // stores hurry
+    [6, 6, 6, 1, 8, 2, 4], // data comes late
 ];
+
+const LOADS_HURRY: [usize; 7] = [4, 8, 3, 1, 8, 1, 4];
+
+/// What a trace leans towards.
+#[derive(Clone, Copy, Debug)]
+pub struct Lean {
+    /// How often each kind of event is tried, changed now and then.
+    profiles: &'static [[usize; 7]],
+    /// Most addresses that accesses crowd on.
+    hot: u32,
+    /// How often in 16 a refused event is kept.
+    refused: usize,
+    /// How often in 16 the event before is repeated, changed a little or not.
+    neighbours: usize,
+    /// Whether the side that holds more is emptied first.
+    even: bool,
+}
+
+impl Lean {
+    /// Something of everything.
+    pub const MIXED: Self = Self {
+        profiles: &PROFILES,
+        hot: 3,
+        refused: 2,
+        neighbours: 0,
+        even: false,
+    };
+    /// Both sides filled again as soon as places are free.
+    pub const FULL: Self = Self {
+        profiles: &[[24, 4, 4, 4, 4, 4, 4], [16, 5, 5, 5, 4, 2, 4]],
+        hot: 2,
+        refused: 2,
+        neighbours: 0,
+        even: true,
+    };
+    /// Many stores to one address whose data waits for no write, so that loads
+    /// are forwarded to.
+    pub const FORWARDED: Self = Self {
+        profiles: &[[6, 8, 10, 10, 8, 0, 4], [4, 8, 8, 8, 8, 2, 8]],
+        hot: 1,
+        refused: 1,
+        neighbours: 0,
+        even: false,
+    };
+    /// Loads and stores of one address that wait for each other.
+    pub const CONFLICTS: Self = Self {
+        profiles: &[[6, 6, 6, 3, 6, 6, 4], LOADS_HURRY],
+        hot: 1,
+        refused: 5,
+        neighbours: 0,
+        even: false,
+    };
+    /// Stores that hurry past each other.
+    pub const STORES: Self = Self {
+        profiles: &[[8, 3, 5, 8, 4, 12, 2], [8, 3, 3, 8, 4, 12, 2]],
+        hot: 3,
+        refused: 8,
+        neighbours: 0,
+        even: false,
+    };
+    /// Refusals next to acceptances.
+    pub const NEIGHBOURS: Self = Self {
+        profiles: &PROFILES,
+        hot: 2,
+        refused: 1,
+        neighbours: 8,
+        even: false,
+    };
+}
+
+/// `count` events of [`Lean::MIXED`] for a queue opened with `header`.
+///
+/// # Panics
+/// When the table does not open with the header.
+pub fn events(rng: &mut Rng, table: &Table, header: Header, count: usize) -> Vec<Event> {
+    events_leaning(rng, table, header, count, &Lean::MIXED)
+}
 
 /// `count` events for a queue opened with `header`; one that the queue would
 /// refuse is kept only now and then.
 ///
 /// # Panics
 /// When the table does not open with the header.
-pub fn events(rng: &mut Rng, table: &Table, header: Header, count: usize) -> Vec<Event> {
-    let queue = Queue::open(table.clone(), header).expect("a header that opens");
-    let hot = hot_addresses(rng, header.memory_length);
-    let mut driver = Driver {
-        queue,
-        hot,
-        word: 0,
-    };
-    let mut memory = vec![0; header.memory_length as usize];
-    let mut counts = Counts::default();
-    let mut weights = rng.pick(&PROFILES);
+pub fn events_leaning(
+    rng: &mut Rng,
+    table: &Table,
+    header: Header,
+    count: usize,
+    lean: &Lean,
+) -> Vec<Event> {
+    let mut driver = Driver::new(rng, table, header, lean);
+    let mut weights = rng.pick(lean.profiles);
     let mut events = Vec::with_capacity(count);
     for _ in 0..count {
         if rng.chance(1, 20) {
-            weights = rng.pick(&PROFILES);
+            weights = rng.pick(lean.profiles);
         }
-        let event = driver.next_event(rng, &weights, &memory);
-        let _ = driver.queue.apply(&event, &mut memory, &mut counts);
+        let last = events.last().filter(|_| rng.chance(lean.neighbours, 16));
+        let event = match last {
+            Some(last) => neighbour(rng, last, header.memory_length),
+            None => driver.next_event(rng, &weights, lean),
+        };
+        driver.make(&event);
         events.push(event);
     }
     events
 }
 
+/// The same event again, or one that differs in one number by one or goes to
+/// the memory's end.
+fn neighbour(rng: &mut Rng, event: &Event, memory_length: u32) -> Event {
+    let step = rng.pick(&[0, 0, 1, u32::MAX]);
+    match *event {
+        Event::Activate { group } => Event::Activate {
+            group: group.wrapping_add(step),
+        },
+        Event::LoadAddress { port, address } => Event::LoadAddress {
+            port: port.wrapping_add(step),
+            address: rng.pick(&[address, address, memory_length]),
+        },
+        Event::StoreAddress { port, address } => Event::StoreAddress {
+            port: port.wrapping_add(step),
+            address: rng.pick(&[address, address, memory_length]),
+        },
+        Event::StoreData { port, word } => Event::StoreData {
+            port: port.wrapping_add(step),
+            word,
+        },
+        Event::Serve { serial } => Event::Serve {
+            serial: serial.wrapping_add(step),
+        },
+        Event::Write { serial } => Event::Write {
+            serial: serial.wrapping_add(step),
+        },
+        Event::Take { port } => Event::Take {
+            port: port.wrapping_add(step),
+        },
+    }
+}
+
 /// The few addresses that most accesses go to.
-fn hot_addresses(rng: &mut Rng, memory_length: u32) -> Vec<u32> {
-    let count = rng.between(1, 3);
+fn hot_addresses(rng: &mut Rng, memory_length: u32, most: u32) -> Vec<u32> {
+    let count = rng.between(1, most);
     (0..count)
         .map(|_| rng.between(0, memory_length - 1))
         .collect()
 }
 
-/// Proposes events with the queue that they will meet in view.
+/// Proposes events with the queue that they will meet in view. Answers don't
+/// depend on the words in memory.
 struct Driver {
-    queue: Queue,
+    queue: TrustingQueue,
+    memory: Vec<u32>,
     hot: Vec<u32>,
     word: u32,
 }
 
 impl Driver {
+    fn new(rng: &mut Rng, table: &Table, header: Header, lean: &Lean) -> Self {
+        let queue = TrustingQueue::open(table.clone(), header).expect("a header that opens");
+        Self {
+            queue,
+            memory: vec![0; header.memory_length as usize],
+            hot: hot_addresses(rng, header.memory_length, lean.hot),
+            word: 0,
+        }
+    }
+
+    /// Makes the call of an event that is kept.
+    fn make(&mut self, event: &Event) {
+        let mut counts = Counts::default();
+        let _ = self.queue.apply(event, &mut self.memory, &mut counts);
+    }
+
     /// Tries a few events and keeps the first accepted one, or by chance a
     /// refused one.
-    fn next_event(&mut self, rng: &mut Rng, weights: &[usize; 7], memory: &[u32]) -> Event {
-        let mut event = self.propose(rng, weights);
+    fn next_event(&mut self, rng: &mut Rng, weights: &[usize; 7], lean: &Lean) -> Event {
+        let weights = self.evened(weights, lean);
+        let mut event = self.propose(rng, &weights);
         for _ in 0..8 {
-            if rng.chance(1, 10) || self.accepts(&event, memory) {
+            if rng.chance(lean.refused, 16) || self.accepts(&event) {
                 break;
             }
-            event = self.propose(rng, weights);
+            event = self.propose(rng, &weights);
         }
         event
     }
 
-    fn accepts(&self, event: &Event, memory: &[u32]) -> bool {
+    /// The weights without takes while fewer loads are held than stores, and
+    /// without writes while fewer stores are.
+    fn evened(&self, weights: &[usize; 7], lean: &Lean) -> [usize; 7] {
+        let loads = self.queue.loads.entries.len();
+        let stores = self.queue.stores.entries.len();
+        let mut weights = *weights;
+        if lean.even && stores < loads {
+            weights[5] = 0;
+        }
+        if lean.even && loads < stores {
+            weights[6] = 0;
+        }
+        weights
+    }
+
+    fn accepts(&self, event: &Event) -> bool {
         let mut counts = Counts::default();
-        let mut queue = self.queue.clone();
+        let mut run = [0; MAX_DEPTH as usize];
         match *event {
-            Event::Write { serial } => {
-                let mut run = [0; MAX_DEPTH as usize];
-                let ready = queue.ready_stores(&mut run);
+            Event::Serve { serial } => {
+                let ready = self.queue.ready_loads(&mut run);
                 ready.is_ok_and(|ready| ready.contains(&serial))
             }
-            Event::Serve { serial } => queue.serve(serial, memory, &mut counts).is_ok(),
-            _ => queue.apply(event, &mut [], &mut counts).is_ok(),
+            Event::Write { serial } => {
+                let ready = self.queue.ready_stores(&mut run);
+                ready.is_ok_and(|ready| ready.contains(&serial))
+            }
+            _ => self
+                .queue
+                .clone()
+                .apply(event, &mut [], &mut counts)
+                .is_ok(),
         }
     }
 
@@ -411,7 +590,7 @@ pub fn damage(rng: &mut Rng, bytes: &mut Vec<u8>) {
 fn damage_once(rng: &mut Rng, bytes: &mut Vec<u8>) {
     let at = rng.below(bytes.len() + 1);
     let inside = at < bytes.len();
-    match rng.below(10) {
+    match rng.below(12) {
         0 if inside => bytes[at] ^= 1 << rng.below(8),
         1 if inside => bytes[at] = rng.word() as u8,
         2 if inside => drop(bytes.remove(at)),
@@ -419,6 +598,7 @@ fn damage_once(rng: &mut Rng, bytes: &mut Vec<u8>) {
         4 => bytes.insert(at, rng.pick(&[0x00, 0x01, 0x7F, 0x80, 0xFF])),
         5 => bytes.extend([rng.word() as u8, 0x00].iter().take(rng.below(3))),
         6 => pad_number(rng, bytes, NUMBER_BYTES + 2),
+        7..=8 => widen_number(rng, bytes),
         _ => change_number(rng, bytes),
     }
 }
@@ -450,8 +630,22 @@ fn change_number(rng: &mut Rng, bytes: &mut Vec<u8>) {
     bytes.splice(start..end, buffer[..count].iter().copied());
 }
 
+/// Spells one number with five bytes, the fifth at an edge: 0F is the last one
+/// that can be read.
+fn widen_number(rng: &mut Rng, bytes: &mut Vec<u8>) {
+    let places = number_places(bytes);
+    if places.is_empty() {
+        return;
+    }
+    let (start, end) = rng.pick(&places);
+    let number = read_number(bytes, start).map_or(0, |(number, _)| number);
+    let fifth = rng.pick(&[0x00, 0x01, 0x0F, 0x10, 0x1F, 0x7F, 0x80, 0x8F]);
+    let four = (0..4).map(|i| (number >> (7 * i)) as u8 | 0x80);
+    bytes.splice(start..end, four.chain([fifth]));
+}
+
 /// Pads some numbers within the limits, which changes no meaning.
-fn pad_several(rng: &mut Rng, bytes: &mut Vec<u8>) {
+pub fn pad_several(rng: &mut Rng, bytes: &mut Vec<u8>) {
     for _ in 0..rng.between(1, 4) {
         pad_number(rng, bytes, NUMBER_BYTES);
     }
@@ -474,7 +668,7 @@ fn pad_number(rng: &mut Rng, bytes: &mut Vec<u8>, most: usize) {
 }
 
 /// Lengthens a trace by takes to the limit of a file, or over it.
-fn stretch(rng: &mut Rng, trace: &mut Vec<u8>) {
+pub fn stretch(rng: &mut Rng, trace: &mut Vec<u8>) {
     let length = MAX_FILE - 1 + rng.below(3);
     if trace.len() + 3 > length {
         return;
@@ -508,7 +702,7 @@ fn fill_record(rng: &mut Rng, queue: &mut Queue) {
     let most = rng.pick(&[2, 6, MAX_DEPTH]);
     let loads = rng.between(0, queue.load_depth.min(most)) as usize;
     let stores = rng.between(0, queue.store_depth.min(most)) as usize;
-    let hot = hot_addresses(rng, queue.memory_length);
+    let hot = hot_addresses(rng, queue.memory_length, 3);
     let gaps = rng.pick(&[2, 10, 100]);
     for _ in 0..loads {
         let load = any_load(rng, &queue.table, &hot, gaps, stores);
@@ -571,5 +765,29 @@ pub fn spoil_table(rng: &mut Rng, table: &mut Table) {
         (2, Some(pair)) => pair.offset = rng.pick(&[17, u32::MAX]),
         (3, Some(pair)) => pair.port = rng.pick(&[32, u32::MAX]),
         _ => table.groups.push(table.groups[group].clone()),
+    }
+}
+
+/// Changes one pair of a table a little: its offset by one, or its port to
+/// that of another access of its kind, to the last port or past it. The table
+/// may stay a right one.
+pub fn nudge_table(rng: &mut Rng, table: &mut Table) {
+    let groups = table.groups.iter_mut();
+    let mut pairs: Vec<&mut Pair> = match rng.chance(1, 2) {
+        true => groups.flat_map(|group| &mut group.loads).collect(),
+        false => groups.flat_map(|group| &mut group.stores).collect(),
+    };
+    if pairs.is_empty() {
+        return;
+    }
+    let other = pairs[rng.below(pairs.len())].port;
+    let place = rng.below(pairs.len());
+    let pair = &mut pairs[place];
+    match rng.below(5) {
+        0 => pair.offset = pair.offset.wrapping_add(1),
+        1 => pair.offset = pair.offset.wrapping_sub(1),
+        2 => pair.offset = 0,
+        3 => pair.port = other,
+        _ => pair.port = rng.pick(&[MAX_PORT, MAX_PORT + 1]),
     }
 }

@@ -21,6 +21,7 @@ pub mod plain;
 pub mod play;
 pub mod queue;
 pub mod refusal;
+pub mod replay;
 pub mod rng;
 pub mod table;
 

@@ -1,0 +1,65 @@
+/* Replays the scope paper's case K1: two activations of a group of one load
+ * and one store, whose second load gets the first store's data. Prints each
+ * event's answer and value, the memory, and the counts; exits with 1 where the
+ * end is not what the paper says. */
+#include <inttypes.h>
+#include <stdio.h>
+#include <stdlib.h>
+
+#include "lsq.h"
+
+static const uint8_t table[] = {0x02, 0x01, 0x01, 0x01, 0x00, 0x00, 0x01, 0x00};
+
+static const uint8_t trace[] = {
+    0x02, 0x02, 0xFF, 0xFF, 0xFF, 0xFF, 0x0F, 0x04, /* depths, first serial, memory length */
+    0x00, 0x00,                                     /* activate */
+    0x00, 0x00,                                     /* activate */
+    0x01, 0x00, 0x03,                               /* load address */
+    0x01, 0x00, 0x03,                               /* load address */
+    0x04, 0x00,                                     /* serve: an earlier store has no address */
+    0x04, 0xFF, 0xFF, 0xFF, 0xFF, 0x0F,             /* serve */
+    0x06, 0x00,                                     /* take */
+    0x02, 0x00, 0x03,                               /* store address */
+    0x03, 0x00, 0x01,                               /* store data */
+    0x04, 0x00,                                     /* serve: forwarded */
+    0x05, 0xFF, 0xFF, 0xFF, 0xFF, 0x0F,             /* write */
+    0x06, 0x00,                                     /* take */
+};
+
+static void print_event(size_t number, uint8_t answer, uint64_t value)
+{
+    if (value == LSQ_NO_VALUE)
+        printf("%zu %u -\n", number, answer);
+    else
+        printf("%zu %u %" PRIu64 "\n", number, answer, value);
+}
+
+int main(void)
+{
+    uint32_t fault = lsq_trace_fault(table, sizeof table, trace, sizeof trace);
+    if (fault != LSQ_ACCEPTED) {
+        fprintf(stderr, "refused: %" PRIu32 "\n", fault);
+        return 1;
+    }
+    size_t events = lsq_event_count(trace, sizeof trace);
+    size_t words = lsq_memory_length(trace, sizeof trace);
+    uint32_t *memory = calloc(words, sizeof *memory);
+    uint8_t *answers = calloc(events + 1, sizeof *answers);
+    uint64_t *values = calloc(events + 1, sizeof *values);
+    uint32_t counts[2] = {0, 0};
+    if (memory == NULL || answers == NULL || values == NULL)
+        return 1;
+    fault = lsq_replay(table, sizeof table, trace, sizeof trace, memory, words,
+                       counts, 2, answers, events, values, events);
+    for (size_t i = 0; i < events; i++)
+        print_event(i + 1, answers[i], values[i]);
+    uint64_t share = lsq_share(counts[0], counts[1]);
+    printf("word 3 %" PRIu32 "\n", memory[3]);
+    printf("loads %" PRIu32 " forwarded %" PRIu32 " share %" PRIu64 "\n", counts[0], counts[1], share);
+    int right = fault == 0 && events == 12 && answers[4] == LSQ_EARLIER_STORE_ADDRESS
+        && values[9] == 1 && memory[3] == 1 && share == 500;
+    free(memory);
+    free(answers);
+    free(values);
+    return right ? 0 : 1;
+}

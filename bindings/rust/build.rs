@@ -1,0 +1,23 @@
+//! Links `libexports.a` of the repository's `target/staticlib/`, which
+//! `rt staticlib exports` writes, or of the folder that LSQ_LIB_DIR names.
+
+use std::env;
+use std::path::{Path, PathBuf};
+
+fn main() {
+    println!("cargo:rerun-if-env-changed=LSQ_LIB_DIR");
+    let folder = env::var_os("LSQ_LIB_DIR").map_or_else(default_folder, PathBuf::from);
+    let archive = folder.join("libexports.a");
+    println!("cargo:rerun-if-changed={}", archive.display());
+    assert!(
+        archive.is_file(),
+        "{} is missing: run `rt staticlib exports`",
+        archive.display()
+    );
+    println!("cargo:rustc-link-search=native={}", folder.display());
+    println!("cargo:rustc-link-lib=static=exports");
+}
+
+fn default_folder() -> PathBuf {
+    Path::new(env!("CARGO_MANIFEST_DIR")).join("../../target/staticlib")
+}

@@ -1,0 +1,167 @@
+//! `benchmark` measures the static library against the in-place Rust queue,
+//! with and without check 40, and prints tables in Markdown.
+//! `benchmark only WORKLOAD IMPLEMENTATION SECONDS` plays one thing over and
+//! over, for a profiler; WORKLOAD is a, b, c1, c16, depthN or groupsN, and
+//! IMPLEMENTATION is proved, checked or unchecked.
+
+use std::env;
+use std::process::ExitCode;
+use std::time::Duration;
+
+use evidence::clock::processor_time;
+use evidence::timing::{agree, reading, rounds, Implementation, Run, Spread};
+use evidence::workloads::{named, Workload, BY_DEPTH, BY_GROUPS, MAIN};
+
+const ROUNDS: usize = 9;
+const SAMPLE: Duration = Duration::from_millis(60);
+/// The growth tables have many rows.
+const GROWTH_ROUNDS: usize = 5;
+const GROWTH_SAMPLE: Duration = Duration::from_millis(30);
+/// "At most 3 times an in-place Rust queue that makes the same check 40."
+const TARGET: f64 = 3.0;
+
+fn main() -> ExitCode {
+    let args: Vec<String> = env::args().skip(1).collect();
+    let args: Vec<&str> = args.iter().map(String::as_str).collect();
+    match args[..] {
+        [] => all(),
+        ["only", workload, implementation, seconds] => {
+            let seconds = seconds.parse().map(Duration::from_secs_f64);
+            match (named(workload), implementation_of(implementation), seconds) {
+                (Some(workload), Some(implementation), Ok(time)) => {
+                    only(&workload, implementation, time)
+                }
+                _ => usage(),
+            }
+        }
+        _ => usage(),
+    }
+}
+
+fn usage() -> ExitCode {
+    eprintln!("usage: benchmark [only WORKLOAD IMPLEMENTATION SECONDS]");
+    ExitCode::from(2)
+}
+
+fn implementation_of(name: &str) -> Option<Implementation> {
+    match name {
+        "proved" => Some(Implementation::Proved),
+        "checked" => Some(Implementation::Checked),
+        "unchecked" => Some(Implementation::Unchecked),
+        _ => None,
+    }
+}
+
+fn only(workload: &Workload, implementation: Implementation, time: Duration) -> ExitCode {
+    let mut run = Run::new(workload);
+    let start = processor_time();
+    let mut plays = 0;
+    while plays == 0 || processor_time() - start < time {
+        run.play(implementation, workload);
+        plays += 1;
+    }
+    let calls = plays * workload.calls;
+    let nanoseconds = (processor_time() - start).as_nanos() as f64 / calls as f64;
+    println!("{calls} calls, {nanoseconds:.1} ns a call");
+    ExitCode::SUCCESS
+}
+
+fn all() -> ExitCode {
+    let all_of = |names: &[&str]| names.iter().filter_map(|name| named(name)).collect();
+    let workloads: Vec<Workload> = all_of(&MAIN);
+    let growth: [Vec<Workload>; 2] = [all_of(&BY_DEPTH), all_of(&BY_GROUPS)];
+    let every = workloads.iter().chain(growth.iter().flatten());
+    if let Some(workload) = every.into_iter().find(|workload| !agree(workload)) {
+        println!("{}: the implementations differ", workload.title);
+        return ExitCode::FAILURE;
+    }
+    print_workloads(&workloads);
+    print_ratios(&workloads);
+    let [depth, groups] = growth;
+    print_growth("Depth (one group of 1 load and 1 store)", &depth);
+    print_growth("Groups (of 2 loads and 2 stores, depth 8)", &groups);
+    print_reading(&workloads);
+    ExitCode::SUCCESS
+}
+
+fn print_workloads(workloads: &[Workload]) {
+    println!("| Workload | Calls | Accepted | Forwarded | Loads held | Stores held |");
+    println!("|---|---|---|---|---|---|");
+    for workload in workloads {
+        let Workload { title, calls, .. } = workload;
+        let accepted = 100.0 * workload.accepted as f64 / *calls as f64;
+        let share = workload.counts.share() as f64 / 10.0;
+        let [loads, stores] = workload.held;
+        println!("| {title} | {calls} | {accepted:.0}% | {share:.0}% of loads | {loads:.1} | {stores:.1} |");
+    }
+    println!();
+}
+
+fn print_ratios(workloads: &[Workload]) {
+    println!("Medians of {ROUNDS} rounds of processor time; in brackets the least and the greatest. The target is a ratio of {TARGET} to Rust with check 40.");
+    println!();
+    println!("| Workload | Proved, calls/s | Rust with 40, calls/s | Rust without, calls/s | Time to Rust with 40 | Time to Rust without | Target |");
+    println!("|---|---|---|---|---|---|---|");
+    for workload in workloads {
+        let rounds = rounds(workload, ROUNDS, SAMPLE);
+        let speed = |place: usize| Spread::of(rounds.iter().map(|round| 1e9 / round[place]));
+        let ratio = |place: usize| Spread::of(rounds.iter().map(|round| round[0] / round[place]));
+        let speeds = [0, 1, 2].map(|place| millions(speed(place)));
+        let ratios = [1, 2].map(ratio);
+        let met = if ratios[0].middle <= TARGET {
+            "met"
+        } else {
+            "missed"
+        };
+        let [with, without] = ratios.map(times);
+        println!(
+            "| {} | {} | {with} | {without} | {met} |",
+            workload.title,
+            speeds.join(" | ")
+        );
+    }
+    println!();
+}
+
+fn millions(spread: Spread) -> String {
+    let [middle, least, greatest] = [spread.middle, spread.least, spread.greatest];
+    let [middle, least, greatest] = [middle, least, greatest].map(|figure| figure / 1e6);
+    format!("{middle:.2} M ({least:.2} to {greatest:.2})")
+}
+
+fn times(spread: Spread) -> String {
+    let Spread {
+        middle,
+        least,
+        greatest,
+    } = spread;
+    format!("{middle:.2} ({least:.2} to {greatest:.2})")
+}
+
+fn print_growth(title: &str, workloads: &[Workload]) {
+    println!("| {title} | Loads and stores held | Proved, ns a call | Rust with 40, ns a call | Rust without, ns a call | Time to Rust with 40 |");
+    println!("|---|---|---|---|---|---|");
+    for workload in workloads {
+        let rounds = rounds(workload, GROWTH_ROUNDS, GROWTH_SAMPLE);
+        let time = |place: usize| Spread::of(rounds.iter().map(|round| round[place])).middle;
+        let ratio = Spread::of(rounds.iter().map(|round| round[0] / round[1]));
+        let [proved, with, without] = [0, 1, 2].map(time);
+        let [loads, stores] = workload.held;
+        println!(
+            "| {} | {loads:.1}, {stores:.1} | {proved:.0} | {with:.0} | {without:.0} | {} |",
+            workload.title,
+            times(ratio)
+        );
+    }
+    println!();
+}
+
+fn print_reading(workloads: &[Workload]) {
+    println!("| Reading alone (table, leading numbers, every event; no call) | Proved, ns an event | Rust, ns an event |");
+    println!("|---|---|---|");
+    for workload in workloads {
+        let [proved, reference] = reading(workload);
+        println!("| {} | {proved:.1} | {reference:.1} |", workload.title);
+    }
+    println!();
+}

@@ -1,0 +1,267 @@
+//! One case on both sides, and the first difference.
+
+use std::fmt::{Debug, Display};
+
+use lsq::{Buffer, Error, TEXT_BYTES};
+use lsq_ref::gen;
+use lsq_ref::play::play;
+use lsq_ref::replay::{self, replay_watched};
+use lsq_ref::rng::Rng;
+use lsq_ref::Counts;
+
+use crate::buffers::{Buffers, Guarded};
+use crate::cases::{Case, Kind};
+use crate::subject::Subject;
+use crate::tally::Tally;
+
+/// What differs, in words.
+#[derive(Clone, Debug, PartialEq, Eq)]
+pub struct Difference(pub String);
+
+/// Damaged copies of each case, and the longest trace that is copied.
+const DAMAGED_COPIES: usize = 16;
+const DAMAGED_BYTES: usize = 2_000;
+
+/// Stands in the text buffer wherever no text is.
+const FILLER: u8 = 0xA5;
+
+/// Compares cases, and keeps a text buffer from one to the next.
+pub struct Comparer<'a, S> {
+    subject: &'a S,
+    out: Guarded<u8>,
+    short_out: Guarded<u8>,
+}
+
+impl<'a, S: Subject> Comparer<'a, S> {
+    /// A comparer of this subject with the reference.
+    pub fn new(subject: &'a S) -> Self {
+        Self {
+            subject,
+            out: Guarded::new(TEXT_BYTES, || FILLER),
+            short_out: Guarded::new(TEXT_BYTES - 1, || FILLER),
+        }
+    }
+
+    /// Compares every function on one case.
+    ///
+    /// # Errors
+    /// The first difference.
+    pub fn case(&mut self, case: &Case, tally: &mut Tally) -> Result<(), Difference> {
+        self.faults(&case.table, &case.trace)?;
+        self.damaged(case, tally)?;
+        let played = self.replay(case, tally)?;
+        self.shares(case, &played)?;
+        self.text(case, tally)
+    }
+
+    fn faults(&self, table: &[u8], trace: &[u8]) -> Result<(), Difference> {
+        let subject = self.subject;
+        let expected = u32::from(replay::table_fault(table));
+        same("lsq_table_fault", expected, subject.table_fault(table))?;
+        let expected = u32::from(replay::trace_fault(table, trace));
+        let found = subject.trace_fault(table, trace);
+        same("lsq_trace_fault", expected, found)?;
+        let expected = replay::event_count(trace);
+        same("lsq_event_count", expected, subject.event_count(trace))?;
+        let expected = replay::memory_length(trace);
+        same("lsq_memory_length", expected, subject.memory_length(trace))
+    }
+
+    /// Compares the faults alone on damaged copies of the bytes.
+    fn damaged(&self, case: &Case, tally: &mut Tally) -> Result<(), Difference> {
+        if case.trace.len() > DAMAGED_BYTES {
+            return Ok(());
+        }
+        let mut rng = Rng::new(!case.seed);
+        for copy in 0..DAMAGED_COPIES {
+            let (mut table, mut trace) = (case.table.clone(), case.trace.clone());
+            let bytes = if copy % 2 == 0 {
+                &mut table
+            } else {
+                &mut trace
+            };
+            gen::damage(&mut rng, bytes);
+            tally.damaged += 1;
+            let named = |Difference(words)| {
+                let spelled = format!("table {table:02X?}, trace {trace:02X?}");
+                Difference(format!("{words}, on a damaged copy: {spelled}"))
+            };
+            self.faults(&table, &trace).map_err(named)?;
+        }
+        Ok(())
+    }
+
+    /// Gives the buffers that the replay leaves.
+    fn replay(&self, case: &Case, tally: &mut Tally) -> Result<Buffers, Difference> {
+        let Case { table, trace, .. } = case;
+        let mut expected = case.buffers.clone();
+        let watch = tally.watch(case);
+        let played = replay_watched::<true>(table, trace, expected.lend(), watch);
+        let answer = played.err().unwrap_or(0);
+        tally.replayed(case, answer, &expected);
+        let mut buffers = case.buffers.clone();
+        let found = self.subject.replay(table, trace, buffers.lend());
+        same("lsq_replay", u32::from(answer), found)?;
+        same_buffers("lsq_replay", &expected, &buffers)?;
+        Ok(expected)
+    }
+
+    fn shares(&self, case: &Case, played: &Buffers) -> Result<(), Difference> {
+        let mut rng = Rng::new(case.seed);
+        let counts = played.counts.run();
+        let ended = counts.iter().zip(counts.iter().skip(1)).next();
+        let (loads, forwarded) = ended.unwrap_or((&0, &0));
+        self.share(*loads, *forwarded)?;
+        self.share(rng.between(0, 40), rng.between(0, 40))?;
+        self.share(rng.word(), rng.word())
+    }
+
+    fn share(&self, loads: u32, forwarded: u32) -> Result<(), Difference> {
+        let expected = Counts { loads, forwarded }.share();
+        let found = self.subject.share(loads, forwarded);
+        same(
+            &format!("lsq_share of {loads} and {forwarded}"),
+            expected,
+            found,
+        )
+    }
+
+    fn text(&mut self, case: &Case, tally: &mut Tally) -> Result<(), Difference> {
+        if case.short_text {
+            return self.short_text(case, tally);
+        }
+        let expected = play(Some(&case.table), Some(&case.trace));
+        tally.printed(&expected);
+        let found = self.subject.text(&case.table, &case.trace, self.out.lend());
+        same("the length of lsq_text", expected.len() as u64, found)?;
+        same_text(expected.as_bytes(), self.out.run())?;
+        // Only the front is restored: what stands behind it is compared below.
+        self.out.lend()[..expected.len()].fill(FILLER);
+        untouched("the rest of lsq_text's buffer", &self.out)
+    }
+
+    fn short_text(&mut self, case: &Case, tally: &mut Tally) -> Result<(), Difference> {
+        tally.short_text();
+        let lent = self.short_out.lend();
+        let found = self.subject.text(&case.table, &case.trace, lent);
+        same("lsq_text into a short buffer", 0, found)?;
+        untouched("lsq_text's short buffer", &self.short_out)
+    }
+}
+
+/// Compares what the Rust wrapper gives, on copies of the buffers.
+///
+/// # Errors
+/// The first difference.
+pub fn wrapper(case: &Case) -> Result<(), Difference> {
+    let Case { table, trace, .. } = case;
+    let mut expected = case.buffers.clone();
+    let played = replay::replay::<true>(table, trace, expected.lend());
+    let mut found = case.buffers.clone();
+    let result = lsq::replay(table, trace, found.lend_to_wrapper());
+    let outcome = match played {
+        Ok(()) => Ok(replay::event_count(trace) as usize),
+        Err(30 | 10) => Err(wrong_length(case)),
+        Err(refusal) => Err(Error::Refused(refusal.into())),
+    };
+    same_shown("the wrapper's replay", &outcome, &result)?;
+    same_buffers("the wrapper's replay", &expected, &found)
+}
+
+/// The wrong length that the wrapper names first.
+fn wrong_length(case: &Case) -> Error {
+    let events = replay::event_count(&case.trace) as usize;
+    let words = replay::memory_length(&case.trace) as usize;
+    let Buffers {
+        memory,
+        counts,
+        answers,
+        values,
+    } = &case.buffers;
+    let error = |buffer, lent, needed| Error::Length {
+        buffer,
+        lent,
+        needed,
+    };
+    if memory.length() != words {
+        return error(Buffer::Memory, memory.length(), words);
+    }
+    if counts.length() < 2 {
+        return error(Buffer::Counts, counts.length(), 2);
+    }
+    if answers.length() < events {
+        return error(Buffer::Answers, answers.length(), events);
+    }
+    error(Buffer::Values, values.length(), events)
+}
+
+/// Whether the wrapper is compared on this case: wherever lengths are wrong,
+/// and on some of the others.
+#[must_use]
+pub fn tries_wrapper(case: &Case) -> bool {
+    case.kind == Kind::Lengths || (case.seed / 3).is_multiple_of(8)
+}
+
+fn same<T: PartialEq + Display>(what: &str, expected: T, found: T) -> Result<(), Difference> {
+    if expected == found {
+        return Ok(());
+    }
+    let words = format!("{what}: reference {expected}, library {found}");
+    Err(Difference(words))
+}
+
+fn same_shown<T: PartialEq + Debug>(what: &str, expected: &T, found: &T) -> Result<(), Difference> {
+    if expected == found {
+        return Ok(());
+    }
+    let words = format!("{what}: reference {expected:?}, library {found:?}");
+    Err(Difference(words))
+}
+
+fn same_buffers(what: &str, expected: &Buffers, found: &Buffers) -> Result<(), Difference> {
+    same_run(what, "answers", &expected.answers, &found.answers)?;
+    same_run(what, "values", &expected.values, &found.values)?;
+    same_run(what, "memory", &expected.memory, &found.memory)?;
+    same_run(what, "counts", &expected.counts, &found.counts)
+}
+
+fn same_run<T: Copy + PartialEq + Display>(
+    what: &str,
+    name: &str,
+    expected: &Guarded<T>,
+    found: &Guarded<T>,
+) -> Result<(), Difference> {
+    let Some((place, mine, others)) = expected.difference(found) else {
+        return Ok(());
+    };
+    let length = expected.length();
+    let words = format!("{what}, {name}[{place}] of {length}: reference {mine}, library {others}");
+    Err(Difference(words))
+}
+
+fn same_text(expected: &[u8], out: &[u8]) -> Result<(), Difference> {
+    let found = &out[..expected.len()];
+    if expected == found {
+        return Ok(());
+    }
+    let mut lines = expected
+        .split(|&b| b == b'\n')
+        .zip(found.split(|&b| b == b'\n'));
+    let line = lines.position(|(mine, others)| mine != others).unwrap_or(0);
+    let nth = |text: &[u8]| {
+        let line = text.split(|&b| b == b'\n').nth(line).unwrap_or_default();
+        String::from_utf8_lossy(line).into_owned()
+    };
+    let (mine, others) = (nth(expected), nth(found));
+    let words = format!(
+        "line {} of the text: reference {mine:?}, library {others:?}",
+        line + 1
+    );
+    Err(Difference(words))
+}
+
+fn untouched(what: &str, out: &Guarded<u8>) -> Result<(), Difference> {
+    let filler = out.is_all(FILLER);
+    let words = || Difference(format!("{what} was changed"));
+    filler.then_some(()).ok_or_else(words)
+}

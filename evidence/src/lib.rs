@@ -1,0 +1,16 @@
+//! The static library of the proved queue, held to the independent
+//! implementation in `reference/` (`differential`) and measured against it
+//! (`benchmark`).
+
+#![deny(unsafe_code)]
+#![warn(missing_docs)]
+
+pub mod buffers;
+pub mod cases;
+pub mod clock;
+pub mod compare;
+pub mod program;
+pub mod subject;
+pub mod tally;
+pub mod timing;
+pub mod workloads;

@@ -1,0 +1,237 @@
+//! The comparison finds what it looks for: subjects that are right but for one
+//! thing, and the case in which that shows.
+
+use std::cell::Cell;
+
+use evidence::cases::Case;
+use evidence::compare::{Comparer, Difference};
+use evidence::subject::Subject;
+use evidence::tally::Tally;
+use lsq_ref::play::play;
+use lsq_ref::replay::{self, Lent};
+use lsq_ref::Counts;
+
+const TEXT_BYTES: usize = 524_288;
+
+/// What a subject does wrong.
+#[derive(Clone, Copy, Debug, PartialEq, Eq)]
+enum Fault {
+    Right,
+    WrongTable,
+    WrongTrace,
+    EventCount,
+    MemoryLength,
+    ReplayAnswer,
+    Answer,
+    Value,
+    Word,
+    Count,
+    AnswerBehind,
+    ValueBehind,
+    CountBehind,
+    WordWhenRefused,
+    Share,
+    TextLength,
+    TextLastByte,
+    TextBehind,
+    ShortText,
+}
+
+use Fault::*;
+
+const FAULTS: [Fault; 18] = [
+    WrongTable,
+    WrongTrace,
+    EventCount,
+    MemoryLength,
+    ReplayAnswer,
+    Answer,
+    Value,
+    Word,
+    Count,
+    AnswerBehind,
+    ValueBehind,
+    CountBehind,
+    WordWhenRefused,
+    Share,
+    TextLength,
+    TextLastByte,
+    TextBehind,
+    ShortText,
+];
+
+/// The reference, but for a fault. It notes whether it did the wrong thing.
+struct Broken {
+    fault: Fault,
+    shown: Cell<bool>,
+}
+
+impl Broken {
+    fn new(fault: Fault) -> Self {
+        let shown = Cell::new(false);
+        Self { fault, shown }
+    }
+
+    /// Whether to do the wrong thing now.
+    fn does(&self, fault: Fault, possible: bool) -> bool {
+        let does = self.fault == fault && possible;
+        self.shown.set(self.shown.get() || does);
+        does
+    }
+
+    fn spoil_played(&self, lent: Lent, events: usize) {
+        let Lent {
+            memory,
+            counts,
+            answers,
+            values,
+        } = lent;
+        if self.does(Answer, events > 300) {
+            answers[300] ^= 1;
+        }
+        if self.does(Value, events > 300) {
+            values[300] ^= 1;
+        }
+        if self.does(Word, memory.len() > 4_000) {
+            memory[4_000] ^= 1;
+        }
+        if self.does(Count, counts[1] > 20) {
+            counts[1] -= 1;
+        }
+        if self.does(AnswerBehind, answers.len() > events) {
+            answers[events] ^= 1;
+        }
+        if self.does(ValueBehind, values.len() > events) {
+            values[events] ^= 1;
+        }
+        if self.does(CountBehind, counts.len() > 2) {
+            counts[2] ^= 1;
+        }
+    }
+}
+
+impl Subject for Broken {
+    fn table_fault(&self, table: &[u8]) -> u32 {
+        let fault = u32::from(replay::table_fault(table));
+        fault + u32::from(self.does(WrongTable, fault == 7))
+    }
+
+    fn trace_fault(&self, table: &[u8], trace: &[u8]) -> u32 {
+        let fault = u32::from(replay::trace_fault(table, trace));
+        fault + u32::from(self.does(WrongTrace, fault == 12))
+    }
+
+    fn event_count(&self, trace: &[u8]) -> u64 {
+        let count = replay::event_count(trace);
+        count + u64::from(self.does(EventCount, count > 1_000))
+    }
+
+    fn memory_length(&self, trace: &[u8]) -> u32 {
+        let length = replay::memory_length(trace);
+        length + u32::from(self.does(MemoryLength, length == 0))
+    }
+
+    fn replay(&self, table: &[u8], trace: &[u8], lent: Lent) -> u32 {
+        let Lent {
+            memory,
+            counts,
+            answers,
+            values,
+        } = lent;
+        let again = Lent {
+            memory: &mut *memory,
+            counts: &mut *counts,
+            answers: &mut *answers,
+            values: &mut *values,
+        };
+        let refused = replay::replay::<true>(table, trace, again).err();
+        if refused.is_none() {
+            let events = replay::event_count(trace) as usize;
+            let lent = Lent {
+                memory,
+                counts,
+                answers,
+                values,
+            };
+            self.spoil_played(lent, events);
+        } else if self.does(WordWhenRefused, !memory.is_empty()) {
+            memory[0] ^= 1;
+        }
+        let answer = u32::from(refused.unwrap_or(0));
+        answer + u32::from(self.does(ReplayAnswer, answer == 10))
+    }
+
+    fn share(&self, loads: u32, forwarded: u32) -> u64 {
+        let share = Counts { loads, forwarded }.share();
+        share + u64::from(self.does(Share, loads == 16))
+    }
+
+    fn text(&self, table: &[u8], trace: &[u8], out: &mut [u8]) -> u64 {
+        if out.len() < TEXT_BYTES {
+            if self.does(ShortText, true) {
+                out[TEXT_BYTES - 2] ^= 1;
+            }
+            return 0;
+        }
+        let text = play(Some(table), Some(trace));
+        out[..text.len()].copy_from_slice(text.as_bytes());
+        if self.does(TextLastByte, text.len() > 500) {
+            out[text.len() - 1] ^= 1;
+        }
+        if self.does(TextBehind, text.len() > 500) {
+            out[TEXT_BYTES - 1] ^= 1;
+        }
+        text.len() as u64 + u64::from(self.does(TextLength, text.len() > 500))
+    }
+}
+
+/// The first difference in some hundred cases, and whether the subject did the
+/// wrong thing in that very case and in none before.
+fn first_difference(fault: Fault) -> Option<(u64, Difference, bool)> {
+    let subject = Broken::new(fault);
+    let mut comparer = Comparer::new(&subject);
+    let mut tally = Tally::default();
+    for seed in 0..400 {
+        let before = subject.shown.get();
+        if let Err(difference) = comparer.case(&Case::new(seed), &mut tally) {
+            return Some((seed, difference, !before && subject.shown.get()));
+        }
+    }
+    None
+}
+
+#[test]
+fn the_reference_does_not_differ_from_itself() {
+    assert_eq!(first_difference(Right), None);
+}
+
+#[test]
+fn every_fault_is_found_where_it_first_shows() {
+    for fault in FAULTS {
+        let found = first_difference(fault);
+        let (seed, difference, at_once) = found.unwrap_or_else(|| panic!("{fault:?} not found"));
+        assert!(at_once, "{fault:?} found late, seed {seed}: {difference:?}");
+    }
+}
+
+#[test]
+fn the_same_seed_shows_it_again() {
+    let (seed, difference, _) = first_difference(Answer).expect("a difference");
+    let subject = Broken::new(Answer);
+    let mut tally = Tally::default();
+    let again = Comparer::new(&subject).case(&Case::new(seed), &mut tally);
+    assert_eq!(again, Err(difference));
+}
+
+#[test]
+fn what_never_occurred_is_told() {
+    let subject = Broken::new(Right);
+    let mut comparer = Comparer::new(&subject);
+    let mut tally = Tally::default();
+    let nothing = tally.missing().len();
+    for seed in 0..64 {
+        assert_eq!(comparer.case(&Case::new(seed), &mut tally), Ok(()));
+    }
+    let some = tally.missing();
+    assert!(!some.is_empty() && some.len() < nothing, "{some:?}");
+}

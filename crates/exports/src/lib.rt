@@ -5,15 +5,19 @@ ghost use Rattle.table.specs.TableBytes.{readTable, tableAnswer};
 ghost use Rattle.queue.specs.Counts.{share};
 ghost use Rattle.queue.specs.Ruled.{number};
 ghost use Rattle.replay.specs.Outcome.{unprepared};
+ghost use Rattle.printed.specs.Outcome.{printed};
+ghost use Rattle.exports.specs.Text.{byteCount};
 ghost use Rattle.exports.specs.Prepared.{prepared, eventCount, memoryLength};
 ghost use Rattle.exports.specs.Replay.{lent, replayLent, answered};
 ghost use Rattle.exports.specs.Internal.{Tells};
+use printed::text::print;
 use queue::Counts;
 use queue::counting::share;
 use replay::Prepared;
 use replay::preparing::prepare;
 use replay::replaying::replay;
 use table::Header;
+use table::Written;
 use table::read::read_table;
 use table::refusal::TOO_SHORT;
 
@@ -120,6 +124,19 @@ pub extern "C" fn lsq_replay(
     counts[0] = after.loads;
     counts[1] = after.forwarded;
     done.answer as u32
+}
+
+// Writes the text that `play` prints of two files with these bytes at the front of a buffer, and answers how many bytes that
+// is. Where the buffer has no room for every text it answers 0, and nothing is written.
+#[no_mangle]
+pub extern "C" fn lsq_text(table: &[u8], trace: &[u8], out: &mut [u8]) -> u64
+    ensures { λ r. ⌜ (r ≡ byteCount (printed (now (table .entry)) (now (trace .entry)) (now (out .entry)) .answer)) × (now (out .exit) ≡ printed (now (table .entry)) (now (trace .entry)) (now (out .entry)) .buffer) ⌝ }
+{
+    let written = print(table, trace, out);
+    match written {
+        Written::Bytes(n) => n as u64,
+        Written::Unwritten(_) => 0,
+    }
 }
 
 // Thousandths of the loads that were forwarded, to the nearest, half going up; 0 for no loads.

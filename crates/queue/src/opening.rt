@@ -1,11 +1,9 @@
 // Opening a queue: 4 to 8 of its table, then 11, 12, 13, 14.
 ghost use mathlib.Core.Path.{_≡_};
-ghost use mathlib.Core.List.{[]};
 ghost use Prim.Native.Nat.{_≤_};
 ghost use Rattle.table.specs.Basics.{all};
 ghost use Rattle.table.specs.Group.{pairsOf};
 ghost use Rattle.table.specs.Table.{groupsOf};
-ghost use Rattle.table.specs.TableBytes.{pack};
 ghost use Rattle.queue.specs.Open.{groupFits, openQueue};
 ghost use Rattle.queue.specs.NoQueue.{freshLoads, freshStores, freshQueue, noQueue};
 ghost use Rattle.queue.specs.Outcome.{Opens};
@@ -22,10 +20,9 @@ use crate::refusal::GROUP_TOO_LARGE;
 use crate::sound::depth_right;
 use crate::sound::memory_right;
 use table::Group;
-use table::Pair;
-use table::Pairs;
 use table::Table;
 use table::check::table_fault;
+use table::read::no_table;
 
 fn no_loads(depth: u8, first: u32) -> Loads
     ensures { λ r. ⌜ r ≡ freshLoads depth first ⌝ }
@@ -64,25 +61,6 @@ fn no_stores(depth: u8, first: u32) -> Stores
         count: 0,
         next: first,
         entries: [blank; 64],
-    }
-}
-
-// The table of no groups.
-fn no_table() -> Table
-    ensures { λ r. ⌜ r ≡ pack [] ⌝ }
-{
-    let pair = Pair { offset: 0, port: 0 };
-    let pairs = Pairs {
-        count: 0,
-        places: [pair; 16],
-    };
-    let group = Group {
-        loads: pairs,
-        stores: pairs,
-    };
-    Table {
-        count: 0,
-        groups: [group; 16],
     }
 }
 

@@ -5,8 +5,8 @@ use mathlib.Core.Bool.{Bool, true, false, not}
 use mathlib.Core.List.{List, [], _∷_, _++_}
 use native.Mathlib.Omega.{arith}
 use lib.Dec.{eqb, leb}
-use lib.ListN.{length, drop, length-append, length-drop}
-use lib.Seq.{drop-at, drop-drop}
+use lib.ListN.{length, drop, length-append}
+use lib.Seq.{drop-at}
 use borrow.Author.Tests.{eq-eqb, ne-eqb}
 use Rattle.table.specs.Basics.{pick, all}
 use Rattle.table.specs.Refusal.{ended}
@@ -20,7 +20,7 @@ use Rattle.table.specs.Event.{readHeader, headerAnswer, readEvent, readKind, ha
 use Rattle.table.specs.TableBytes.{before}
 use Rattle.table.proofs.NumberLaws.{place-drop}
 use Rattle.table.proofs.ReadLaws.{number-refused}
-use Rattle.table.proofs.RoundTripLaws.{only-spelled-numbers}
+use Rattle.table.proofs.RoundTrip.{only-spelled-headers}
 use Rattle.queue.specs.declared.Opened.{Opened}
 use Rattle.queue.specs.Refusal.{badLoadDepth, badStoreDepth, badMemoryLength, groupTooLarge}
 use Rattle.queue.specs.Ruled.{Ruled, refuse, accept, need}
@@ -37,43 +37,16 @@ use Rattle.replay.specs.Replay.{Start, startOf, openTrace, prepare}
 use Rattle.replay.specs.Outcome.{Prepares, unprepared, Prepared-as}
 
 -- ---- the leading numbers: what is left is the last part of the bytes
-record Suffix (s rest : List ℕ) : Type 0 where
-  pub front : ℕ
-  pub is : rest ≡ drop front s
-  pub inside : front ≤ length s
+header-place : (s rest : List ℕ) (h : Header) → readHeader s ≡ got h rest → rest ≡ drop (placeOf s rest) s
+header-place s rest h e =
+    let (bytes, is, spelled) = only-spelled-headers s rest h e in
+    let n : placeOf s rest ≡ length bytes = omega (arith, ap length is, length-append bytes rest) in
+    sym (drop-at bytes rest (length bytes) refl) ∙ cc
 
-number-suffix : (s rest : List ℕ) (n : ℕ) → readNumber s ≡ got n rest → Suffix s rest
-number-suffix s rest n h =
-    let (bytes, is, spelled, value) = only-spelled-numbers s rest n h in
-    record { front = length bytes; is = sym (drop-at bytes rest (length bytes) refl) ∙ ap (drop (length bytes)) (sym is); inside = omega (arith, ap length is, length-append bytes rest) }
-
-suffix-suffix : {s t u : List ℕ} → Suffix s t → Suffix t u → Suffix s u
-suffix-suffix {s} a b = record {
-  front = a .front + b .front;
-  is = b .is ∙ ap (drop (b .front)) (a .is) ∙ drop-drop (b .front) (a .front) s;
-  inside = omega (arith, a .inside, b .inside, ap length (a .is), length-drop (a .front) s);
-}
-
-suffix-place : {s rest : List ℕ} → Suffix s rest → rest ≡ drop (placeOf s rest) s
-suffix-place {s} {rest} w =
-    let m : placeOf s rest ≡ w .front = ap (placeOf s) (w .is) ∙ place-drop s (w .front) (w .inside) in
-    w .is ∙ ap (λ (k : ℕ). drop k s) (sym m)
-
--- reading a number and going on
-numbers-suffix : {A : Type 0} (s : List ℕ) (k : ℕ → List ℕ → Got A) {a : A} {rest : List ℕ} → ((n : ℕ) (t : List ℕ) → k n t ≡ got a rest → Suffix t rest) → andThen (readNumber s) k ≡ got a rest → Suffix s rest
-numbers-suffix {A} s k {a} {rest} then h = go (readNumber s) refl h
-  where
-    go : (g : Got ℕ) → readNumber s ≡ g → andThen g k ≡ got a rest → Suffix s rest
-    go (bad n) d f = let z : _≡_ {A = ℕ} 0 1 = cc in absurd (omega arith)
-    go (got n t) d f = suffix-suffix (number-suffix s t n d) (then n t f)
-
-header-suffix : (s rest : List ℕ) (h : Header) → readHeader s ≡ got h rest → Suffix s rest
-unfolding readHeader
-header-suffix s rest h e = numbers-suffix s _ (λ n₁ s₁. numbers-suffix s₁ _ (λ n₂ s₂. numbers-suffix s₂ _ (λ n₃ s₃. numbers-suffix s₃ _ (λ n₄ s₄ f. let y : s₄ ≡ rest = cc in record { front = 0; is = sym y; inside = omega arith })))) e
-
--- what follows the leading numbers is no longer than the bytes
 pub header-shorter : (s rest : List ℕ) (h : Header) → readHeader s ≡ got h rest → length rest ≤ length s
-header-shorter s rest h e = let w = header-suffix s rest h e in omega (arith, ap length (w .is), length-drop (w .front) s)
+header-shorter s rest h e =
+    let (bytes, is, spelled) = only-spelled-headers s rest h e in
+    omega (arith, ap length is, length-append bytes rest)
 
 pub header-got : (s : List ℕ) {h : Header} {place : ℕ} → headerAnswer s (readHeader s) ≡ Leading h place → readHeader s ≡ got h (drop place s)
 header-got s {h} {place} e = go (readHeader s) refl e
@@ -81,7 +54,7 @@ header-got s {h} {place} e = go (readHeader s) refl e
     go : (g : Got Header) → readHeader s ≡ g → headerAnswer s g ≡ Leading h place → g ≡ got h (drop place s)
     go (bad n) d f = let z : _≡_ {A = ℕ} 0 1 = cc in absurd (omega arith)
     go (got h₂ rest) d f =
-        let w : rest ≡ drop (placeOf s rest) s = suffix-place (header-suffix s rest h₂ d) in
+        let w : rest ≡ drop (placeOf s rest) s = header-place s rest h₂ d in
         let x : h₂ ≡ h = cc in
         let y : placeOf s rest ≡ place = cc in
         cc

@@ -21,7 +21,7 @@ use Rattle.table.specs.Group.{GroupPairs, pairsOf, beforeStore}
 use Rattle.table.specs.Table.{blankGroup, loadRule, storeRule, pairFault, pairsFault, countsRight, Seen, noneSeen, seenAfter, groupFault, groupsFault, tableFault}
 use Rattle.table.specs.TableBytes.{unless, pair, before, readPairs, readGroup, readGroups, readTable, pairNumbers, groupNumbers, tableNumbers, tableBytes, packGroup, emptyGroup}
 use Rattle.table.specs.Event.{eventNumbers, hasSecond, eventOf, readKind, readEvent, eventAnswer, eventAt, eventBytes, eventsBytes, headerNumbers, headerBytes, headerAnswer, readHeader}
-use Rattle.table.specs.RoundTrip.{Spelled, nothing, next, Fit, none, one, TablesAreSpelled, OnlyRightTables, TablesReadBack, RecordsHoldGroups, EventsAreSpelled, OnlySpelledEvents, Yields, ends, yields, AllFit, no-more, and-more, TracesReadBack}
+use Rattle.table.specs.RoundTrip.{Spelled, nothing, next, Fit, none, one, TablesAreSpelled, OnlyRightTables, TablesReadBack, RecordsHoldGroups, EventsAreSpelled, OnlySpelledEvents, Yields, ends, yields, HeadersAreSpelled, OnlySpelledHeaders, AllFit, no-more, and-more, TracesReadBack}
 use Rattle.table.proofs.CheckLaws.{and-left, and-right, fault-none, counts-few, count-most, held-few}
 use Rattle.table.proofs.SpliceLaws.{bytes-some}
 use Rattle.table.proofs.TraceLaws.{event-at-end, event-at-inside}
@@ -523,9 +523,9 @@ yields-from prefix (ev ∷ es) (and-more f w) s e =
         let d : drop (length prefix) s ≡ eventBytes ev ++ eventsBytes es = rw e (drop-append-seam prefix (eventBytes ev ++ eventsBytes es)) in
         event-at-inside s (length prefix) (rw (e, length-append, length-append) (omega (arith, some-bytes))) ∙ rw (d, r, rest-place)
 
-header-read : (h : Header) (bytes rest : List ℕ) → Spelled bytes (headerNumbers h) → readHeader (bytes ++ rest) ≡ got h rest
+pub headers-are-spelled : HeadersAreSpelled
 unfolding readHeader
-header-read h bytes rest w = first (take-before rest w)
+headers-are-spelled h bytes rest w = first (take-before rest w)
   where
     whole : (a b c d : List ℕ) → readNumber (bytes ++ rest) ≡ got (h .loads) (a ++ rest) → readNumber (a ++ rest) ≡ got (h .stores) (b ++ rest) → readNumber (b ++ rest) ≡ got (h .serial) (c ++ rest) → readNumber (c ++ rest) ≡ got (h .words) (d ++ rest) → d ≡ [] → readHeader (bytes ++ rest) ≡ got h rest
     whole a b c d p q r t z = rw (p, q, r, t, z)
@@ -542,8 +542,27 @@ header-read h bytes rest w = first (take-before rest w)
     first : TakenBefore bytes rest (h .loads) (h .stores ∷ h .serial ∷ h .words ∷ []) → readHeader (bytes ++ rest) ≡ got h rest
     first t = second (t .left) (t .is) (take-before rest (t .others))
 
+-- a number was read, and what follows was read too
+then-read : {A : Type 0} (s : List ℕ) (k : ℕ → List ℕ → Got A) {a : A} {rest : List ℕ} → andThen (readNumber s) k ≡ got a rest → (n : ℕ) × (t : List ℕ) × (readNumber s ≡ got n t) × (k n t ≡ got a rest)
+then-read {A} s k {a} {rest} e = go (readNumber s) refl e
+  where
+    go : (g : Got ℕ) → readNumber s ≡ g → andThen g k ≡ got a rest → (n : ℕ) × (t : List ℕ) × (readNumber s ≡ got n t) × (k n t ≡ got a rest)
+    go (bad n) d f = let z : _≡_ {A = ℕ} 0 1 = cc in absurd (omega arith)
+    go (got n t) d f = (n, t, d, f)
+
+pub only-spelled-headers : OnlySpelledHeaders
+unfolding readHeader
+only-spelled-headers s rest h e =
+    let (a, s₁, d₁, e₁) = then-read s _ e in
+    let (b, s₂, d₂, e₂) = then-read s₁ _ e₁ in
+    let (c, s₃, d₃, e₃) = then-read s₂ _ e₂ in
+    let (d, s₄, d₄, e₄) = then-read s₃ _ e₃ in
+    let x : record { loads = a; stores = b; serial = c; words = d } ≡ h = cc in
+    let y : s₄ ≡ rest = cc in
+    rw (← x) (cons-before s s₁ rest a (b ∷ c ∷ d ∷ []) d₁ (cons-before s₁ s₂ rest b (c ∷ d ∷ []) d₂ (cons-before s₂ s₃ rest c (d ∷ []) d₃ (cons-before s₃ s₄ rest d [] d₄ ([], y, nothing)))))
+
 pub traces-read-back : TracesReadBack
-traces-read-back h es f w = (length (headerBytes h), header (headerBytes h) (eventsBytes es) (header-read h (headerBytes h) (eventsBytes es) (written f)), yields-from (headerBytes h) es w (headerBytes h ++ eventsBytes es) refl)
+traces-read-back h es f w = (length (headerBytes h), header (headerBytes h) (eventsBytes es) (headers-are-spelled h (headerBytes h) (eventsBytes es) (written f)), yields-from (headerBytes h) es w (headerBytes h ++ eventsBytes es) refl)
   where
     header : (bytes rest : List ℕ) → readHeader (bytes ++ rest) ≡ got h rest → headerAnswer (bytes ++ rest) (readHeader (bytes ++ rest)) ≡ Leading h (length bytes)
     header bytes rest e =

@@ -68,6 +68,13 @@ EventsAreSpelled = (e : Event) (bytes rest : List ℕ) → Spelled bytes (eventN
 abbrev pub OnlySpelledEvents : Type 0
 OnlySpelledEvents = (s rest : List ℕ) (e : Event) → readEvent s ≡ got e rest → (bytes : List ℕ) × (s ≡ bytes ++ rest) × Spelled bytes (eventNumbers e)
 
+-- The same of the four leading numbers of a trace.
+abbrev pub HeadersAreSpelled : Type 0
+HeadersAreSpelled = (h : Header) (bytes rest : List ℕ) → Spelled bytes (headerNumbers h) → readHeader (bytes ++ rest) ≡ got h rest
+
+abbrev pub OnlySpelledHeaders : Type 0
+OnlySpelledHeaders = (s rest : List ℕ) (h : Header) → readHeader s ≡ got h rest → (bytes : List ℕ) × (s ≡ bytes ++ rest) × Spelled bytes (headerNumbers h)
+
 -- the events that reading yields from a place on, and then the end
 pub data Yields (s : List ℕ) : ℕ → List Event → Type 0 where
   ends : {place : ℕ} → eventAt s place ≡ End → Yields s place []

@@ -1,16 +1,80 @@
-// Cases of the crate `queue`, a line for each: what document 01 gives, with the refusals next to legal neighbours.
-mod activation;
-mod counts;
-mod k1;
+// Cases of the crate `queue`, as a script on standard input: a command to a line, echoed with what came back. The script's own
+// first lines say what each command does.
+
+mod calls;
+mod command;
+mod each;
+mod ready;
+mod records;
 mod run;
+mod same;
+mod script;
 mod show;
-mod tables;
+
+use crate::command::Command;
+use crate::run::Run;
+use crate::script::Arguments;
+use libc::STDIN_FILENO;
+
+// Is it a heading or an empty line?
+fn is_text(line: &[u8]) -> bool {
+    if line.len() == 0 {
+        return true;
+    }
+    line[0] == b'#'
+}
+
+// What the command's numbers do, once there are as many as it takes.
+fn obey(run: Run, command: Command, arguments: Arguments) -> Run {
+    if !command::takes(command, arguments) {
+        show::words(b" ?");
+        return run;
+    }
+    if command::is_call(command) {
+        return calls::call(run, command, arguments);
+    }
+    if command::is_setting(command) {
+        return records::set(run, command, arguments);
+    }
+    run::other(run, command, arguments)
+}
+
+// A line with a command.
+fn command_line(run: Run, line: &[u8]) -> Run {
+    let end = script::next_byte(line, 0, b' ');
+    let word = &line[..end];
+    let command = command::named(word);
+    if command::is_table(command) {
+        return run::read_table(run, script::bytes_of(line, end));
+    }
+    obey(run, command, script::numbers_of(line, end))
+}
+
+fn one_line(run: Run, line: &[u8]) -> Run {
+    show::words(line);
+    if is_text(line) {
+        return run;
+    }
+    command_line(run, line)
+}
+
+// Every line of the script, in turn.
+fn follow(text: &[u8]) {
+    let mut run = run::fresh();
+    let mut at: usize = 0;
+    while at < text.len() {
+        let end = script::next_byte(text, at, b'\n');
+        run = one_line(run, &text[at..end]);
+        show::words(b"\n");
+        if end == text.len() {
+            return;
+        }
+        at = end + 1;
+    }
+}
 
 fn main() {
-    show::words(b"# K1 whole, K8, K9\n");
-    k1::all();
-    show::words(b"# activation\n");
-    activation::all();
-    show::words(b"# the counts and the share\n");
-    counts::all();
+    let mut text = io::large_buffer();
+    let count = io::read_full(STDIN_FILENO, &mut text);
+    follow(&text[..count]);
 }

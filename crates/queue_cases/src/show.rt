@@ -1,33 +1,113 @@
-// Printing: words, numbers, and what a call hands back.
+// Printing: words, numbers, what a call hands back, and what a queue holds.
 use libc::STDOUT_FILENO;
+use queue::LoadEntry;
+use queue::Loads;
+use queue::StoreEntry;
+use queue::Stores;
 use queue::Value;
 
-pub fn words(text: &[u8]) {
+pub(crate) fn words(text: &[u8]) {
     io::write_all(STDOUT_FILENO, text);
 }
 
 // Words and a number.
-pub fn number(text: &[u8], value: u64) {
+pub(crate) fn number(text: &[u8], value: u64) {
     io::write_all(STDOUT_FILENO, text);
     io::print_decimal(STDOUT_FILENO, value);
 }
 
-// Words and a word of memory.
-pub fn word(text: &[u8], value: u32) {
-    number(text, value as u64);
-}
-
-// Words and a byte.
-pub fn byte(text: &[u8], value: u8) {
-    number(text, value as u64);
-}
-
-// The end of a line: an answer, and the value or "-".
-pub fn answer(number_of: u8, value: Value) {
-    number(b": ", number_of as u64);
+// An answer, and the value or "-".
+pub(crate) fn answer(refusal: u8, value: Value) {
+    number(b": ", refusal as u64);
     match value {
         Value::Word(word) => number(b" ", word as u64),
         Value::Nothing => words(b" -"),
     }
-    words(b"\n");
+}
+
+// Words, and whether what they name came back as it was handed in.
+pub(crate) fn same(text: &[u8], is_same: bool) {
+    words(text);
+    if is_same {
+        words(b" same");
+        return;
+    }
+    words(b" moved");
+}
+
+// A word of memory that is there or not.
+fn optional(text: &[u8], there: bool, value: u32) {
+    words(text);
+    if there {
+        number(b" ", value as u64);
+        return;
+    }
+    words(b" -");
+}
+
+fn load(serial: u32, entry: LoadEntry) {
+    number(b"\n  load ", serial as u64);
+    number(b" port ", entry.port as u64);
+    number(b" before ", entry.before as u64);
+    optional(b" address", entry.addressed, entry.address as u32);
+    optional(b" value", entry.served, entry.value);
+    if entry.taken {
+        words(b" taken");
+    }
+}
+
+fn store(serial: u32, entry: StoreEntry) {
+    number(b"\n  store ", serial as u64);
+    number(b" port ", entry.port as u64);
+    number(b" before ", entry.before as u64);
+    optional(b" address", entry.addressed, entry.address as u32);
+    optional(b" data", entry.filled, entry.word);
+    if entry.written {
+        words(b" written");
+    }
+}
+
+// The loads held, from the oldest. A record made by hand may say that it holds more than there are places.
+pub(crate) fn loads(side: Loads) {
+    number(b"\n  loads ", side.count as u64);
+    number(b" of ", side.depth as u64);
+    number(b" next ", side.next as u64);
+    let mut i: u8 = 0;
+    while i < 64 {
+        if i < side.count {
+            let entry = side.entries[i as usize];
+            let age = (side.count - i) as u32;
+            load(std::num::wrapping_sub_u32(side.next, age), entry);
+        }
+        i += 1;
+    }
+}
+
+// The stores, likewise.
+pub(crate) fn stores(side: Stores) {
+    number(b"\n  stores ", side.count as u64);
+    number(b" of ", side.depth as u64);
+    number(b" next ", side.next as u64);
+    let mut i: u8 = 0;
+    while i < 64 {
+        if i < side.count {
+            let entry = side.entries[i as usize];
+            let age = (side.count - i) as u32;
+            store(std::num::wrapping_sub_u32(side.next, age), entry);
+        }
+        i += 1;
+    }
+}
+
+// Numbers, each with a space before it.
+pub(crate) fn numbers(values: &[u32]) {
+    let mut i: usize = 0;
+    while i < values.len() {
+        number(b" ", wide(values[i]));
+        i += 1;
+    }
+}
+
+fn wide(value: u32) -> u64 {
+    value as u64
 }

@@ -1,10 +1,8 @@
 // The calls on the queue: each prints its answer and its value, and whether what was handed in or lent came back as it was.
-use crate::command::Command;
-use crate::each;
+use crate::command;
 use crate::ready;
 use crate::run::Run;
 use crate::same;
-use crate::script::Arguments;
 use crate::show;
 use queue::Counted;
 use queue::Counts;
@@ -12,12 +10,12 @@ use queue::Outcome;
 use queue::Queue;
 
 // A call that is lent nothing.
-pub(crate) fn plain_outcome(queue: Queue, command: Command, first: u32, second: u32) -> Outcome {
+fn plain_outcome(queue: Queue, command: usize, first: u32, second: u32) -> Outcome {
     match command {
-        Command::Activate => queue.activate(first),
-        Command::LoadAddress => queue.load_address(first, second),
-        Command::StoreAddress => queue.store_address(first, second),
-        Command::StoreData => queue.store_data(first, second),
+        command::ACTIVATE => queue.activate(first),
+        command::LOAD_ADDRESS => queue.load_address(first, second),
+        command::STORE_ADDRESS => queue.store_address(first, second),
+        command::STORE_DATA => queue.store_data(first, second),
         _ => queue.take(first),
     }
 }
@@ -31,7 +29,7 @@ fn settled(before: Queue, outcome: Outcome) -> Queue {
     next
 }
 
-fn plain(mut run: Run, command: Command, first: u32, second: u32) -> Run {
+fn plain(mut run: Run, command: usize, first: u32, second: u32) -> Run {
     let queue = run.queue;
     let outcome = plain_outcome(queue, command, first, second);
     let next = settled(queue, outcome);
@@ -40,13 +38,7 @@ fn plain(mut run: Run, command: Command, first: u32, second: u32) -> Run {
 }
 
 // Serves in the first `length` words.
-pub(crate) fn served(
-    queue: Queue,
-    memory: &[u32],
-    length: usize,
-    counts: Counts,
-    serial: u32,
-) -> Counted {
+fn served(queue: Queue, memory: &[u32], length: usize, counts: Counts, serial: u32) -> Counted {
     if length < memory.len() {
         return queue.serve_counted(&memory[..length], counts, serial);
     }
@@ -61,19 +53,16 @@ fn serve(mut run: Run, serial: u32) -> Run {
     let value = counted.value;
     let next = counted.queue;
     let counts = counted.counts;
-    let outcome = Outcome {
-        answer: counted.answer,
-        value,
-        queue: next,
-    };
-    run.queue = settled(queue, outcome);
+    show::answer(counted.answer, value);
+    show::same(b"", same::same_queue(queue, next));
     show::same(b" counts", same::same_counts(held, counts));
+    run.queue = next;
     run.counts = counts;
     run
 }
 
 // Writes in the first `length` words.
-pub(crate) fn written(queue: Queue, memory: &mut [u32], length: usize, serial: u32) -> Outcome {
+fn written(queue: Queue, memory: &mut [u32], length: usize, serial: u32) -> Outcome {
     if length < memory.len() {
         return queue.write(&mut memory[..length], serial);
     }
@@ -92,14 +81,22 @@ fn write(mut run: Run, serial: u32) -> Run {
     run
 }
 
-pub(crate) fn call(run: Run, command: Command, arguments: Arguments) -> Run {
-    let numbers = arguments.values;
+pub(crate) fn call(run: Run, command: usize, first: u32, second: u32) -> Run {
     match command {
-        Command::Serve => serve(run, numbers[0]),
-        Command::Write => write(run, numbers[0]),
-        Command::ReadyLoads => ready::loads(run, numbers[0]),
-        Command::ReadyStores => ready::stores(run, numbers[0]),
-        Command::Each => each::each(run),
-        _ => plain(run, command, numbers[0], numbers[1]),
+        command::SERVE => serve(run, first),
+        command::WRITE => write(run, first),
+        command::READY_LOADS => ready::ready(run, true, first),
+        command::READY_STORES => ready::ready(run, false, first),
+        _ => plain(run, command, first, second),
     }
+}
+
+// The nine calls, with 0 for every number, each on the record as it stands; the record stays as it is.
+pub(crate) fn each(run: Run) -> Run {
+    let mut command: usize = 0;
+    while command < command::EACH {
+        call(run, command, 0, 0);
+        command += 1;
+    }
+    run
 }

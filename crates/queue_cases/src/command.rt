@@ -1,41 +1,220 @@
-// The commands, by their names.
+// The commands: their names, how many numbers each takes, and how large these may be.
+ghost use Prim.Native.Nat.{_<_, _≤_};
+use crate::script;
 use crate::script::Arguments;
 
-pub enum Command {
-    Unknown,
-    Table,
-    Open,
-    Memory,
-    Counts,
-    Share,
-    Count,
-    Show,
-    Sound,
-    Each,
-    Activate,
-    LoadAddress,
-    StoreAddress,
-    StoreData,
-    Serve,
-    Write,
-    Take,
-    ReadyLoads,
-    ReadyStores,
-    LoadDepth,
-    StoreDepth,
-    LoadCount,
-    StoreCount,
-    LoadNext,
-    StoreNext,
-    Words,
-    Load,
-    Store,
-    Groups,
-    Group,
-    LoadPair,
-    StorePair,
-    PutTable,
-}
+// The names, in the order of the numbers below.
+const NAMES: [u8; 321] =
+    *b"activate load-address store-address store-data take serve write ready-loads ready-stores \
+each open memory counts count share show sound set-load-depth set-load-count set-load-next set-store-depth \
+set-store-count set-store-next set-words set-load set-store set-groups set-group set-load-pair set-store-pair put-table table";
+
+pub(crate) const ACTIVATE: usize = 0;
+
+pub(crate) const LOAD_ADDRESS: usize = 1;
+
+pub(crate) const STORE_ADDRESS: usize = 2;
+
+pub(crate) const STORE_DATA: usize = 3;
+
+pub(crate) const SERVE: usize = 5;
+
+pub(crate) const WRITE: usize = 6;
+
+pub(crate) const READY_LOADS: usize = 7;
+
+pub(crate) const READY_STORES: usize = 8;
+
+pub(crate) const EACH: usize = 9;
+
+pub(crate) const OPEN: usize = 10;
+
+pub(crate) const MEMORY: usize = 11;
+
+pub(crate) const COUNTS: usize = 12;
+
+pub(crate) const COUNT: usize = 13;
+
+pub(crate) const SHARE: usize = 14;
+
+pub(crate) const SHOW: usize = 15;
+
+// The first of the commands that set a part of a record.
+pub(crate) const SET_LOAD_DEPTH: usize = 17;
+
+pub(crate) const SET_STORE_DEPTH: usize = 20;
+
+pub(crate) const SET_WORDS: usize = 23;
+
+pub(crate) const SET_LOAD: usize = 24;
+
+pub(crate) const SET_STORE: usize = 25;
+
+pub(crate) const SET_GROUPS: usize = 26;
+
+pub(crate) const SET_GROUP: usize = 27;
+
+pub(crate) const SET_LOAD_PAIR: usize = 28;
+
+pub(crate) const SET_STORE_PAIR: usize = 29;
+
+pub(crate) const PUT_TABLE: usize = 30;
+
+pub(crate) const TABLE: usize = 31;
+
+// How many numbers each takes; of `memory`, at most how many.
+const NUMBERS: [usize; 32] = [
+    1,
+    2,
+    2,
+    2,
+    1,
+    1,
+    1,
+    1,
+    1,
+    0,
+    4,
+    8,
+    2,
+    1,
+    0,
+    0,
+    0,
+    1,
+    1,
+    1,
+    1,
+    1,
+    1,
+    1,
+    8,
+    8,
+    1,
+    3,
+    4,
+    4,
+    0,
+    0,
+];
+
+const ANY: u32 = 4294967295;
+
+// The largest numbers that the fields hold which the commands from `set-load-depth` on set: eight numbers for each.
+const MOST: [u32; 112] = [
+    255,
+    0,
+    0,
+    0,
+    0,
+    0,
+    0,
+    0,
+    255,
+    0,
+    0,
+    0,
+    0,
+    0,
+    0,
+    0,
+    ANY,
+    0,
+    0,
+    0,
+    0,
+    0,
+    0,
+    0,
+    255,
+    0,
+    0,
+    0,
+    0,
+    0,
+    0,
+    0,
+    255,
+    0,
+    0,
+    0,
+    0,
+    0,
+    0,
+    0,
+    ANY,
+    0,
+    0,
+    0,
+    0,
+    0,
+    0,
+    0,
+    65535,
+    0,
+    0,
+    0,
+    0,
+    0,
+    0,
+    0,
+    63,
+    255,
+    255,
+    1,
+    65535,
+    1,
+    ANY,
+    1,
+    63,
+    255,
+    255,
+    1,
+    65535,
+    1,
+    ANY,
+    1,
+    255,
+    0,
+    0,
+    0,
+    0,
+    0,
+    0,
+    0,
+    15,
+    255,
+    255,
+    0,
+    0,
+    0,
+    0,
+    0,
+    15,
+    15,
+    255,
+    255,
+    0,
+    0,
+    0,
+    0,
+    15,
+    15,
+    255,
+    255,
+    0,
+    0,
+    0,
+    0,
+    0,
+    0,
+    0,
+    0,
+    0,
+    0,
+    0,
+    0,
+];
 
 fn is(word: &[u8], name: &[u8]) -> bool {
     if word.len() != name.len() {
@@ -51,209 +230,62 @@ fn is(word: &[u8], name: &[u8]) -> bool {
     true
 }
 
-fn named_table(word: &[u8]) -> Command {
-    if is(word, b"set-groups") {
-        return Command::Groups;
+// The place of a word among names with a space between; their number where it is none of them.
+fn place(names: &[u8], word: &[u8]) -> usize {
+    let mut at: usize = 0;
+    let mut number: usize = 0;
+    while at < names.len() {
+        let end = script::next_byte(names, at, b' ');
+        if is(word, &names[at..end]) {
+            return number;
+        }
+        if end == names.len() {
+            return 32;
+        }
+        number += 1;
+        at = end + 1;
     }
-    if is(word, b"set-group") {
-        return Command::Group;
-    }
-    if is(word, b"set-load-pair") {
-        return Command::LoadPair;
-    }
-    if is(word, b"set-store-pair") {
-        return Command::StorePair;
-    }
-    if is(word, b"put-table") {
-        return Command::PutTable;
-    }
-    Command::Unknown
+    32
 }
 
-fn named_entry(word: &[u8]) -> Command {
-    if is(word, b"set-load") {
-        return Command::Load;
-    }
-    if is(word, b"set-store") {
-        return Command::Store;
-    }
-    if is(word, b"set-words") {
-        return Command::Words;
-    }
-    named_table(word)
+// The command of that name, or 32.
+pub(crate) fn named(word: &[u8]) -> usize {
+    place(&NAMES, word)
 }
 
-fn named_side(word: &[u8]) -> Command {
-    if is(word, b"set-load-depth") {
-        return Command::LoadDepth;
+// Do the numbers fit the fields that the command sets?
+fn fits(setting: usize, arguments: Arguments) -> bool
+    requires { ⌜ setting < 14 ⌝ }
+{
+    let mut i: usize = 0;
+    while i < 8 {
+        if MOST[setting * 8 + i] < arguments.values[i] {
+            return false;
+        }
+        i += 1;
     }
-    if is(word, b"set-store-depth") {
-        return Command::StoreDepth;
-    }
-    if is(word, b"set-load-count") {
-        return Command::LoadCount;
-    }
-    if is(word, b"set-store-count") {
-        return Command::StoreCount;
-    }
-    if is(word, b"set-load-next") {
-        return Command::LoadNext;
-    }
-    if is(word, b"set-store-next") {
-        return Command::StoreNext;
-    }
-    named_entry(word)
+    true
 }
 
-fn named_other(word: &[u8]) -> Command {
-    if is(word, b"table") {
-        return Command::Table;
-    }
-    if is(word, b"open") {
-        return Command::Open;
-    }
-    if is(word, b"memory") {
-        return Command::Memory;
-    }
-    if is(word, b"counts") {
-        return Command::Counts;
-    }
-    if is(word, b"share") {
-        return Command::Share;
-    }
-    if is(word, b"count") {
-        return Command::Count;
-    }
-    if is(word, b"show") {
-        return Command::Show;
-    }
-    named_side(word)
-}
-
-fn named_lent(word: &[u8]) -> Command {
-    if is(word, b"serve") {
-        return Command::Serve;
-    }
-    if is(word, b"write") {
-        return Command::Write;
-    }
-    if is(word, b"ready-loads") {
-        return Command::ReadyLoads;
-    }
-    if is(word, b"ready-stores") {
-        return Command::ReadyStores;
-    }
-    if is(word, b"sound") {
-        return Command::Sound;
-    }
-    if is(word, b"each") {
-        return Command::Each;
-    }
-    named_other(word)
-}
-
-// The command of that name.
-pub(crate) fn named(word: &[u8]) -> Command {
-    if is(word, b"activate") {
-        return Command::Activate;
-    }
-    if is(word, b"load-address") {
-        return Command::LoadAddress;
-    }
-    if is(word, b"store-address") {
-        return Command::StoreAddress;
-    }
-    if is(word, b"store-data") {
-        return Command::StoreData;
-    }
-    if is(word, b"take") {
-        return Command::Take;
-    }
-    named_lent(word)
-}
-
-pub(crate) fn is_table(command: Command) -> bool {
-    match command {
-        Command::Table => true,
-        _ => false,
-    }
-}
-
-fn is_memory(command: Command) -> bool {
-    match command {
-        Command::Memory => true,
-        _ => false,
-    }
-}
-
-// Is it a call on the queue?
-pub(crate) fn is_call(command: Command) -> bool {
-    match command {
-        Command::Activate => true,
-        Command::LoadAddress => true,
-        Command::StoreAddress => true,
-        Command::StoreData => true,
-        Command::Serve => true,
-        Command::Write => true,
-        Command::Take => true,
-        Command::ReadyLoads => true,
-        Command::ReadyStores => true,
-        Command::Each => true,
-        _ => false,
-    }
-}
-
-// Does it set a part of the record?
-pub(crate) fn is_setting(command: Command) -> bool {
-    match command {
-        Command::LoadDepth => true,
-        Command::StoreDepth => true,
-        Command::LoadCount => true,
-        Command::StoreCount => true,
-        Command::LoadNext => true,
-        Command::StoreNext => true,
-        Command::Words => true,
-        Command::Load => true,
-        Command::Store => true,
-        Command::Groups => true,
-        Command::Group => true,
-        Command::LoadPair => true,
-        Command::StorePair => true,
-        Command::PutTable => true,
-        _ => false,
-    }
-}
-
-// How many numbers it takes; 1 where nothing else is said, and more than there can be for what is no command.
-fn numbers(command: Command) -> usize {
-    match command {
-        Command::Share => 0,
-        Command::Show => 0,
-        Command::Sound => 0,
-        Command::Each => 0,
-        Command::PutTable => 0,
-        Command::Counts => 2,
-        Command::LoadAddress => 2,
-        Command::StoreAddress => 2,
-        Command::StoreData => 2,
-        Command::Group => 3,
-        Command::Open => 4,
-        Command::LoadPair => 4,
-        Command::StorePair => 4,
-        Command::Load => 8,
-        Command::Store => 8,
-        Command::Unknown => 17,
-        _ => 1,
-    }
-}
-
-// Does it take these numbers?
-pub(crate) fn takes(command: Command, arguments: Arguments) -> bool {
+// Does the command take these numbers?
+pub(crate) fn takes(command: usize, arguments: Arguments) -> bool {
     if !arguments.right {
         return false;
     }
-    if is_memory(command) {
-        return arguments.count <= 8;
+    if 32 <= command {
+        return false;
     }
-    arguments.count == numbers(command)
+    if command == MEMORY {
+        return arguments.count <= NUMBERS[MEMORY];
+    }
+    if arguments.count != NUMBERS[command] {
+        return false;
+    }
+    if command < SET_LOAD_DEPTH {
+        return true;
+    }
+    if TABLE <= command {
+        return true;
+    }
+    fits(command - SET_LOAD_DEPTH, arguments)
 }

@@ -3,7 +3,6 @@
 
 mod calls;
 mod command;
-mod each;
 mod ready;
 mod records;
 mod run;
@@ -11,7 +10,6 @@ mod same;
 mod script;
 mod show;
 
-use crate::command::Command;
 use crate::run::Run;
 use crate::script::Arguments;
 use libc::STDIN_FILENO;
@@ -24,19 +22,23 @@ fn is_text(line: &[u8]) -> bool {
     line[0] == b'#'
 }
 
-// What the command's numbers do, once there are as many as it takes.
-fn obey(run: Run, command: Command, arguments: Arguments) -> Run {
+// What the command does, once its numbers are as many as it takes.
+fn obey(run: Run, command: usize, arguments: Arguments) -> Run {
     if !command::takes(command, arguments) {
         show::words(b" ?");
         return run;
     }
-    if command::is_call(command) {
-        return calls::call(run, command, arguments);
+    let numbers = arguments.values;
+    if command < command::EACH {
+        return calls::call(run, command, numbers[0], numbers[1]);
     }
-    if command::is_setting(command) {
-        return records::set(run, command, arguments);
+    if command == command::EACH {
+        return calls::each(run);
     }
-    run::other(run, command, arguments)
+    if command < command::SET_LOAD_DEPTH {
+        return run::other(run, command, arguments);
+    }
+    records::set(run, command, numbers)
 }
 
 // A line with a command.
@@ -44,7 +46,7 @@ fn command_line(run: Run, line: &[u8]) -> Run {
     let end = script::next_byte(line, 0, b' ');
     let word = &line[..end];
     let command = command::named(word);
-    if command::is_table(command) {
+    if command == command::TABLE {
         return run::read_table(run, script::bytes_of(line, end));
     }
     obey(run, command, script::numbers_of(line, end))

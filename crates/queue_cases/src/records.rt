@@ -1,9 +1,7 @@
-// Records made by hand: each command sets a part of the queue's record, or of the table to open with. A number that its field
-// cannot hold prints "?" and sets nothing.
-use crate::command::Command;
+// Records made by hand: each command sets a part of the queue's record, or of the table to open with. That the numbers fit the
+// fields is tested before (`command::takes`), so no remainder below changes a number.
+use crate::command;
 use crate::run::Run;
-use crate::script::Arguments;
-use crate::show;
 use queue::LoadEntry;
 use queue::Loads;
 use queue::Queue;
@@ -18,123 +16,62 @@ fn byte(value: u32) -> u8 {
     (value % 256) as u8
 }
 
-fn loads(mut side: Loads, command: Command, value: u32) -> Loads {
-    match command {
-        Command::LoadDepth => {
+// Field 0 is the depth, 1 the count, 2 the next serial.
+fn with_load_field(mut side: Loads, field: usize, value: u32) -> Loads {
+    match field {
+        0 => {
             side.depth = byte(value);
             side
         }
-        Command::LoadCount => {
+        1 => {
             side.count = byte(value);
             side
         }
-        Command::LoadNext => {
+        _ => {
             side.next = value;
             side
         }
-        _ => side,
     }
 }
 
-fn stores(mut side: Stores, command: Command, value: u32) -> Stores {
-    match command {
-        Command::StoreDepth => {
+fn with_store_field(mut side: Stores, field: usize, value: u32) -> Stores {
+    match field {
+        0 => {
             side.depth = byte(value);
             side
         }
-        Command::StoreCount => {
+        1 => {
             side.count = byte(value);
             side
         }
-        Command::StoreNext => {
+        _ => {
             side.next = value;
             side
         }
-        _ => side,
     }
 }
 
 // A depth, a count, a next serial or the memory length.
-fn number(mut queue: Queue, command: Command, value: u32) -> Queue {
-    match command {
-        Command::Words => {
-            queue.words = (value % 65536) as u16;
-            queue
-        }
-        _ => {
-            let held_loads = queue.loads;
-            let held_stores = queue.stores;
-            queue.loads = loads(held_loads, command, value);
-            queue.stores = stores(held_stores, command, value);
-            queue
-        }
+fn with_number(mut queue: Queue, command: usize, value: u32) -> Queue {
+    if command == command::SET_WORDS {
+        queue.words = (value % 65536) as u16;
+        return queue;
     }
+    if command < command::SET_STORE_DEPTH {
+        let side = queue.loads;
+        queue.loads = with_load_field(side, command % 17, value);
+        return queue;
+    }
+    let side = queue.stores;
+    queue.stores = with_store_field(side, command % 20, value);
+    queue
 }
 
-// Do the numbers of an entry fit its fields? Place, port, remembered number, addressed, address, then two flags around a word.
-fn entry_fits(numbers: [u32; 16]) -> bool {
-    if 63 < numbers[0] {
-        return false;
-    }
-    if 255 < numbers[1] {
-        return false;
-    }
-    if 255 < numbers[2] {
-        return false;
-    }
-    if 1 < numbers[3] {
-        return false;
-    }
-    if 65535 < numbers[4] {
-        return false;
-    }
-    if 1 < numbers[5] {
-        return false;
-    }
-    numbers[7] <= 1
-}
-
-// Are the first four numbers bytes, and the first two below 16?
-fn pair_fits(numbers: [u32; 16]) -> bool {
-    if 15 < numbers[0] {
-        return false;
-    }
-    if 15 < numbers[1] {
-        return false;
-    }
-    if 255 < numbers[2] {
-        return false;
-    }
-    numbers[3] <= 255
-}
-
-fn group_fits(numbers: [u32; 16]) -> bool {
-    if 15 < numbers[0] {
-        return false;
-    }
-    if 255 < numbers[1] {
-        return false;
-    }
-    numbers[2] <= 255
-}
-
-// Do the command's numbers fit the fields that it sets?
-fn fits(command: Command, numbers: [u32; 16]) -> bool {
-    match command {
-        Command::Load => entry_fits(numbers),
-        Command::Store => entry_fits(numbers),
-        Command::LoadPair => pair_fits(numbers),
-        Command::StorePair => pair_fits(numbers),
-        Command::Group => group_fits(numbers),
-        Command::LoadNext => true,
-        Command::StoreNext => true,
-        Command::Words => numbers[0] <= 65535,
-        _ => numbers[0] <= 255,
-    }
-}
-
-fn load_of(numbers: [u32; 16]) -> LoadEntry {
-    LoadEntry {
+// Place, port, remembered number, addressed, address, served, value, taken.
+fn with_load(mut queue: Queue, numbers: [u32; 16]) -> Queue {
+    let mut side = queue.loads;
+    let place = (numbers[0] % 64) as usize;
+    side.entries[place] = LoadEntry {
         port: byte(numbers[1]),
         before: byte(numbers[2]),
         addressed: numbers[3] == 1,
@@ -142,11 +79,16 @@ fn load_of(numbers: [u32; 16]) -> LoadEntry {
         taken: numbers[7] == 1,
         address: (numbers[4] % 65536) as u16,
         value: numbers[6],
-    }
+    };
+    queue.loads = side;
+    queue
 }
 
-fn store_of(numbers: [u32; 16]) -> StoreEntry {
-    StoreEntry {
+// Place, port, remembered number, addressed, address, filled, data, written.
+fn with_store(mut queue: Queue, numbers: [u32; 16]) -> Queue {
+    let mut side = queue.stores;
+    let place = (numbers[0] % 64) as usize;
+    side.entries[place] = StoreEntry {
         port: byte(numbers[1]),
         before: byte(numbers[2]),
         addressed: numbers[3] == 1,
@@ -154,34 +96,12 @@ fn store_of(numbers: [u32; 16]) -> StoreEntry {
         written: numbers[7] == 1,
         address: (numbers[4] % 65536) as u16,
         word: numbers[6],
-    }
-}
-
-fn with_load(mut queue: Queue, numbers: [u32; 16]) -> Queue {
-    let mut side = queue.loads;
-    let place = (numbers[0] % 64) as usize;
-    side.entries[place] = load_of(numbers);
-    queue.loads = side;
-    queue
-}
-
-fn with_store(mut queue: Queue, numbers: [u32; 16]) -> Queue {
-    let mut side = queue.stores;
-    let place = (numbers[0] % 64) as usize;
-    side.entries[place] = store_of(numbers);
+    };
     queue.stores = side;
     queue
 }
 
-fn queue_with(queue: Queue, command: Command, numbers: [u32; 16]) -> Queue {
-    match command {
-        Command::Load => with_load(queue, numbers),
-        Command::Store => with_store(queue, numbers),
-        _ => number(queue, command, numbers[0]),
-    }
-}
-
-fn pairs_with(mut pairs: Pairs, numbers: [u32; 16]) -> Pairs {
+fn with_pair(mut pairs: Pairs, numbers: [u32; 16]) -> Pairs {
     let place = (numbers[1] % 16) as usize;
     pairs.places[place] = Pair {
         offset: byte(numbers[2]),
@@ -190,23 +110,17 @@ fn pairs_with(mut pairs: Pairs, numbers: [u32; 16]) -> Pairs {
     pairs
 }
 
-fn group_with(group: Group, command: Command, numbers: [u32; 16]) -> Group {
+fn group_with(mut group: Group, command: usize, numbers: [u32; 16]) -> Group {
     let mut loads = group.loads;
     let mut stores = group.stores;
     match command {
-        Command::LoadPair => {
-            let changed = pairs_with(loads, numbers);
-            Group {
-                loads: changed,
-                stores,
-            }
+        command::SET_LOAD_PAIR => {
+            group.loads = with_pair(loads, numbers);
+            group
         }
-        Command::StorePair => {
-            let changed = pairs_with(stores, numbers);
-            Group {
-                loads,
-                stores: changed,
-            }
+        command::SET_STORE_PAIR => {
+            group.stores = with_pair(stores, numbers);
+            group
         }
         _ => {
             loads.count = byte(numbers[1]);
@@ -216,54 +130,48 @@ fn group_with(group: Group, command: Command, numbers: [u32; 16]) -> Group {
     }
 }
 
-fn table_with(mut table: Table, command: Command, numbers: [u32; 16]) -> Table {
+fn table_with(mut table: Table, command: usize, numbers: [u32; 16]) -> Table {
+    if command == command::SET_GROUPS {
+        table.count = byte(numbers[0]);
+        return table;
+    }
+    let place = (numbers[0] % 16) as usize;
+    let group = table.groups[place];
+    table.groups[place] = group_with(group, command, numbers);
+    table
+}
+
+fn queue_with(mut queue: Queue, table: Table, command: usize, numbers: [u32; 16]) -> Queue {
     match command {
-        Command::Groups => {
-            table.count = byte(numbers[0]);
-            table
+        command::SET_LOAD => with_load(queue, numbers),
+        command::SET_STORE => with_store(queue, numbers),
+        command::PUT_TABLE => {
+            queue.table = table;
+            queue
         }
-        _ => {
-            let place = (numbers[0] % 16) as usize;
-            let group = table.groups[place];
-            table.groups[place] = group_with(group, command, numbers);
-            table
-        }
+        _ => with_number(queue, command, numbers[0]),
     }
 }
 
-// The table to open with becomes the queue's own.
-fn put_table(mut run: Run) -> Run {
-    let table = run.table;
-    let mut queue = run.queue;
-    queue.table = table;
-    run.queue = queue;
-    run
-}
-
-fn set_table(mut run: Run, command: Command, numbers: [u32; 16]) -> Run {
+fn set_table(mut run: Run, command: usize, numbers: [u32; 16]) -> Run {
     let table = run.table;
     run.table = table_with(table, command, numbers);
     run
 }
 
-fn set_queue(mut run: Run, command: Command, numbers: [u32; 16]) -> Run {
+fn set_queue(mut run: Run, command: usize, numbers: [u32; 16]) -> Run {
     let queue = run.queue;
-    run.queue = queue_with(queue, command, numbers);
+    let table = run.table;
+    run.queue = queue_with(queue, table, command, numbers);
     run
 }
 
-pub(crate) fn set(run: Run, command: Command, arguments: Arguments) -> Run {
-    let numbers = arguments.values;
-    if !fits(command, numbers) {
-        show::words(b" ?");
-        return run;
-    }
+pub(crate) fn set(run: Run, command: usize, numbers: [u32; 16]) -> Run {
     match command {
-        Command::PutTable => put_table(run),
-        Command::Groups => set_table(run, command, numbers),
-        Command::Group => set_table(run, command, numbers),
-        Command::LoadPair => set_table(run, command, numbers),
-        Command::StorePair => set_table(run, command, numbers),
+        command::SET_GROUPS => set_table(run, command, numbers),
+        command::SET_GROUP => set_table(run, command, numbers),
+        command::SET_LOAD_PAIR => set_table(run, command, numbers),
+        command::SET_STORE_PAIR => set_table(run, command, numbers),
         _ => set_queue(run, command, numbers),
     }
 }

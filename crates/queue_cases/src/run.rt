@@ -1,5 +1,5 @@
 // What the script works on: a queue, the table to open with, the memory and the counts that are lent.
-use crate::command::Command;
+use crate::command;
 use crate::script::Arguments;
 use crate::script::Bytes;
 use crate::show;
@@ -101,16 +101,6 @@ fn count(mut run: Run, forwarded: bool) -> Run {
     run
 }
 
-// The first `length` words.
-fn show_memory(memory: &[u32], length: usize) {
-    show::words(b"\n  memory");
-    if length < memory.len() {
-        show::numbers(&memory[..length]);
-        return;
-    }
-    show::numbers(memory);
-}
-
 fn show_queue(queue: Queue) {
     let loads = queue.loads;
     let stores = queue.stores;
@@ -125,7 +115,8 @@ fn show_all(run: Run) -> Run {
     let memory = run.memory;
     let counts = run.counts;
     show_queue(queue);
-    show_memory(&memory, run.length);
+    show::words(b"\n  memory");
+    show::front(&memory, run.length);
     show::number(b"\n  counts ", counts.loads as u64);
     show::number(b" ", counts.forwarded as u64);
     run
@@ -149,15 +140,15 @@ fn sound(run: Run) -> Run {
 }
 
 // The commands that are neither a call on the queue nor a setting of its record.
-pub(crate) fn other(run: Run, command: Command, arguments: Arguments) -> Run {
+pub(crate) fn other(run: Run, command: usize, arguments: Arguments) -> Run {
     let numbers = arguments.values;
     match command {
-        Command::Open => open(run, numbers),
-        Command::Memory => set_memory(run, numbers, arguments.count),
-        Command::Counts => set_counts(run, numbers[0], numbers[1]),
-        Command::Count => count(run, numbers[0] == 1),
-        Command::Share => share(run),
-        Command::Show => show_all(run),
+        command::OPEN => open(run, numbers),
+        command::MEMORY => set_memory(run, numbers, arguments.count),
+        command::COUNTS => set_counts(run, numbers[0], numbers[1]),
+        command::COUNT => count(run, numbers[0] == 1),
+        command::SHARE => share(run),
+        command::SHOW => show_all(run),
         _ => sound(run),
     }
 }

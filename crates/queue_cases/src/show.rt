@@ -35,11 +35,11 @@ pub(crate) fn same(text: &[u8], is_same: bool) {
     words(b" moved");
 }
 
-// A word of memory that is there or not.
-fn optional(text: &[u8], there: bool, value: u32) {
+// A number that is there or not.
+pub(crate) fn optional(text: &[u8], there: bool, value: u64) {
     words(text);
     if there {
-        number(b" ", value as u64);
+        number(b" ", value);
         return;
     }
     words(b" -");
@@ -49,8 +49,8 @@ fn load(serial: u32, entry: LoadEntry) {
     number(b"\n  load ", serial as u64);
     number(b" port ", entry.port as u64);
     number(b" before ", entry.before as u64);
-    optional(b" address", entry.addressed, entry.address as u32);
-    optional(b" value", entry.served, entry.value);
+    optional(b" address", entry.addressed, entry.address as u64);
+    optional(b" value", entry.served, entry.value as u64);
     if entry.taken {
         words(b" taken");
     }
@@ -60,8 +60,8 @@ fn store(serial: u32, entry: StoreEntry) {
     number(b"\n  store ", serial as u64);
     number(b" port ", entry.port as u64);
     number(b" before ", entry.before as u64);
-    optional(b" address", entry.addressed, entry.address as u32);
-    optional(b" data", entry.filled, entry.word);
+    optional(b" address", entry.addressed, entry.address as u64);
+    optional(b" data", entry.filled, entry.word as u64);
     if entry.written {
         words(b" written");
     }
@@ -99,8 +99,16 @@ pub(crate) fn stores(side: Stores) {
     }
 }
 
+// The first `count` numbers.
+pub(crate) fn front(values: &[u32], count: usize) {
+    if count < values.len() {
+        return numbers(&values[..count]);
+    }
+    numbers(values)
+}
+
 // Numbers, each with a space before it.
-pub(crate) fn numbers(values: &[u32]) {
+fn numbers(values: &[u32]) {
     let mut i: usize = 0;
     while i < values.len() {
         number(b" ", wide(values[i]));

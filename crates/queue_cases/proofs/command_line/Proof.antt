@@ -13,9 +13,6 @@ slice-aggregate-word c = sym (length-take-le _ _ (search needs))
 named-requires : tie.Need-named-requires
 named-requires c κs = search needs
 
-is-table-requires : tie.Need-is-table-requires
-is-table-requires c κs = search needs
-
 bytes-of-requires : tie.Need-bytes-of-requires
 bytes-of-requires c κs = search needs
 
@@ -41,7 +38,6 @@ command-line-spec =
     next-byte-requires
     slice-aggregate-word
     named-requires
-    is-table-requires
     bytes-of-requires
     read-table-requires
     returns

@@ -62,7 +62,7 @@ pub(crate) const PUT_TABLE: usize = 30;
 
 pub(crate) const TABLE: usize = 31;
 
-// How many numbers each takes; of `memory`, at most how many.
+// How many numbers each takes; of `memory`, at most as many.
 const NUMBERS: [usize; 32] = [
     1,
     2,
@@ -267,24 +267,28 @@ fn fits(setting: usize, arguments: Arguments) -> bool
     true
 }
 
-// Does the command take these numbers?
+// Does the command take as many numbers?
+fn takes_count(command: usize, count: usize) -> bool
+    requires { ⌜ command < 32 ⌝ }
+{
+    if command == MEMORY {
+        return count <= 8;
+    }
+    count == NUMBERS[command]
+}
+
+// Does a command other than `table` take these numbers?
 pub(crate) fn takes(command: usize, arguments: Arguments) -> bool {
     if !arguments.right {
         return false;
     }
-    if 32 <= command {
+    if TABLE <= command {
         return false;
     }
-    if command == MEMORY {
-        return arguments.count <= NUMBERS[MEMORY];
-    }
-    if arguments.count != NUMBERS[command] {
+    if !takes_count(command, arguments.count) {
         return false;
     }
     if command < SET_LOAD_DEPTH {
-        return true;
-    }
-    if TABLE <= command {
         return true;
     }
     fits(command - SET_LOAD_DEPTH, arguments)

@@ -21,20 +21,29 @@ fn readied(queue: Queue, loads: bool, numbers: &mut [u32], count: usize) -> Read
     lent_to(queue, loads, numbers)
 }
 
+// Prints what a ready call handed back: its answer, how many serials, and whether the queue is the one handed in.
+fn show_readied(before: Queue, after: Readied) {
+    show::number(b": ", after.answer as u64);
+    show::optional(b"", after.answer == 0, after.count as u64);
+    let next = after.queue;
+    show::same(b"", same::same_queue(before, next));
+}
+
+fn ready_in(queue: Queue, loads: bool, count: usize) -> Queue {
+    let mut numbers = [7777u32; 80];
+    let after = readied(queue, loads, &mut numbers, count);
+    show_readied(queue, after);
+    show::words(b" run");
+    show::front(&numbers, count);
+    after.queue
+}
+
 pub(crate) fn ready(mut run: Run, loads: bool, count: u32) -> Run {
     if 80 < count {
         show::words(b" ?");
         return run;
     }
-    let mut numbers = [7777u32; 80];
     let queue = run.queue;
-    let after = readied(queue, loads, &mut numbers, count as usize);
-    let next = after.queue;
-    show::number(b": ", after.answer as u64);
-    show::optional(b"", after.answer == 0, after.count as u64);
-    show::same(b"", same::same_queue(queue, next));
-    show::words(b" run");
-    show::front(&numbers, count as usize);
-    run.queue = next;
+    run.queue = ready_in(queue, loads, count as usize);
     run
 }

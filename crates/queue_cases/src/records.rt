@@ -67,11 +67,9 @@ fn with_number(mut queue: Queue, command: usize, value: u32) -> Queue {
     queue
 }
 
-// Place, port, remembered number, addressed, address, served, value, taken.
-fn with_load(mut queue: Queue, numbers: [u32; 16]) -> Queue {
-    let mut side = queue.loads;
-    let place = (numbers[0] % 64) as usize;
-    side.entries[place] = LoadEntry {
+// Of the numbers: place, port, remembered number, addressed, address, served, value, taken.
+fn load_of(numbers: [u32; 16]) -> LoadEntry {
+    LoadEntry {
         port: byte(numbers[1]),
         before: byte(numbers[2]),
         addressed: numbers[3] == 1,
@@ -79,16 +77,12 @@ fn with_load(mut queue: Queue, numbers: [u32; 16]) -> Queue {
         taken: numbers[7] == 1,
         address: (numbers[4] % 65536) as u16,
         value: numbers[6],
-    };
-    queue.loads = side;
-    queue
+    }
 }
 
-// Place, port, remembered number, addressed, address, filled, data, written.
-fn with_store(mut queue: Queue, numbers: [u32; 16]) -> Queue {
-    let mut side = queue.stores;
-    let place = (numbers[0] % 64) as usize;
-    side.entries[place] = StoreEntry {
+// Of the numbers: place, port, remembered number, addressed, address, filled, data, written.
+fn store_of(numbers: [u32; 16]) -> StoreEntry {
+    StoreEntry {
         port: byte(numbers[1]),
         before: byte(numbers[2]),
         addressed: numbers[3] == 1,
@@ -96,7 +90,19 @@ fn with_store(mut queue: Queue, numbers: [u32; 16]) -> Queue {
         written: numbers[7] == 1,
         address: (numbers[4] % 65536) as u16,
         word: numbers[6],
-    };
+    }
+}
+
+fn with_load(mut queue: Queue, place: u32, entry: LoadEntry) -> Queue {
+    let mut side = queue.loads;
+    side.entries[(place % 64) as usize] = entry;
+    queue.loads = side;
+    queue
+}
+
+fn with_store(mut queue: Queue, place: u32, entry: StoreEntry) -> Queue {
+    let mut side = queue.stores;
+    side.entries[(place % 64) as usize] = entry;
     queue.stores = side;
     queue
 }
@@ -143,8 +149,8 @@ fn table_with(mut table: Table, command: usize, numbers: [u32; 16]) -> Table {
 
 fn queue_with(mut queue: Queue, table: Table, command: usize, numbers: [u32; 16]) -> Queue {
     match command {
-        command::SET_LOAD => with_load(queue, numbers),
-        command::SET_STORE => with_store(queue, numbers),
+        command::SET_LOAD => with_load(queue, numbers[0], load_of(numbers)),
+        command::SET_STORE => with_store(queue, numbers[0], store_of(numbers)),
         command::PUT_TABLE => {
             queue.table = table;
             queue

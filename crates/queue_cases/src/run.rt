@@ -4,6 +4,7 @@ use crate::script::Arguments;
 use crate::script::Bytes;
 use crate::show;
 use queue::Counts;
+use queue::Opened;
 use queue::Queue;
 use table::Table;
 use table::TableRead;
@@ -49,24 +50,35 @@ pub(crate) fn read_table(mut run: Run, bytes: Bytes) -> Run {
         return run;
     }
     let values = bytes.values;
-    let read = table_of(&values, bytes.count);
+    let held = run.table;
+    run.table = kept(held, table_of(&values, bytes.count));
+    run
+}
+
+// Prints the answer; the table that was read, or the one held before where it is refused.
+fn kept(held: Table, read: TableRead) -> Table {
     show::number(b": ", read.answer as u64);
     if read.answer == 0 {
-        let table = read.table;
-        run.table = table;
+        return read.table;
     }
-    run
+    held
+}
+
+// Prints the answer; the queue that was opened, or the one held before where it is refused.
+fn kept_queue(held: Queue, opened: Opened) -> Queue {
+    show::number(b": ", opened.answer as u64);
+    if opened.answer == 0 {
+        return opened.queue;
+    }
+    held
 }
 
 // Opens a queue with the table, and keeps it where the answer is 0.
 fn open(mut run: Run, numbers: [u32; 16]) -> Run {
     let table = run.table;
+    let held = run.queue;
     let opened = Queue::open(table, numbers[0], numbers[1], numbers[2], numbers[3]);
-    show::number(b": ", opened.answer as u64);
-    if opened.answer == 0 {
-        let queue = opened.queue;
-        run.queue = queue;
-    }
+    run.queue = kept_queue(held, opened);
     run
 }
 
@@ -109,6 +121,11 @@ fn show_queue(queue: Queue) {
     show::stores(stores);
 }
 
+fn show_counts(counts: Counts) {
+    show::number(b"\n  counts ", counts.loads as u64);
+    show::number(b" ", counts.forwarded as u64);
+}
+
 // Everything that is held.
 fn show_all(run: Run) -> Run {
     let queue = run.queue;
@@ -117,8 +134,7 @@ fn show_all(run: Run) -> Run {
     show_queue(queue);
     show::words(b"\n  memory");
     show::front(&memory, run.length);
-    show::number(b"\n  counts ", counts.loads as u64);
-    show::number(b" ", counts.forwarded as u64);
+    show_counts(counts);
     run
 }
 

@@ -45,55 +45,68 @@ pub(crate) fn optional(text: &[u8], there: bool, value: u64) {
     words(b" -");
 }
 
-fn load(serial: u32, entry: LoadEntry) {
-    number(b"\n  load ", serial as u64);
-    number(b" port ", entry.port as u64);
-    number(b" before ", entry.before as u64);
-    optional(b" address", entry.addressed, entry.address as u64);
-    optional(b" value", entry.served, entry.value as u64);
-    if entry.taken {
-        words(b" taken");
+// What both kinds of entries begin with.
+fn entry(text: &[u8], serial: u32, port: u8, before: u8) {
+    number(text, serial as u64);
+    number(b" port ", port as u64);
+    number(b" before ", before as u64);
+}
+
+// A word that is said where it holds.
+fn mark(text: &[u8], holds: bool) {
+    if holds {
+        words(text);
     }
 }
 
-fn store(serial: u32, entry: StoreEntry) {
-    number(b"\n  store ", serial as u64);
-    number(b" port ", entry.port as u64);
-    number(b" before ", entry.before as u64);
-    optional(b" address", entry.addressed, entry.address as u64);
-    optional(b" data", entry.filled, entry.word as u64);
-    if entry.written {
-        words(b" written");
-    }
+fn load(serial: u32, load: LoadEntry) {
+    entry(b"\n  load ", serial, load.port, load.before);
+    optional(b" address", load.addressed, load.address as u64);
+    optional(b" value", load.served, load.value as u64);
+    mark(b" taken", load.taken);
+}
+
+fn store(serial: u32, store: StoreEntry) {
+    entry(b"\n  store ", serial, store.port, store.before);
+    optional(b" address", store.addressed, store.address as u64);
+    optional(b" data", store.filled, store.word as u64);
+    mark(b" written", store.written);
+}
+
+// What both sides begin with.
+fn side(text: &[u8], count: u8, depth: u8, next: u32) {
+    number(text, count as u64);
+    number(b" of ", depth as u64);
+    number(b" next ", next as u64);
+}
+
+// The serial of the entry at a place.
+fn serial_at(next: u32, count: u8, place: usize) -> u32 {
+    let oldest = std::num::wrapping_sub_u32(next, count as u32);
+    std::num::wrapping_add_u32(oldest, (place % 64) as u32)
 }
 
 // The loads held, from the oldest. A record made by hand may say that it holds more than there are places.
-pub(crate) fn loads(side: Loads) {
-    number(b"\n  loads ", side.count as u64);
-    number(b" of ", side.depth as u64);
-    number(b" next ", side.next as u64);
-    let mut i: u8 = 0;
+pub(crate) fn loads(held: Loads) {
+    side(b"\n  loads ", held.count, held.depth, held.next);
+    let mut i: usize = 0;
     while i < 64 {
-        if i < side.count {
-            let entry = side.entries[i as usize];
-            let age = (side.count - i) as u32;
-            load(std::num::wrapping_sub_u32(side.next, age), entry);
+        if i < held.count as usize {
+            let entry = held.entries[i];
+            load(serial_at(held.next, held.count, i), entry);
         }
         i += 1;
     }
 }
 
 // The stores, likewise.
-pub(crate) fn stores(side: Stores) {
-    number(b"\n  stores ", side.count as u64);
-    number(b" of ", side.depth as u64);
-    number(b" next ", side.next as u64);
-    let mut i: u8 = 0;
+pub(crate) fn stores(held: Stores) {
+    side(b"\n  stores ", held.count, held.depth, held.next);
+    let mut i: usize = 0;
     while i < 64 {
-        if i < side.count {
-            let entry = side.entries[i as usize];
-            let age = (side.count - i) as u32;
-            store(std::num::wrapping_sub_u32(side.next, age), entry);
+        if i < held.count as usize {
+            let entry = held.entries[i];
+            store(serial_at(held.next, held.count, i), entry);
         }
         i += 1;
     }

@@ -13,7 +13,7 @@ use table::TableRead;
 pub struct Run {
     pub queue: Queue,
     pub table: Table,
-    pub memory: [u32; 8],
+    pub memory: [u32; 16],
     pub length: usize,
     pub counts: Counts,
 }
@@ -26,7 +26,7 @@ pub(crate) fn fresh() -> Run {
     Run {
         queue,
         table,
-        memory: [0; 8],
+        memory: [0; 16],
         length: 0,
         counts: Counts {
             loads: 0,
@@ -83,16 +83,7 @@ fn open(mut run: Run, numbers: [u32; 16]) -> Run {
 }
 
 fn set_memory(mut run: Run, numbers: [u32; 16], count: usize) -> Run {
-    run.memory = [
-        numbers[0],
-        numbers[1],
-        numbers[2],
-        numbers[3],
-        numbers[4],
-        numbers[5],
-        numbers[6],
-        numbers[7],
-    ];
+    run.memory = numbers;
     run.length = count;
     run
 }

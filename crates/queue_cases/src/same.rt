@@ -99,16 +99,7 @@ fn same_store(a: StoreEntry, b: StoreEntry) -> bool {
     a.word == b.word
 }
 
-fn same_loads(a: Loads, b: Loads) -> bool {
-    if a.depth != b.depth {
-        return false;
-    }
-    if a.count != b.count {
-        return false;
-    }
-    if a.next != b.next {
-        return false;
-    }
+fn same_load_entries(a: Loads, b: Loads) -> bool {
     let mut i: usize = 0;
     while i < 64 {
         let x = a.entries[i];
@@ -121,16 +112,7 @@ fn same_loads(a: Loads, b: Loads) -> bool {
     true
 }
 
-fn same_stores(a: Stores, b: Stores) -> bool {
-    if a.depth != b.depth {
-        return false;
-    }
-    if a.count != b.count {
-        return false;
-    }
-    if a.next != b.next {
-        return false;
-    }
+fn same_store_entries(a: Stores, b: Stores) -> bool {
     let mut i: usize = 0;
     while i < 64 {
         let x = a.entries[i];
@@ -141,6 +123,32 @@ fn same_stores(a: Stores, b: Stores) -> bool {
         i += 1;
     }
     true
+}
+
+fn same_loads(a: Loads, b: Loads) -> bool {
+    if a.depth != b.depth {
+        return false;
+    }
+    if a.count != b.count {
+        return false;
+    }
+    if a.next != b.next {
+        return false;
+    }
+    same_load_entries(a, b)
+}
+
+fn same_stores(a: Stores, b: Stores) -> bool {
+    if a.depth != b.depth {
+        return false;
+    }
+    if a.count != b.count {
+        return false;
+    }
+    if a.next != b.next {
+        return false;
+    }
+    same_store_entries(a, b)
 }
 
 fn same_sides(a: Queue, b: Queue) -> bool {
@@ -173,9 +181,9 @@ pub(crate) fn same_counts(a: Counts, b: Counts) -> bool {
     a.forwarded == b.forwarded
 }
 
-pub(crate) fn same_memory(a: [u32; 8], b: [u32; 8]) -> bool {
+pub(crate) fn same_memory(a: [u32; 16], b: [u32; 16]) -> bool {
     let mut i: usize = 0;
-    while i < 8 {
+    while i < 16 {
         if a[i] != b[i] {
             return false;
         }

@@ -62,159 +62,40 @@ pub(crate) const PUT_TABLE: usize = 30;
 
 pub(crate) const TABLE: usize = 31;
 
-// How many numbers each takes; of `memory`, at most as many.
-const NUMBERS: [usize; 32] = [
-    1,
-    2,
-    2,
-    2,
-    1,
-    1,
-    1,
-    1,
-    1,
-    0,
-    4,
-    8,
-    2,
-    1,
-    0,
-    0,
-    0,
-    1,
-    1,
-    1,
-    1,
-    1,
-    1,
-    1,
-    8,
-    8,
-    1,
-    3,
-    4,
-    4,
-    0,
-    0,
-];
-
-const ANY: u32 = 4294967295;
-
-// The largest numbers that the fields hold which the commands from `set-load-depth` on set: eight numbers for each.
-const MOST: [u32; 112] = [
-    255,
-    0,
-    0,
-    0,
-    0,
-    0,
-    0,
-    0,
-    255,
-    0,
-    0,
-    0,
-    0,
-    0,
-    0,
-    0,
-    ANY,
-    0,
-    0,
-    0,
-    0,
-    0,
-    0,
-    0,
-    255,
-    0,
-    0,
-    0,
-    0,
-    0,
-    0,
-    0,
-    255,
-    0,
-    0,
-    0,
-    0,
-    0,
-    0,
-    0,
-    ANY,
-    0,
-    0,
-    0,
-    0,
-    0,
-    0,
-    0,
-    65535,
-    0,
-    0,
-    0,
-    0,
-    0,
-    0,
-    0,
-    63,
-    255,
-    255,
-    1,
-    65535,
-    1,
-    ANY,
-    1,
-    63,
-    255,
-    255,
-    1,
-    65535,
-    1,
-    ANY,
-    1,
-    255,
-    0,
-    0,
-    0,
-    0,
-    0,
-    0,
-    0,
-    15,
-    255,
-    255,
-    0,
-    0,
-    0,
-    0,
-    0,
-    15,
-    15,
-    255,
-    255,
-    0,
-    0,
-    0,
-    0,
-    15,
-    15,
-    255,
-    255,
-    0,
-    0,
-    0,
-    0,
-    0,
-    0,
-    0,
-    0,
-    0,
-    0,
-    0,
-    0,
-];
+// The numbers that each takes before `table`, eight letters for each: `.` none, `w` any, `o` any or none, `f` to 1, `g` to 15,
+// `p` to 63, `r` to 80, `b` to 255, `h` to 65535.
+const SHAPES: [u8; 248] = *b"\
+w.......\
+ww......\
+ww......\
+ww......\
+w.......\
+w.......\
+w.......\
+r.......\
+r.......\
+........\
+wwww....\
+oooooooo\
+ww......\
+f.......\
+........\
+........\
+........\
+b.......\
+b.......\
+w.......\
+b.......\
+b.......\
+w.......\
+h.......\
+pbbfhfwf\
+pbbfhfwf\
+b.......\
+gbb.....\
+ggbb....\
+ggbb....\
+........";
 
 fn is(word: &[u8], name: &[u8]) -> bool {
     if word.len() != name.len() {
@@ -253,28 +134,45 @@ pub(crate) fn named(word: &[u8]) -> usize {
     place(&NAMES, word)
 }
 
-// Do the numbers fit the fields that the command sets?
-fn fits(setting: usize, arguments: Arguments) -> bool
-    requires { ⌜ setting < 14 ⌝ }
+// The largest number that a letter stands for.
+fn most(letter: u8) -> u32 {
+    match letter {
+        b'f' => 1,
+        b'g' => 15,
+        b'p' => 63,
+        b'r' => 80,
+        b'b' => 255,
+        b'h' => 65535,
+        _ => 4294967295,
+    }
+}
+
+// May a number stand where the letter is, or none?
+fn fits(letter: u8, given: bool, value: u32) -> bool {
+    if given {
+        if letter == b'.' {
+            return false;
+        }
+        return value <= most(letter);
+    }
+    if letter == b'o' {
+        return true;
+    }
+    letter == b'.'
+}
+
+fn all_fit(command: usize, arguments: Arguments) -> bool
+    requires { ⌜ command < 31 ⌝ }
 {
     let mut i: usize = 0;
     while i < 8 {
-        if MOST[setting * 8 + i] < arguments.values[i] {
+        let letter = SHAPES[command * 8 + i];
+        if !fits(letter, i < arguments.count, arguments.values[i]) {
             return false;
         }
         i += 1;
     }
     true
-}
-
-// Does the command take as many numbers?
-fn takes_count(command: usize, count: usize) -> bool
-    requires { ⌜ command < 32 ⌝ }
-{
-    if command == MEMORY {
-        return count <= 8;
-    }
-    count == NUMBERS[command]
 }
 
 // Does a command other than `table` take these numbers?
@@ -285,11 +183,5 @@ pub(crate) fn takes(command: usize, arguments: Arguments) -> bool {
     if TABLE <= command {
         return false;
     }
-    if !takes_count(command, arguments.count) {
-        return false;
-    }
-    if command < SET_LOAD_DEPTH {
-        return true;
-    }
-    fits(command - SET_LOAD_DEPTH, arguments)
+    all_fit(command, arguments)
 }

@@ -39,10 +39,6 @@ fn ready_in(queue: Queue, loads: bool, count: usize) -> Queue {
 }
 
 pub(crate) fn ready(mut run: Run, loads: bool, count: u32) -> Run {
-    if 80 < count {
-        show::words(b" ?");
-        return run;
-    }
     let queue = run.queue;
     run.queue = ready_in(queue, loads, count as usize);
     run

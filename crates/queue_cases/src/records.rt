@@ -57,18 +57,19 @@ fn with_number(mut queue: Queue, command: usize, value: u32) -> Queue {
         queue.words = (value % 65536) as u16;
         return queue;
     }
+    // Of each side the commands come in the order of the fields.
     if command < command::SET_STORE_DEPTH {
         let side = queue.loads;
-        queue.loads = with_load_field(side, command % 17, value);
+        queue.loads = with_load_field(side, command % command::SET_LOAD_DEPTH, value);
         return queue;
     }
     let side = queue.stores;
-    queue.stores = with_store_field(side, command % 20, value);
+    queue.stores = with_store_field(side, command % command::SET_STORE_DEPTH, value);
     queue
 }
 
 // Of the numbers: place, port, remembered number, addressed, address, served, value, taken.
-fn load_of(numbers: [u32; 16]) -> LoadEntry {
+fn load_of(numbers: [u32; 8]) -> LoadEntry {
     LoadEntry {
         port: byte(numbers[1]),
         before: byte(numbers[2]),
@@ -81,7 +82,7 @@ fn load_of(numbers: [u32; 16]) -> LoadEntry {
 }
 
 // Of the numbers: place, port, remembered number, addressed, address, filled, data, written.
-fn store_of(numbers: [u32; 16]) -> StoreEntry {
+fn store_of(numbers: [u32; 8]) -> StoreEntry {
     StoreEntry {
         port: byte(numbers[1]),
         before: byte(numbers[2]),
@@ -107,7 +108,7 @@ fn with_store(mut queue: Queue, place: u32, entry: StoreEntry) -> Queue {
     queue
 }
 
-fn with_pair(mut pairs: Pairs, numbers: [u32; 16]) -> Pairs {
+fn with_pair(mut pairs: Pairs, numbers: [u32; 8]) -> Pairs {
     let place = (numbers[1] % 16) as usize;
     pairs.places[place] = Pair {
         offset: byte(numbers[2]),
@@ -116,7 +117,7 @@ fn with_pair(mut pairs: Pairs, numbers: [u32; 16]) -> Pairs {
     pairs
 }
 
-fn group_with(mut group: Group, command: usize, numbers: [u32; 16]) -> Group {
+fn group_with(mut group: Group, command: usize, numbers: [u32; 8]) -> Group {
     let mut loads = group.loads;
     let mut stores = group.stores;
     match command {
@@ -136,7 +137,7 @@ fn group_with(mut group: Group, command: usize, numbers: [u32; 16]) -> Group {
     }
 }
 
-fn table_with(mut table: Table, command: usize, numbers: [u32; 16]) -> Table {
+fn table_with(mut table: Table, command: usize, numbers: [u32; 8]) -> Table {
     if command == command::SET_GROUPS {
         table.count = byte(numbers[0]);
         return table;
@@ -147,7 +148,7 @@ fn table_with(mut table: Table, command: usize, numbers: [u32; 16]) -> Table {
     table
 }
 
-fn queue_with(mut queue: Queue, table: Table, command: usize, numbers: [u32; 16]) -> Queue {
+fn queue_with(mut queue: Queue, table: Table, command: usize, numbers: [u32; 8]) -> Queue {
     match command {
         command::SET_LOAD => with_load(queue, numbers[0], load_of(numbers)),
         command::SET_STORE => with_store(queue, numbers[0], store_of(numbers)),
@@ -159,20 +160,20 @@ fn queue_with(mut queue: Queue, table: Table, command: usize, numbers: [u32; 16]
     }
 }
 
-fn set_table(mut run: Run, command: usize, numbers: [u32; 16]) -> Run {
+fn set_table(mut run: Run, command: usize, numbers: [u32; 8]) -> Run {
     let table = run.table;
     run.table = table_with(table, command, numbers);
     run
 }
 
-fn set_queue(mut run: Run, command: usize, numbers: [u32; 16]) -> Run {
+fn set_queue(mut run: Run, command: usize, numbers: [u32; 8]) -> Run {
     let queue = run.queue;
     let table = run.table;
     run.queue = queue_with(queue, table, command, numbers);
     run
 }
 
-pub(crate) fn set(run: Run, command: usize, numbers: [u32; 16]) -> Run {
+pub(crate) fn set(run: Run, command: usize, numbers: [u32; 8]) -> Run {
     match command {
         command::SET_GROUPS => set_table(run, command, numbers),
         command::SET_GROUP => set_table(run, command, numbers),

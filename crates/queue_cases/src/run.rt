@@ -13,7 +13,7 @@ use table::TableRead;
 pub struct Run {
     pub queue: Queue,
     pub table: Table,
-    pub memory: [u32; 16],
+    pub memory: [u32; 8],
     pub length: usize,
     pub counts: Counts,
 }
@@ -26,7 +26,7 @@ pub(crate) fn fresh() -> Run {
     Run {
         queue,
         table,
-        memory: [0; 16],
+        memory: [0; 8],
         length: 0,
         counts: Counts {
             loads: 0,
@@ -74,7 +74,7 @@ fn kept_queue(held: Queue, opened: Opened) -> Queue {
 }
 
 // Opens a queue with the table, and keeps it where the answer is 0.
-fn open(mut run: Run, numbers: [u32; 16]) -> Run {
+fn open(mut run: Run, numbers: [u32; 8]) -> Run {
     let table = run.table;
     let held = run.queue;
     let opened = Queue::open(table, numbers[0], numbers[1], numbers[2], numbers[3]);
@@ -82,7 +82,7 @@ fn open(mut run: Run, numbers: [u32; 16]) -> Run {
     run
 }
 
-fn set_memory(mut run: Run, numbers: [u32; 16], count: usize) -> Run {
+fn set_memory(mut run: Run, numbers: [u32; 8], count: usize) -> Run {
     run.memory = numbers;
     run.length = count;
     run

@@ -181,9 +181,9 @@ pub(crate) fn same_counts(a: Counts, b: Counts) -> bool {
     a.forwarded == b.forwarded
 }
 
-pub(crate) fn same_memory(a: [u32; 16], b: [u32; 16]) -> bool {
+pub(crate) fn same_memory(a: [u32; 8], b: [u32; 8]) -> bool {
     let mut i: usize = 0;
-    while i < 16 {
+    while i < 8 {
         if a[i] != b[i] {
             return false;
         }

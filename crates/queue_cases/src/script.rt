@@ -7,7 +7,7 @@ ghost use lib.ListN.{length};
 pub struct Arguments {
     pub right: bool,
     pub count: usize,
-    pub values: [u32; 16],
+    pub values: [u32; 8],
 }
 
 // The bytes of a line, likewise.
@@ -102,7 +102,7 @@ fn number_at(line: &[u8], at: usize) -> Number
 
 fn with_number(mut found: Arguments, value: u64) -> Arguments {
     let at = found.count;
-    if 16 <= at {
+    if 8 <= at {
         found.right = false;
         return found;
     }
@@ -122,7 +122,7 @@ pub(crate) fn numbers_of(line: &[u8], from: usize) -> Arguments
     let mut found = Arguments {
         right: true,
         count: 0,
-        values: [0; 16],
+        values: [0; 8],
     };
     let mut at = from;
     while at < line.len() {

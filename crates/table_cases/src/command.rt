@@ -39,156 +39,26 @@ pub(crate) const WRITE_TABLE: usize = 16;
 
 pub(crate) const BYTES: usize = 17;
 
-// How many numbers each takes.
-const NUMBERS: [usize; 18] = [1, 1, 0, 0, 0, 0, 1, 1, 0, 1, 3, 4, 4, 2, 5, 4, 1, 0];
-
-// The largest numbers that each takes: eight for each.
-const MOST: [u64; 144] = [
-    18446744073709551615,
-    0,
-    0,
-    0,
-    0,
-    0,
-    0,
-    0,
-    18446744073709551615,
-    0,
-    0,
-    0,
-    0,
-    0,
-    0,
-    0,
-    0,
-    0,
-    0,
-    0,
-    0,
-    0,
-    0,
-    0,
-    0,
-    0,
-    0,
-    0,
-    0,
-    0,
-    0,
-    0,
-    0,
-    0,
-    0,
-    0,
-    0,
-    0,
-    0,
-    0,
-    0,
-    0,
-    0,
-    0,
-    0,
-    0,
-    0,
-    0,
-    4294967295,
-    0,
-    0,
-    0,
-    0,
-    0,
-    0,
-    0,
-    128,
-    0,
-    0,
-    0,
-    0,
-    0,
-    0,
-    0,
-    0,
-    0,
-    0,
-    0,
-    0,
-    0,
-    0,
-    0,
-    255,
-    0,
-    0,
-    0,
-    0,
-    0,
-    0,
-    0,
-    15,
-    255,
-    255,
-    0,
-    0,
-    0,
-    0,
-    0,
-    15,
-    15,
-    255,
-    255,
-    0,
-    0,
-    0,
-    0,
-    15,
-    15,
-    255,
-    255,
-    0,
-    0,
-    0,
-    0,
-    128,
-    4294967295,
-    0,
-    0,
-    0,
-    0,
-    0,
-    0,
-    128,
-    4294967295,
-    4294967295,
-    4294967295,
-    4294967295,
-    0,
-    0,
-    0,
-    128,
-    6,
-    4294967295,
-    4294967295,
-    0,
-    0,
-    0,
-    0,
-    128,
-    0,
-    0,
-    0,
-    0,
-    0,
-    0,
-    0,
-    0,
-    0,
-    0,
-    0,
-    0,
-    0,
-    0,
-    0,
-];
+// The numbers that each takes before `bytes`, eight letters for each: `.` none, `a` any, `w` to 4294967295, `k` to 6, `g` to 15,
+// `l` to 128, `b` to 255.
+const SHAPES: [u8; 136] = *b"\
+a.......\
+a.......\
+........\
+........\
+........\
+........\
+w.......\
+l.......\
+........\
+b.......\
+gbb.....\
+ggbb....\
+ggbb....\
+lw......\
+lwwww...\
+lkww....\
+l.......";
 
 fn is(word: &[u8], name: &[u8]) -> bool {
     if word.len() != name.len() {
@@ -227,13 +97,36 @@ pub(crate) fn named(word: &[u8]) -> usize {
     place(&NAMES, word)
 }
 
-// Are the numbers small enough?
-fn fits(command: usize, arguments: Arguments) -> bool
-    requires { ⌜ command < 18 ⌝ }
+// The largest number that a letter stands for.
+fn most(letter: u8) -> u64 {
+    match letter {
+        b'k' => 6,
+        b'g' => 15,
+        b'l' => 128,
+        b'b' => 255,
+        b'w' => 4294967295,
+        _ => 18446744073709551615,
+    }
+}
+
+// May a number stand where the letter is, or none?
+fn fits(letter: u8, given: bool, value: u64) -> bool {
+    if given {
+        if letter == b'.' {
+            return false;
+        }
+        return value <= most(letter);
+    }
+    letter == b'.'
+}
+
+fn all_fit(command: usize, arguments: Arguments) -> bool
+    requires { ⌜ command < 17 ⌝ }
 {
     let mut i: usize = 0;
     while i < 8 {
-        if MOST[command * 8 + i] < arguments.values[i] {
+        let letter = SHAPES[command * 8 + i];
+        if !fits(letter, i < arguments.count, arguments.values[i]) {
             return false;
         }
         i += 1;
@@ -241,16 +134,13 @@ fn fits(command: usize, arguments: Arguments) -> bool
     true
 }
 
-// Does the command take these numbers?
+// Does a command other than `bytes` take these numbers?
 pub(crate) fn takes(command: usize, arguments: Arguments) -> bool {
     if !arguments.right {
         return false;
     }
-    if 18 <= command {
+    if BYTES <= command {
         return false;
     }
-    if arguments.count != NUMBERS[command] {
-        return false;
-    }
-    fits(command, arguments)
+    all_fit(command, arguments)
 }

@@ -4,10 +4,10 @@ use Rattle.queue_cases.proofs.same.same_memory.Statement.{statement}
 use Rattle.queue_cases.proofs.same.same_memory.Tie as tie
 
 abbrev Inv-loop : tie.InvT-loop
-Inv-loop a b i₀ i = i ≤ 16
+Inv-loop a b i₀ i = i ≤ 8
 
 abbrev μ-loop : tie.MeasureT-loop
-μ-loop a b i₀ i = 16 - i
+μ-loop a b i₀ i = 8 - i
 
 loop-holds : tie.Need-loop-holds Inv-loop μ-loop
 loop-holds c = search needs

@@ -1,22 +1,33 @@
-// A queue with a memory of four words and its counts. Each call prints a line: a label, the call, its answer, its value.
+// What the script works on: a queue, the table to open with, the memory and the counts that are lent.
+use crate::command;
+use crate::script::Arguments;
+use crate::script::Bytes;
 use crate::show;
 use queue::Counts;
+use queue::Opened;
 use queue::Queue;
 use table::Table;
+use table::TableRead;
 
+// The memory that is lent is the first `length` words.
 pub struct Run {
     pub queue: Queue,
-    pub memory: [u32; 4],
+    pub table: Table,
+    pub memory: [u32; 8],
+    pub length: usize,
     pub counts: Counts,
 }
 
-// A queue for four words, opened without a line. Word n of the memory holds 100 + n.
-pub fn opened(table: Table, loads: u32, stores: u32, first: u32) -> Run {
-    let open = Queue::open(table, loads, stores, first, 4);
-    let queue = open.queue;
+// Before anything is opened the queue is the one of a refused opening.
+pub(crate) fn fresh() -> Run {
+    let table = table::read::no_table();
+    let opened = Queue::open(table, 0, 0, 0, 0);
+    let queue = opened.queue;
     Run {
         queue,
-        memory: [100, 101, 102, 103],
+        table,
+        memory: [0; 8],
+        length: 0,
         counts: Counts {
             loads: 0,
             forwarded: 0,
@@ -24,227 +35,127 @@ pub fn opened(table: Table, loads: u32, stores: u32, first: u32) -> Run {
     }
 }
 
-impl Run {
-    pub fn activate(mut self, label: &[u8], group: u32) -> Run {
-        show::words(label);
-        show::number(b": activate ", group as u64);
-        let queue = self.queue;
-        let outcome = queue.activate(group);
-        let value = outcome.value;
-        show::answer(outcome.answer, value);
-        let next = outcome.queue;
-        self.queue = next;
-        self
+// Reads the table at the front of the bytes.
+fn table_of(bytes: &[u8], count: usize) -> TableRead {
+    if count < bytes.len() {
+        return table::read::read_table(&bytes[..count]);
     }
+    table::read::read_table(bytes)
+}
 
-    pub fn load_address(mut self, label: &[u8], port: u32, address: u32) -> Run {
-        show::words(label);
-        show::number(b": load address ", port as u64);
-        show::number(b" ", address as u64);
-        let queue = self.queue;
-        let outcome = queue.load_address(port, address);
-        let value = outcome.value;
-        show::answer(outcome.answer, value);
-        let next = outcome.queue;
-        self.queue = next;
-        self
+// Reads a table, and keeps it where it is right.
+pub(crate) fn read_table(mut run: Run, bytes: Bytes) -> Run {
+    if !bytes.right {
+        show::words(b" ?");
+        return run;
     }
+    let values = bytes.values;
+    let held = run.table;
+    run.table = kept(held, table_of(&values, bytes.count));
+    run
+}
 
-    pub fn store_address(mut self, label: &[u8], port: u32, address: u32) -> Run {
-        show::words(label);
-        show::number(b": store address ", port as u64);
-        show::number(b" ", address as u64);
-        let queue = self.queue;
-        let outcome = queue.store_address(port, address);
-        let value = outcome.value;
-        show::answer(outcome.answer, value);
-        let next = outcome.queue;
-        self.queue = next;
-        self
+// Prints the answer; the table that was read, or the one held before where it is refused.
+fn kept(held: Table, read: TableRead) -> Table {
+    show::number(b": ", read.answer as u64);
+    if read.answer == 0 {
+        return read.table;
     }
+    held
+}
 
-    pub fn store_data(mut self, label: &[u8], port: u32, word: u32) -> Run {
-        show::words(label);
-        show::number(b": store data ", port as u64);
-        show::number(b" ", word as u64);
-        let queue = self.queue;
-        let outcome = queue.store_data(port, word);
-        let value = outcome.value;
-        show::answer(outcome.answer, value);
-        let next = outcome.queue;
-        self.queue = next;
-        self
+// Prints the answer; the queue that was opened, or the one held before where it is refused.
+fn kept_queue(held: Queue, opened: Opened) -> Queue {
+    show::number(b": ", opened.answer as u64);
+    if opened.answer == 0 {
+        return opened.queue;
     }
+    held
+}
 
-    pub fn serve(mut self, label: &[u8], serial: u32) -> Run {
-        show::words(label);
-        show::number(b": serve ", serial as u64);
-        let queue = self.queue;
-        let memory = self.memory;
-        let counted = queue.serve_counted(&memory, self.counts, serial);
-        let value = counted.value;
-        show::answer(counted.answer, value);
-        let next = counted.queue;
-        let counts = counted.counts;
-        self.queue = next;
-        self.counts = counts;
-        self
+// Opens a queue with the table, and keeps it where the answer is 0.
+fn open(mut run: Run, numbers: [u32; 8]) -> Run {
+    let table = run.table;
+    let held = run.queue;
+    let opened = Queue::open(table, numbers[0], numbers[1], numbers[2], numbers[3]);
+    run.queue = kept_queue(held, opened);
+    run
+}
+
+fn set_memory(mut run: Run, numbers: [u32; 8], count: usize) -> Run {
+    run.memory = numbers;
+    run.length = count;
+    run
+}
+
+fn set_counts(mut run: Run, loads: u32, forwarded: u32) -> Run {
+    let counts = Counts { loads, forwarded };
+    run.counts = counts;
+    run
+}
+
+// One more load is counted.
+fn count(mut run: Run, forwarded: bool) -> Run {
+    let held = run.counts;
+    let counts = queue::counting::counted(held, forwarded);
+    show::number(b": ", counts.loads as u64);
+    show::number(b" ", counts.forwarded as u64);
+    run.counts = counts;
+    run
+}
+
+fn show_queue(queue: Queue) {
+    let loads = queue.loads;
+    let stores = queue.stores;
+    show::number(b": words ", queue.words as u64);
+    show::loads(loads);
+    show::stores(stores);
+}
+
+fn show_counts(counts: Counts) {
+    show::number(b"\n  counts ", counts.loads as u64);
+    show::number(b" ", counts.forwarded as u64);
+}
+
+// Everything that is held.
+fn show_all(run: Run) -> Run {
+    let queue = run.queue;
+    let memory = run.memory;
+    let counts = run.counts;
+    show_queue(queue);
+    show::words(b"\n  memory");
+    show::front(&memory, run.length);
+    show_counts(counts);
+    run
+}
+
+fn share(run: Run) -> Run {
+    let counts = run.counts;
+    show::number(b": ", queue::counting::share(counts));
+    run
+}
+
+// Does the record escape 40?
+fn sound(run: Run) -> Run {
+    let queue = run.queue;
+    if queue.sound() {
+        show::words(b": yes");
+        return run;
     }
+    show::words(b": no");
+    run
+}
 
-    pub fn write(mut self, label: &[u8], serial: u32) -> Run {
-        show::words(label);
-        show::number(b": write ", serial as u64);
-        let queue = self.queue;
-        let mut memory = self.memory;
-        let outcome = queue.write(&mut memory, serial);
-        let value = outcome.value;
-        show::answer(outcome.answer, value);
-        let next = outcome.queue;
-        self.queue = next;
-        self.memory = memory;
-        self
-    }
-
-    pub fn take(mut self, label: &[u8], port: u32) -> Run {
-        show::words(label);
-        show::number(b": take ", port as u64);
-        let queue = self.queue;
-        let outcome = queue.take(port);
-        let value = outcome.value;
-        show::answer(outcome.answer, value);
-        let next = outcome.queue;
-        self.queue = next;
-        self
-    }
-
-    // Prints the memory.
-    pub fn show_memory(self, label: &[u8]) -> Run {
-        let memory = self.memory;
-        show::words(label);
-        show::word(b": memory ", memory[0]);
-        show::word(b" ", memory[1]);
-        show::word(b" ", memory[2]);
-        show::word(b" ", memory[3]);
-        show::words(b"\n");
-        self
-    }
-
-    // Prints the counts and their share.
-    pub fn show_counts(self, label: &[u8]) -> Run {
-        let counts = self.counts;
-        show::words(label);
-        show::number(b": loads ", counts.loads as u64);
-        show::number(b" forwarded ", counts.forwarded as u64);
-        show::number(b" share ", queue::counting::share(counts));
-        show::words(b"\n");
-        self
-    }
-
-    // Prints how many entries each side holds, and the next serials.
-    pub fn show_sides(self, label: &[u8]) -> Run {
-        let queue = self.queue;
-        let loads = queue.loads;
-        let stores = queue.stores;
-        show::words(label);
-        show::number(b": holds loads ", loads.count as u64);
-        show::number(b" next ", loads.next as u64);
-        show::number(b" stores ", stores.count as u64);
-        show::number(b" next ", stores.next as u64);
-        show::words(b"\n");
-        self
-    }
-
-    // Serves in a memory of three words, which is not the length opened for.
-    pub fn serve_three(mut self, label: &[u8], serial: u32) -> Run {
-        show::words(label);
-        show::number(b": serve in three words ", serial as u64);
-        let queue = self.queue;
-        let memory = [7u32; 3];
-        let counted = queue.serve_counted(&memory, self.counts, serial);
-        let value = counted.value;
-        show::answer(counted.answer, value);
-        let next = counted.queue;
-        let counts = counted.counts;
-        self.queue = next;
-        self.counts = counts;
-        self
-    }
-
-    // Serves in a memory of five words.
-    pub fn serve_five(mut self, label: &[u8], serial: u32) -> Run {
-        show::words(label);
-        show::number(b": serve in five words ", serial as u64);
-        let queue = self.queue;
-        let memory = [7u32; 5];
-        let counted = queue.serve_counted(&memory, self.counts, serial);
-        let value = counted.value;
-        show::answer(counted.answer, value);
-        let next = counted.queue;
-        let counts = counted.counts;
-        self.queue = next;
-        self.counts = counts;
-        self
-    }
-
-    // Writes in a memory of three words.
-    pub fn write_three(mut self, label: &[u8], serial: u32) -> Run {
-        show::words(label);
-        show::number(b": write in three words ", serial as u64);
-        let queue = self.queue;
-        let mut memory = [7u32; 3];
-        let outcome = queue.write(&mut memory, serial);
-        let value = outcome.value;
-        show::answer(outcome.answer, value);
-        let next = outcome.queue;
-        self.queue = next;
-        self
-    }
-
-    // Writes in a memory of five words.
-    pub fn write_five(mut self, label: &[u8], serial: u32) -> Run {
-        show::words(label);
-        show::number(b": write in five words ", serial as u64);
-        let queue = self.queue;
-        let mut memory = [7u32; 5];
-        let outcome = queue.write(&mut memory, serial);
-        let value = outcome.value;
-        show::answer(outcome.answer, value);
-        let next = outcome.queue;
-        self.queue = next;
-        self
-    }
-
-    // Prints what the three oldest loads and the four oldest stores remember.
-    pub fn show_before(self, label: &[u8]) -> Run {
-        let queue = self.queue;
-        let loads = queue.loads;
-        let stores = queue.stores;
-        show::words(label);
-        show::byte(b": before loads ", loads.entries[0].before);
-        show::byte(b" ", loads.entries[1].before);
-        show::byte(b" ", loads.entries[2].before);
-        show::byte(b" stores ", stores.entries[0].before);
-        show::byte(b" ", stores.entries[1].before);
-        show::byte(b" ", stores.entries[2].before);
-        show::byte(b" ", stores.entries[3].before);
-        show::words(b"\n");
-        self
-    }
-
-    // Prints what the oldest load remembers.
-    pub fn show_oldest(self, label: &[u8]) -> Run {
-        let queue = self.queue;
-        let loads = queue.loads;
-        show::words(label);
-        show::byte(b": oldest load remembers ", loads.entries[0].before);
-        show::words(b"\n");
-        self
-    }
-
-    // The same queue and memory, with other counts.
-    pub fn with_counts(mut self, loads: u32, forwarded: u32) -> Run {
-        let counts = Counts { loads, forwarded };
-        self.counts = counts;
-        self
+// The commands that are neither a call on the queue nor a setting of its record.
+pub(crate) fn other(run: Run, command: usize, arguments: Arguments) -> Run {
+    let numbers = arguments.values;
+    match command {
+        command::OPEN => open(run, numbers),
+        command::MEMORY => set_memory(run, numbers, arguments.count),
+        command::COUNTS => set_counts(run, numbers[0], numbers[1]),
+        command::COUNT => count(run, numbers[0] == 1),
+        command::SHARE => share(run),
+        command::SHOW => show_all(run),
+        _ => sound(run),
     }
 }

@@ -10,12 +10,12 @@ use table::Pairs;
 use table::Table;
 use table::Written;
 
-pub fn words(text: &[u8]) {
+pub(crate) fn words(text: &[u8]) {
     io::write_all(STDOUT_FILENO, text);
 }
 
 // Words and a number.
-pub fn number(text: &[u8], value: u64) {
+pub(crate) fn number(text: &[u8], value: u64) {
     io::write_all(STDOUT_FILENO, text);
     io::print_decimal(STDOUT_FILENO, value);
 }
@@ -32,8 +32,16 @@ fn byte(value: u8) {
     io::write_all(STDOUT_FILENO, &shown);
 }
 
+// The first `count` bytes.
+pub(crate) fn front(data: &[u8], count: usize) {
+    if count < data.len() {
+        return bytes(&data[..count]);
+    }
+    bytes(data)
+}
+
 // Bytes, each with a space before it.
-pub fn bytes(data: &[u8]) {
+fn bytes(data: &[u8]) {
     let mut i: usize = 0;
     while i < data.len() {
         byte(data[i]);
@@ -42,7 +50,7 @@ pub fn bytes(data: &[u8]) {
 }
 
 // What reading a number answers.
-pub fn number_read(read: NumberRead) {
+pub(crate) fn number_read(read: NumberRead) {
     match read {
         NumberRead::Number { value, next } => {
             number(b": 0 value ", value as u64);
@@ -53,7 +61,7 @@ pub fn number_read(read: NumberRead) {
 }
 
 // What writing answers.
-pub fn written(answer: Written) {
+pub(crate) fn written(answer: Written) {
     match answer {
         Written::Bytes(count) => number(b": 0 wrote ", count as u64),
         Written::Unwritten(refusal) => number(b": ", refusal as u64),
@@ -82,7 +90,7 @@ fn one_group(group: Group) {
 }
 
 // A table: its count, and its groups.
-pub fn groups(table: Table) {
+pub(crate) fn groups(table: Table) {
     number(b" groups ", table.count as u64);
     let mut i: usize = 0;
     while i < 16 {
@@ -108,7 +116,7 @@ fn loads_at(loads: Pairs, offset: usize) {
 }
 
 // A group's accesses in program order: load i is before store j when its offset is at most j.
-pub fn order(group: Group) {
+pub(crate) fn order(group: Group) {
     let loads = group.loads;
     let stores = group.stores;
     let mut j: usize = 0;
@@ -124,7 +132,7 @@ pub fn order(group: Group) {
 }
 
 // What reading the leading numbers of a trace answers.
-pub fn header_read(read: HeaderRead) {
+pub(crate) fn header_read(read: HeaderRead) {
     match read {
         HeaderRead::Leading(header, next) => {
             number(b": 0 loads ", header.loads as u64);
@@ -142,7 +150,7 @@ fn two_numbers(text: &[u8], first: u32, second: u32) {
     number(b" ", second as u64);
 }
 
-pub fn one_event(event: Event) {
+pub(crate) fn one_event(event: Event) {
     match event {
         Event::Activate { group } => number(b" activate ", group as u64),
         Event::LoadAddress { port, address } => two_numbers(b" load address ", port, address),
@@ -155,7 +163,7 @@ pub fn one_event(event: Event) {
 }
 
 // What reading an event answers.
-pub fn event_read(read: EventRead) {
+pub(crate) fn event_read(read: EventRead) {
     match read {
         EventRead::Found(event, next) => {
             words(b": 0");

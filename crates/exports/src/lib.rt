@@ -4,7 +4,6 @@ ghost use mathlib.Core.Path.{_≡_};
 ghost use Rattle.table.specs.TableBytes.{readTable, tableAnswer};
 ghost use Rattle.queue.specs.Counts.{share};
 ghost use Rattle.queue.specs.Ruled.{number};
-ghost use Rattle.replay.specs.Outcome.{unprepared};
 ghost use Rattle.printed.specs.Outcome.{printed};
 ghost use Rattle.exports.specs.Text.{byteCount};
 ghost use Rattle.exports.specs.Prepared.{prepared, eventCount, memoryLength};
@@ -15,29 +14,11 @@ use queue::Counts;
 use queue::counting::share;
 use replay::Prepared;
 use replay::preparing::prepare;
+use replay::preparing::unprepared;
 use replay::replaying::replay;
-use table::Header;
 use table::Written;
 use table::read::read_table;
 use table::refusal::TOO_SHORT;
-
-// A trace that cannot be played, because its table cannot be read.
-fn no_table(answer: u8) -> Prepared
-    ensures { λ r. ⌜ r ≡ unprepared answer ⌝ }
-{
-    let header = Header {
-        loads: 0,
-        stores: 0,
-        serial: 0,
-        words: 0,
-    };
-    Prepared {
-        answer,
-        header,
-        at: 0,
-        events: 0,
-    }
-}
 
 // Reads the table and makes the trace ready.
 fn make_ready(table: &[u8], trace: &[u8]) -> Prepared
@@ -45,7 +26,7 @@ fn make_ready(table: &[u8], trace: &[u8]) -> Prepared
 {
     let read = read_table(table);
     if read.answer != 0 {
-        return no_table(read.answer);
+        return unprepared(read.answer);
     }
     let groups = read.table;
     prepare(groups, trace)

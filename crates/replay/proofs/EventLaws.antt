@@ -194,7 +194,7 @@ unfolding eventsUpTo
 whole-none [] h = cc
 whole-none (b ∷ s) h = let z : _≡_ {A = ℕ} 0 1 = cc in absurd (omega arith)
 
-events-whole : (m : ℕ) (s : List ℕ) (es : List Event) (rest : List ℕ) → eventsUpTo m s ≡ got es rest → rest ≡ []
+pub events-whole : (m : ℕ) (s : List ℕ) (es : List Event) (rest : List ℕ) → eventsUpTo m s ≡ got es rest → rest ≡ []
 events-whole zero s es rest h = whole-none s h
 events-whole (suc m) s es rest h = whole-step m s (events-whole m) h
 

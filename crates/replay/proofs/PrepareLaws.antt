@@ -18,7 +18,6 @@ use Rattle.table.specs.declared.Header.{Header}
 use Rattle.table.specs.declared.HeaderRead.the-variants.{Leading, NoHeader}
 use Rattle.table.specs.Event.{readHeader, headerAnswer, readEvent, readKind, hasSecond}
 use Rattle.table.specs.TableBytes.{before}
-use Rattle.table.proofs.NumberLaws.{place-drop}
 use Rattle.table.proofs.ReadLaws.{number-refused}
 use Rattle.table.proofs.RoundTrip.{only-spelled-headers}
 use Rattle.queue.specs.declared.Opened.{Opened}
@@ -29,12 +28,13 @@ use Rattle.queue.specs.Sound.{depthRight, memoryRight}
 use Rattle.queue.specs.NoQueue.{noQueue}
 use Rattle.queue.specs.Open.{groupFits, opened, openQueue}
 use Rattle.queue.specs.Outcome.{Opens}
-use Rattle.queue.proofs.Refusals.{proper, need-proper, andThen-proper}
+use Rattle.queue.proofs.Refusals.{proper, need-proper, andThen-accepts, andThen-proper}
 use Rattle.replay.specs.declared.Prepared.{Prepared}
+use Rattle.replay.proofs.EventLaws.{events-whole}
 use Rattle.replay.proofs.Named.{named, header-named, events-named}
 use Rattle.replay.specs.Events.{unlessEnd, eventsUpTo, eventsOf, eventsFrom}
 use Rattle.replay.specs.Replay.{Start, startOf, openTrace, prepare}
-use Rattle.replay.specs.Outcome.{Prepares, unprepared, Prepared-as}
+use Rattle.replay.specs.Outcome.{headerIn, placeIn, unprepared, preparedAs}
 
 -- ---- the leading numbers: what is left is the last part of the bytes
 header-place : (s rest : List ℕ) (h : Header) → readHeader s ≡ got h rest → rest ≡ drop (placeOf s rest) s
@@ -48,16 +48,21 @@ header-shorter s rest h e =
     let (bytes, is, spelled) = only-spelled-headers s rest h e in
     omega (arith, ap length is, length-append bytes rest)
 
-pub header-got : (s : List ℕ) {h : Header} {place : ℕ} → headerAnswer s (readHeader s) ≡ Leading h place → readHeader s ≡ got h (drop place s)
+pub record HeaderGot (s : List ℕ) (h : Header) (place : ℕ) : Type 0 where
+  pub is : readHeader s ≡ got h (drop place s)
+  pub at : placeOf s (drop place s) ≡ place
+
+pub header-got : (s : List ℕ) {h : Header} {place : ℕ} → headerAnswer s (readHeader s) ≡ Leading h place → HeaderGot s h place
 header-got s {h} {place} e = go (readHeader s) refl e
   where
-    go : (g : Got Header) → readHeader s ≡ g → headerAnswer s g ≡ Leading h place → g ≡ got h (drop place s)
+    go : (g : Got Header) → readHeader s ≡ g → headerAnswer s g ≡ Leading h place → HeaderGot s h place
     go (bad n) d f = let z : _≡_ {A = ℕ} 0 1 = cc in absurd (omega arith)
     go (got h₂ rest) d f =
         let w : rest ≡ drop (placeOf s rest) s = header-place s rest h₂ d in
         let x : h₂ ≡ h = cc in
         let y : placeOf s rest ≡ place = cc in
-        cc
+        let r : rest ≡ drop place s = w ∙ ap (λ (k : ℕ). drop k s) y in
+        record { is = d ∙ cc; at = ap (placeOf s) (sym r) ∙ y }
 
 pub header-bad : (s : List ℕ) {k : ℕ} → headerAnswer s (readHeader s) ≡ NoHeader k → readHeader s ≡ bad k
 header-bad s {k} e = go (readHeader s) e
@@ -98,14 +103,14 @@ module _ (gs : List GroupPairs) (trace : List ℕ) (h : Header) (at : ℕ) where
   abbrev rule : Ruled Start
   rule = openTrace gs (got h (drop at trace))
 
-  pub prepared-refused : {n : ℕ} {r : Prepared} → opening ≡ refuse n → r ≡ unprepared n → Prepared-as gs trace rule r
+  pub prepared-refused : {n : ℕ} {r : Prepared} → opening ≡ refuse n → r ≡ unprepared n → r ≡ preparedAs h at rule
   prepared-refused e f = rw e f
 
-  pub prepared-fault : {q : Contents} {n : ℕ} {r : Prepared} → opening ≡ accept q → eventsFrom trace at ≡ bad n → r ≡ unprepared n → Prepared-as gs trace rule r
+  pub prepared-fault : {q : Contents} {n : ℕ} {r : Prepared} → opening ≡ accept q → eventsFrom trace at ≡ bad n → r ≡ unprepared n → r ≡ preparedAs h at rule
   prepared-fault e d f = rw (e, d) f
 
-  pub prepared-well : {q : Contents} {es : List Event} {count : ℕ} → opening ≡ accept q → eventsFrom trace at ≡ got es [] → count ≡ length es → Prepared-as gs trace rule (record { answer = 0; header = h; at = at; events = count })
-  prepared-well e d f = rw (e, d) (record { answer = refl; opens = e; words = refl; events = d; count = f })
+  pub prepared-well : {q : Contents} {es : List Event} {count : ℕ} → opening ≡ accept q → eventsFrom trace at ≡ got es [] → count ≡ length es → record { answer = 0; header = h; at = at; events = count } ≡ preparedAs h at rule
+  prepared-well e d f = rw (e, d, f)
 
 -- ---- no refusal is 0
 start-proper : (q : Contents) (words : ℕ) (g : Got (List Event)) → named g ≡ true → proper (startOf q words g) ≡ true
@@ -121,23 +126,51 @@ unfolding prepare
 prepare-proper gs trace = trace-proper gs (readHeader trace) (header-named trace)
 
 -- ---- what a caller learns
-pub prepare-refused : (gs : List GroupPairs) (trace : List ℕ) (r : Prepared) → Prepared-as gs trace (prepare gs trace) r → (r .answer ≡ 0 → ⊥) → prepare gs trace ≡ refuse (r .answer)
+abbrev pub handed : List ℕ → Ruled Start → Prepared
+handed trace rule = preparedAs (headerIn (readHeader trace)) (placeIn trace (readHeader trace)) rule
+
+pub prepare-refused : (gs : List GroupPairs) (trace : List ℕ) (r : Prepared) → r ≡ handed trace (prepare gs trace) → (r .answer ≡ 0 → ⊥) → prepare gs trace ≡ refuse (r .answer)
 prepare-refused gs trace r w apart = go (prepare gs trace) w
   where
-    go : (rule : Ruled Start) → Prepared-as gs trace rule r → rule ≡ refuse (r .answer)
+    go : (rule : Ruled Start) → r ≡ handed trace rule → rule ≡ refuse (r .answer)
     go (refuse n) w = ap refuse (sym (ap (λ (x : Prepared). x .answer) w))
-    go (accept s) w = absurd (apart (w .answer))
+    go (accept s) w = absurd (apart (ap (λ (x : Prepared). x .answer) w))
+
+-- the queue opens with the leading numbers, and the events stand from the place on
+pub record Prepares (gs : List GroupPairs) (trace : List ℕ) (s : Start) (r : Prepared) : Type 0 where
+  pub opens : openQueue gs (r .header .loads) (r .header .stores) (r .header .serial) (r .header .words) ≡ accept (s .queue)
+  pub words : r .header .words ≡ s .words
+  pub events : eventsFrom trace (r .at) ≡ got (s .events) []
+  pub count : r .events ≡ length (s .events)
+
+pub start-prepares : (gs : List GroupPairs) (trace : List ℕ) (s : Start) → prepare gs trace ≡ accept s → Prepares gs trace s (handed trace (accept s))
+unfolding prepare
+start-prepares gs trace s e = go (readHeader trace) refl e
+  where
+    read : (h : Header) (rest : List ℕ) (q : Contents) → readHeader trace ≡ got h rest → openQueue gs (h .loads) (h .stores) (h .serial) (h .words) ≡ accept q → (g : Got (List Event)) → eventsOf rest ≡ g → startOf q (h .words) g ≡ accept s → Prepares gs trace s (handed trace (accept s))
+    read h rest q d opens (bad n) k f = let z : _≡_ {A = ℕ} 0 1 = cc in absurd (omega arith)
+    read h rest q d opens (got es left) k f =
+        let y : s ≡ record { queue = q; words = h .words; events = es } = cc in
+        let none : left ≡ [] = events-whole (length rest) rest es left k in
+        let all : eventsFrom trace (placeOf trace rest) ≡ got es [] = ap eventsOf (sym (header-place trace rest h d)) ∙ k ∙ ap (got es) none in
+        rw (d, y) (record { opens = opens; words = refl; events = all; count = refl })
+
+    go : (g : Got Header) → readHeader trace ≡ g → openTrace gs g ≡ accept s → Prepares gs trace s (handed trace (accept s))
+    go (bad n) d f = let z : _≡_ {A = ℕ} 0 1 = cc in absurd (omega arith)
+    go (got h rest) d f =
+        let (q, opens, starts) = andThen-accepts (openQueue gs (h .loads) (h .stores) (h .serial) (h .words)) _ f in
+        read h rest q d opens (eventsOf rest) refl starts
 
 pub record Started (gs : List GroupPairs) (trace : List ℕ) (r : Prepared) : Type 0 where
   pub start : Start
   pub is : prepare gs trace ≡ accept start
   pub well : Prepares gs trace start r
 
-pub prepare-accepted : (gs : List GroupPairs) (trace : List ℕ) (r : Prepared) → Prepared-as gs trace (prepare gs trace) r → r .answer ≡ 0 → Started gs trace r
+pub prepare-accepted : (gs : List GroupPairs) (trace : List ℕ) (r : Prepared) → r ≡ handed trace (prepare gs trace) → r .answer ≡ 0 → Started gs trace r
 prepare-accepted gs trace r w nought = go (prepare gs trace) refl (prepare-proper gs trace) w
   where
-    go : (rule : Ruled Start) → prepare gs trace ≡ rule → proper rule ≡ true → Prepared-as gs trace rule r → Started gs trace r
-    go (accept s) d p w = record { start = s; is = d; well = w }
+    go : (rule : Ruled Start) → prepare gs trace ≡ rule → proper rule ≡ true → r ≡ handed trace rule → Started gs trace r
+    go (accept s) d p w = record { start = s; is = d; well = rw w (start-prepares gs trace s d) }
     go (refuse n) d p w =
         let z : eqb n 0 ≡ true = eq-eqb n 0 (sym (ap (λ (x : Prepared). x .answer) w) ∙ nought) in
         let f : false ≡ true = sym (ap not z) ∙ p in

@@ -1,22 +1,20 @@
 -- What the calls of this crate hand back.
 use Prim.Native.Nat.{ℕ, _<_}
 use mathlib.Core.Path.{_≡_}
-use mathlib.Core.List.{List, [], _++_, map}
+use mathlib.Core.List.{List, _++_, map}
 use mathlib.Core.Option.{Option}
 use lib.ListN.{length, drop}
-use Rattle.table.specs.Number.{Got, got}
-use Rattle.table.specs.Group.{GroupPairs}
+use Rattle.table.specs.Number.{Got, got, bad, placeOf}
 use Rattle.table.specs.declared.Event.{Event}
+use Rattle.table.specs.declared.Header.{Header}
 use Rattle.queue.specs.declared.Counts.{Counts}
 use Rattle.queue.specs.declared.Counted.{Counted}
 use Rattle.queue.specs.declared.Queue.{Queue}
 use Rattle.queue.specs.Ruled.{Ruled, refuse, accept}
 use Rattle.queue.specs.Contents.{Contents, contentsOf}
-use Rattle.queue.specs.Open.{openQueue}
 use Rattle.queue.specs.Records.{valueIn}
 use Rattle.replay.specs.declared.Prepared.{Prepared}
 use Rattle.replay.specs.declared.Replayed.{Replayed}
-use Rattle.replay.specs.Events.{eventsFrom}
 use Rattle.replay.specs.Playing.{Playing, playing, stepOf, played, Logged, answerOf, givenOf, wordOf}
 use Rattle.replay.specs.Replay.{Start, Replay, Buffers}
 
@@ -26,21 +24,23 @@ pub record Plays (q : Queue) (c : Counts) (memory : List ℕ) (e : Event) (r : C
   pub value : stepOf (playing (contentsOf q) memory c) e .value ≡ valueIn (r .value)
   pub next : played (playing (contentsOf q) memory c) e ≡ playing (contentsOf (r .queue)) left (r .counts)
 
--- a trace that can be played: its leading numbers, with which the queue opens, and its events, which stand from a place on
-pub record Prepares (gs : List GroupPairs) (trace : List ℕ) (s : Start) (r : Prepared) : Type 0 where
-  pub answer : r .answer ≡ 0
-  pub opens : openQueue gs (r .header .loads) (r .header .stores) (r .header .serial) (r .header .words) ≡ accept (s .queue)
-  pub words : r .header .words ≡ s .words
-  pub events : eventsFrom trace (r .at) ≡ got (s .events) []
-  pub count : r .events ≡ length (s .events)
+-- the leading numbers of a trace, and the place after them, where its events begin
+abbrev pub headerIn : Got Header → Header
+headerIn (got h rest) = h
+headerIn (bad n) = record { loads = 0; stores = 0; serial = 0; words = 0 }
 
--- a refused one: all else is 0, and means nothing
+abbrev pub placeIn : List ℕ → Got Header → ℕ
+placeIn trace (got h rest) = placeOf trace rest
+placeIn trace (bad n) = 0
+
+-- a trace that cannot be played: all but the number is 0, and means nothing
 abbrev pub unprepared : ℕ → Prepared
 unprepared n = record { answer = n; header = record { loads = 0; stores = 0; serial = 0; words = 0 }; at = 0; events = 0 }
 
-abbrev pub Prepared-as : List GroupPairs → List ℕ → Ruled Start → Prepared → Type 0
-Prepared-as gs trace (refuse n) r = r ≡ unprepared n
-Prepared-as gs trace (accept s) r = Prepares gs trace s r
+-- what making a trace ready hands back: its leading numbers, where its events begin and how many there are
+abbrev pub preparedAs : Header → ℕ → Ruled Start → Prepared
+preparedAs h at (refuse n) = unprepared n
+preparedAs h at (accept s) = record { answer = 0; header = h; at = at; events = length (s .events) }
 
 -- a list at the front of a buffer, which keeps the rest
 abbrev pub over : List ℕ → List ℕ → List ℕ

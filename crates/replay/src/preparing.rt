@@ -2,8 +2,9 @@
 ghost use mathlib.Core.Path.{_≡_};
 ghost use Rattle.table.specs.Number.{got};
 ghost use Rattle.table.specs.Table.{groupsOf};
+ghost use Rattle.table.specs.Event.{readHeader};
 ghost use Rattle.replay.specs.Replay.{prepare, openTrace};
-ghost use Rattle.replay.specs.Outcome.{unprepared, Prepared-as};
+ghost use Rattle.replay.specs.Outcome.{headerIn, placeIn, unprepared, preparedAs};
 ghost use lib.ListN.{drop};
 use crate::EventCount;
 use crate::Prepared;
@@ -15,7 +16,7 @@ use table::Table;
 use table::trace::read_header;
 
 // A trace that cannot be played.
-fn unprepared(answer: u8) -> Prepared
+pub fn unprepared(answer: u8) -> Prepared
     ensures { λ r. ⌜ r ≡ unprepared answer ⌝ }
 {
     let header = Header {
@@ -34,7 +35,7 @@ fn unprepared(answer: u8) -> Prepared
 
 // The same once the leading numbers are read; the events begin at a place.
 fn prepare_from(table: Table, trace: &[u8], header: Header, at: usize) -> Prepared
-    ensures { λ r. ⌜ Prepared-as (groupsOf table) (now (trace .entry)) (openTrace (groupsOf table) (got header (drop at (now (trace .entry))))) r ⌝ }
+    ensures { λ r. ⌜ r ≡ preparedAs header at (openTrace (groupsOf table) (got header (drop at (now (trace .entry))))) ⌝ }
 {
     let opened = Queue::open(
         table,
@@ -60,7 +61,7 @@ fn prepare_from(table: Table, trace: &[u8], header: Header, at: usize) -> Prepar
 
 // Reads a trace's leading numbers, opens the queue with them, and counts the events; or answers the first fault.
 pub fn prepare(table: Table, trace: &[u8]) -> Prepared
-    ensures { λ r. ⌜ Prepared-as (groupsOf table) (now (trace .entry)) (prepare (groupsOf table) (now (trace .entry))) r ⌝ }
+    ensures { λ r. ⌜ r ≡ preparedAs (headerIn (readHeader (now (trace .entry)))) (placeIn (now (trace .entry)) (readHeader (now (trace .entry)))) (prepare (groupsOf table) (now (trace .entry))) ⌝ }
 {
     let read = read_header(trace);
     match read {

@@ -35,7 +35,8 @@ returns : tie.Need-returns
 unfolding prepare
 returns c =
     let e = c .before .before .before .before in
-    rw (header-got (e .before .before .args .trace .now) (sym (e .read-header .ensures) ∙ c .before .before .read .given .1)) (c .prepare-from .ensures)
+    let g = header-got (e .before .before .args .trace .now) (sym (e .read-header .ensures) ∙ c .before .before .read .given .1) in
+    rw (g .is, g .at) (c .prepare-from .ensures)
 
 -- src/preparing.rt:62:1
 returns-2 : tie.Need-returns-2

@@ -1,4 +1,4 @@
--- No text is longer than `mostText`.
+-- No text is longer than `mostText`, and none is empty.
 use Prim.Native.Nat.{ℕ, _+_, _*_, _≤_, _<_}
 use mathlib.Core.Path.{_≡_, refl, sym, ap, _∙_}
 use mathlib.Core.Bool.{Bool, true, false, not}
@@ -28,7 +28,8 @@ use Rattle.queue.specs.Activate.{activate}
 use Rattle.queue.specs.Serve.{Served, serve}
 use Rattle.queue.specs.Write.{Written, loadGivesWay, storeGivesWay, write}
 use Rattle.queue.specs.Take.{Taken}
-use Rattle.queue.specs.Call.{Argument, Machine, Step, moved, served, written, taken, give, step}
+use Rattle.queue.specs.Calls.{Argument}
+use Rattle.queue.specs.Call.{Machine, Step, moved, served, written, taken, give, step}
 use Rattle.queue.specs.Take as Takes
 use Rattle.queue.proofs.Refusals.{andThen-accepts}
 use Rattle.replay.specs.Events.{eventsOf}
@@ -38,7 +39,7 @@ use Rattle.replay.proofs.EventLaws.{events-few-from}
 use Rattle.replay.proofs.PrepareLaws.{header-shorter}
 use Rattle.printed.specs.Decimal.{decimal}
 use Rattle.printed.specs.Text.{mostBytes, fileTooLong, tableFaultText, traceFaultText, noCounts, eventLines, wordLines, countsLine, playText, startText, traceText, groupsText, text}
-use Rattle.printed.specs.Outcome.{mostText, TextFits, printed}
+use Rattle.printed.specs.Outcome.{mostText, TextFits, TextSome, printed}
 use Rattle.printed.specs.Internal.{item}
 use Rattle.printed.proofs.PutLaws.{item-few}
 use Rattle.printed.proofs.LineLaws.{events-text-few, words-few, loadsSpace, forwardedSpace, shareSpace, counts-line, table-line, trace-line}
@@ -168,3 +169,30 @@ bytes-few table trace out {n} h = go (leb mostText (length out)) refl h
     go : (t : Bool) → leb mostText (length out) ≡ t → Bytes n ≡ pick {A = Wrote} t (record { answer = Bytes (length (text table trace)); buffer = text table trace ++ drop (length (text table trace)) out }) (record { answer = Unwritten tooShort; buffer = out }) .answer → n ≤ length out
     go true e f = let y : n ≡ length (text table trace) = cc in omega (arith, text-fits table trace, leb-true mostText (length out) e)
     go false e f = let z : _≡_ {A = ℕ} 0 1 = cc in absurd (omega arith)
+
+-- ---- no text is empty
+start-some : (rule : Ruled Start) → 0 < length (startText rule)
+start-some (refuse n) = omega arith
+start-some (accept s) =
+    let r = replayed s (replicate (s .words) 0) noCounts in
+    omega (arith, length-append (eventLines 1 (r .log) ++ wordLines 0 (r .left .machine .memory)) (countsLine (r .left .counts)))
+
+trace-some : (gs : List GroupPairs) (trace : List ℕ) → 0 < length (traceText gs trace)
+unfolding traceText
+trace-some gs trace = go (ltb mostBytes (length trace))
+  where
+    go : (t : Bool) → 0 < length (pick t (traceFaultText fileTooLong) (startText (prepare gs trace)))
+    go true = omega arith
+    go false = start-some (prepare gs trace)
+
+groups-some : (trace : List ℕ) (g : Got (List GroupPairs)) → 0 < length (groupsText trace g)
+groups-some trace (got gs rest) = trace-some gs trace
+groups-some trace (bad n) = omega arith
+
+pub text-some : TextSome
+unfolding text
+text-some table trace = go (ltb mostBytes (length table))
+  where
+    go : (t : Bool) → 0 < length (pick t (tableFaultText fileTooLong) (groupsText trace (readTable table)))
+    go true = omega arith
+    go false = groups-some trace (readTable table)

@@ -6,8 +6,7 @@ use mathlib.Core.List.{List, [], _∷_, _++_}
 use mathlib.Core.Option.{none, some}
 use lib.Dec.{eqb}
 use lib.ListN.{length, replicate}
-use Rattle.table.specs.Basics.{pick}
-use Rattle.table.specs.Internal.{splice}
+use Rattle.table.specs.Basics.{pick, splice}
 use Rattle.table.specs.Group.{GroupPairs}
 use Rattle.queue.specs.Ruled.{accept}
 use Rattle.replay.specs.Playing.{Logged}

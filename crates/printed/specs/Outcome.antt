@@ -1,5 +1,5 @@
 -- What printing hands back. "Here and wherever else bytes are written to a lent buffer, those beyond keep their contents."
-use Prim.Native.Nat.{ℕ, _+_, _*_, _≤_}
+use Prim.Native.Nat.{ℕ, _+_, _*_, _≤_, _<_}
 use mathlib.Core.List.{List, _++_}
 use lib.Dec.{leb}
 use lib.ListN.{length, drop}
@@ -16,6 +16,10 @@ mostText = 63 * mostBytes + 47 * 4096 + 85
 
 abbrev pub TextFits : Type 0
 TextFits = (table trace : List ℕ) → length (text table trace) ≤ mostText
+
+-- no text is empty: the last line is always there
+abbrev pub TextSome : Type 0
+TextSome = (table trace : List ℕ) → 0 < length (text table trace)
 
 -- the text at the front of a buffer that has room for every text; else 10, and nothing is written
 unfoldable pub printed : List ℕ → List ℕ → List ℕ → Wrote

@@ -9,7 +9,8 @@ use Rattle.table.specs.Basics.{pick, count, dropWhile}
 use Rattle.table.specs.Group.{GroupPairs, Access}
 use Rattle.queue.specs.Contents.{Load, Store, Contents, withLoads, withStores, updateAt}
 use Rattle.queue.specs.Write.{settle, leaving, loadFinished, storeFinished, loadAfterLeaving, storeAfterLeaving}
-use Rattle.queue.specs.Call.{Argument, Answered}
+use Rattle.queue.specs.Calls.{Argument}
+use Rattle.queue.specs.Call.{Answered}
 use Rattle.queue.specs.Plain.{gather, rowsOf, accesses}
 use Rattle.queue.specs.Demand3.{tell, told, takenAt, serveIn, writeIn}
 use Rattle.queue.proofs.Lists.{all-replace, count-append, length-updateAt, length-dropWhile}

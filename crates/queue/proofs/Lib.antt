@@ -1,4 +1,3 @@
-pub mod Examples
 pub mod Leave
 pub mod Again
 pub mod Front

@@ -8,7 +8,7 @@ use lib.Dec.{eqb}
 use lib.ListN.{getD, set}
 use Rattle.table.specs.Basics.{pick, all, nth}
 use Rattle.table.specs.Group.{Access, load, store}
-use Rattle.queue.specs.Call.{LoadAddress, StoreAddress, StoreData}
+use Rattle.queue.specs.Calls.{LoadAddress, StoreAddress, StoreData}
 use Rattle.queue.specs.Write.{storeFinished}
 use Rattle.queue.specs.Plain.{Rows, Filling, nextOf, usedUp, loadedFrom, memoryFrom, valuesAt}
 use Rattle.queue.proofs.Lists.{false-true, and-left, and-right}

@@ -17,7 +17,8 @@ use Rattle.queue.specs.Contents.{Load, Store, Contents, after, age, olde
 use Rattle.queue.specs.Sound.{sound}
 use Rattle.queue.specs.Serve.{hasAddress, nearest, serve}
 use Rattle.queue.specs.Write.{addressApart, loadGivesWay, storeGivesWay, storeFinished, write}
-use Rattle.queue.specs.Call.{Argument, LoadAddress, StoreAddress, StoreData, Machine, Answered}
+use Rattle.queue.specs.Calls.{Argument, LoadAddress, StoreAddress, StoreData}
+use Rattle.queue.specs.Call.{Machine, Answered}
 use Rattle.queue.specs.Plain.{rowsOf, accesses, consOption}
 use Rattle.queue.specs.Demand3.{told, uses, isLoad, isStore, someUnserved, someUnwritten, allArguments, wouldMove}
 use Rattle.queue.proofs.Lists.{false-true, is-none, and-left, and-right, and-both, or-left, all-left, all-middle}

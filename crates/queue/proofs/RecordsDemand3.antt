@@ -30,9 +30,12 @@ use Rattle.queue.specs.Write.{Written, write}
 use Rattle.queue.specs.Take.{Taken, take}
 use Rattle.queue.specs.Outcome.{Moves, Takes, Serves, Writes, Opens}
 use Rattle.queue.specs.ReadyOutcome.{Readies}
-use Rattle.queue.specs.Call.{Call, Activate, Give, Serve, Write, Take, Ready, Machine, Step, moved, served, written, taken, looked, give, ready, step, Answered, answers, leaves}
-use Rattle.queue.specs.Records.{valueIn, answered, Runs, done, activates, gives, serves, writes, takes, readies, machineOf, RecordsDemand3}
-use Rattle.queue.proofs.Demand3.{demand3}
+use Rattle.queue.specs.Calls.{Call, Activate, Give, Serve, Write, Take, Ready}
+use Rattle.queue.specs.Call.{Machine, Step, moved, served, written, taken, looked, give, ready, step, Answered, answers, leaves}
+use Rattle.queue.specs.Records.{valueIn, answered, Runs, done, activates, gives, serves, writes, takes, readies, machineOf, OpenedRecord, RecordsDemand3, AlikeRecords, RecordsSound}
+use Rattle.queue.specs.Demand3.{Opening}
+use Rattle.queue.proofs.ReachedSound.{reached-sound}
+use Rattle.queue.proofs.Demand3.{demand3, alike}
 
 -- what a call's contract says of its outcome is what the definitions' step gives
 record Same (s : Step) (n : ℕ) (v : Option ℕ) (q : Queue) (m : List ℕ) : Type 0 where
@@ -106,13 +109,34 @@ refused-some table loadDepth storeDepth first memory n e z =
     fault true k d = step-by (depthRight loadDepth) badLoadDepth _ (λ y. omega arith) (step-by (depthRight storeDepth) badStoreDepth _ (λ y. omega arith) (step-by (memoryRight (length memory)) badMemoryLength _ (λ y. omega arith) (step-by (all (groupFits loadDepth storeDepth) (groupsOf table)) groupTooLarge _ (λ y. omega arith) last))) d
     fault false k d = let q : tableFault (groupsOf table) ≡ n = cc in eqb-false (tableFault (groupsOf table)) 0 k (q ∙ z)
 
-pub records-demand3 : RecordsDemand3
-records-demand3 table loadDepth storeDepth first blank o memory small opens zero calls log q m run fill below =
-    rw (← a .says, ← a .ends) (demand3 (groupsOf table) memory (machineOf (o .queue) memory) (record { loadDepth = loadDepth; storeDepth = storeDepth; first = first; serial = small; accepted = it-opened (openQueue (groupsOf table) loadDepth storeDepth first (length memory)) (λ n e. refused-some table loadDepth storeDepth first memory n e) opens; lent = refl }) calls fill below)
+-- such an opening is one in the sense of demand 3
+opening : {table : Table} {memory : List ℕ} {o : Opened} → OpenedRecord table memory o → Opening (groupsOf table) memory (machineOf (o .queue) memory)
+opening {table} {memory} {o} w = record {
+  loadDepth = w .loadDepth;
+  storeDepth = w .storeDepth;
+  first = w .first;
+  serial = w .serial;
+  accepted = go (openQueue (groupsOf table) (w .loadDepth) (w .storeDepth) (w .first) (length memory)) (λ n e. refused-some table (w .loadDepth) (w .storeDepth) (w .first) memory n e) (w .opens);
+  lent = refl;
+}
   where
-    a : Agrees (machineOf (o .queue) memory) calls log (machineOf q m)
-    a = runs-agree run
+    go : (rule : Ruled Contents) → ((n : ℕ) → rule ≡ refuse n → n ≡ 0 → ⊥) → Opens (w .refused) rule o → rule ≡ accept (contentsOf (o .queue))
+    go (refuse n) apart e = absurd (apart n refl (sym (ap (λ (x : Opened). x .answer) e) ∙ w .accepted))
+    go (accept c) apart e = ap accept (sym (e .1))
 
-    it-opened : (rule : Ruled Contents) → ((n : ℕ) → rule ≡ refuse n → n ≡ 0 → ⊥) → Opens blank rule o → rule ≡ accept (contentsOf (o .queue))
-    it-opened (refuse n) apart e = absurd (apart n refl (sym (ap (λ (x : Opened). x .answer) e) ∙ zero))
-    it-opened (accept c) apart e = ap accept (sym (e .1))
+pub records-demand3 : RecordsDemand3
+records-demand3 table memory o w calls log q left run fill below =
+    let a = runs-agree run in
+    rw (← a .says, ← a .ends) (demand3 (groupsOf table) memory (machineOf (o .queue) memory) (opening w) calls fill below)
+
+pub alike-records : AlikeRecords
+alike-records table memory o₁ o₂ w₁ w₂ calls₁ calls₂ log₁ log₂ q₁ q₂ left₁ left₂ run₁ run₂ =
+    let a = runs-agree run₁ in
+    let b = runs-agree run₂ in
+    rw (← a .says, ← b .says) (alike (groupsOf table) memory (machineOf (o₁ .queue) memory) (machineOf (o₂ .queue) memory) (opening w₁) (opening w₂) calls₁ calls₂)
+
+pub records-sound : RecordsSound
+records-sound table memory o w calls log q left run =
+    let a = runs-agree run in
+    let e : contentsOf q ≡ leaves (machineOf (o .queue) memory) calls .queue = ap (λ (m : Machine). m .queue) (sym (a .ends)) in
+    rw e (reached-sound (groupsOf table) memory (machineOf (o .queue) memory) (opening w) calls)

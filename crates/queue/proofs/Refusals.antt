@@ -16,7 +16,8 @@ use Rattle.queue.specs.Arguments.{isLoadPort, isStorePort, loadLacksAddr
 use Rattle.queue.specs.Serve.{hasAddress, nearest, storesBefore, serve, sourceOf}
 use Rattle.queue.specs.Write.{loadGivesWay, storeGivesWay, write}
 use Rattle.queue.specs.Take.{untaken, take}
-use Rattle.queue.specs.Call.{Argument, LoadAddress, StoreAddress, StoreData, give}
+use Rattle.queue.specs.Calls.{Argument, LoadAddress, StoreAddress, StoreData}
+use Rattle.queue.specs.Call.{give}
 use Rattle.queue.proofs.Lists.{false-true}
 
 module _ {A : Type 0} where

@@ -12,7 +12,7 @@ use borrow.Author.Tests.{eqb-true, eqb-false, eq-eqb, ne-eqb}
 use Rattle.table.specs.Basics.{pick, all, count}
 use Rattle.queue.specs.Ruled.{isSome}
 use Rattle.queue.specs.Contents.{Load, Store}
-use Rattle.queue.specs.Call.{Argument, LoadAddress, StoreAddress, StoreData}
+use Rattle.queue.specs.Calls.{Argument, LoadAddress, StoreAddress, StoreData}
 use Rattle.queue.specs.Plain.{Rows, nextOf, tail, usedUp}
 use Rattle.queue.proofs.Lists.{false-true, and-left, and-right, and-both}
 use Rattle.queue.specs.Plain.{consOption}

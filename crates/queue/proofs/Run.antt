@@ -18,7 +18,8 @@ use Rattle.queue.specs.Activate.{activate}
 use Rattle.queue.specs.Serve.{Served, serve}
 use Rattle.queue.specs.Write.{Written, write}
 use Rattle.queue.specs.Take.{Taken, take}
-use Rattle.queue.specs.Call.{Call, Activate, Give, Serve, Write, Take, Ready, Machine, Step, Answered, moved, served, written, taken, give, ready, step, answers, leaves}
+use Rattle.queue.specs.Calls.{Call, Activate, Give, Serve, Write, Take, Ready}
+use Rattle.queue.specs.Call.{Machine, Step, Answered, moved, served, written, taken, give, ready, step, answers, leaves}
 use Rattle.queue.specs.Demand3.{Opening}
 use Rattle.queue.proofs.Refusals.{refusal-not-zero, need-accepts, activate-proper, give-proper, serve-proper, write-proper, take-proper}
 use Rattle.queue.proofs.State.{Limits, State, seen-refused, seen-ready}

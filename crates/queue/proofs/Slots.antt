@@ -8,7 +8,7 @@ use lib.Dec.{eqb}
 use Rattle.queue.specs.Ruled.{isSome}
 use Rattle.queue.specs.Contents.{Load}
 use Rattle.queue.specs.Arguments.{loadWithAddress, storeWithAddress, storeWithWord}
-use Rattle.queue.specs.Call.{Argument, LoadAddress, StoreAddress, StoreData}
+use Rattle.queue.specs.Calls.{Argument, LoadAddress, StoreAddress, StoreData}
 use Rattle.queue.specs.Plain.{sameKind}
 use Rattle.queue.proofs.Log.{Entry, ofLoad, ofStore, Kind, loads, stores}
 use Rattle.queue.proofs.Rows.{given, valueTaken, cellFor}

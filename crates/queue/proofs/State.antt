@@ -14,7 +14,8 @@ use Rattle.table.specs.Table.{tableFault}
 use Rattle.queue.specs.Ruled.{isSome}
 use Rattle.queue.specs.Contents.{Load, Store, Contents}
 use Rattle.queue.specs.Sound.{depthRight, memoryRight, addressRight}
-use Rattle.queue.specs.Call.{Argument, Call, Side, Ready, Machine, Answered}
+use Rattle.queue.specs.Calls.{Argument, Call, Side, Ready}
+use Rattle.queue.specs.Call.{Machine, Answered}
 use Rattle.queue.specs.Plain.{Told, consOption, gather, groupIn, givenIn, rowsOf, accessesOf, inOrder, accesses}
 use Rattle.queue.specs.Demand3.{tell, told, takeOf, takenAt, serveIn, writeIn}
 use Rattle.queue.proofs.Lists.{and-left, and-right, implies}

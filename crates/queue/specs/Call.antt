@@ -4,7 +4,7 @@
 use Prim.Native.Nat.{ℕ}
 use mathlib.Core.List.{List, [], _∷_}
 use mathlib.Core.Option.{Option, none, some}
-use Rattle.queue.specs.declared.Counts.{Counts}
+use Rattle.queue.specs.Calls.{Argument, LoadAddress, StoreAddress, StoreData, Side, LoadSide, StoreSide, Call, Activate, Give, Serve, Write, Take, Ready}
 use Rattle.queue.specs.Ruled.{Ruled, refuse, accept, number}
 use Rattle.queue.specs.Contents.{Contents}
 use Rattle.queue.specs.Activate.{activate}
@@ -13,23 +13,6 @@ use Rattle.queue.specs.Serve.{Served, serve}
 use Rattle.queue.specs.Write.{Written, write}
 use Rattle.queue.specs.Take.{Taken, take}
 use Rattle.queue.specs.Ready.{readyLoads, readyStores}
-
--- the three kinds of argument, and the two sides
-pub data Argument : Type 0 where
-  LoadAddress StoreAddress StoreData : Argument
-
-pub data Side : Type 0 where
-  LoadSide StoreSide : Side
-
--- activate a group; give an argument to a port; serve with these counts, or write, a serial; take from a port; ready with
--- this run of numbers
-pub data Call : Type 0 where
-  Activate : ℕ → Call
-  Give : Argument → ℕ → ℕ → Call
-  Serve : Counts → ℕ → Call
-  Write : ℕ → Call
-  Take : ℕ → Call
-  Ready : Side → List ℕ → Call
 
 -- a queue and the memory that is lent to its calls
 pub record Machine : Type 0 where

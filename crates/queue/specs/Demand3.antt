@@ -21,7 +21,8 @@ use Rattle.queue.specs.Sound.{sound}
 use Rattle.queue.specs.Open.{openQueue}
 use Rattle.queue.specs.Serve.{serve}
 use Rattle.queue.specs.Write.{write}
-use Rattle.queue.specs.Call.{Argument, LoadAddress, StoreAddress, StoreData, Call, Activate, Give, Serve, Write, Take, Ready, Machine, Answered, answers, leaves}
+use Rattle.queue.specs.Calls.{Argument, LoadAddress, StoreAddress, StoreData, Call, Activate, Give, Serve, Write, Take, Ready}
+use Rattle.queue.specs.Call.{Machine, Answered, answers, leaves}
 use Rattle.queue.specs.Plain.{Told, Filling, gather, groupIn, rowsOf, accesses, consOption, plainLoads, plainMemory}
 
 -- which calls were answered 0: all that the plain run is told of the answers

@@ -16,6 +16,7 @@ pub mod Outcome
 pub mod ServeLent
 pub mod ReadyOutcome
 pub mod ReadyExact
+pub mod Calls
 pub mod Call
 pub mod Plain
 pub mod Demand3

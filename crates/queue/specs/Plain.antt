@@ -8,7 +8,7 @@ use lib.Dec.{eqb}
 use lib.ListN.{getD, set}
 use Rattle.table.specs.Basics.{pick, nth}
 use Rattle.table.specs.Group.{GroupPairs, Access, load, store, order}
-use Rattle.queue.specs.Call.{Argument, LoadAddress, StoreAddress, StoreData, Call, Activate, Give, Serve, Write, Take, Ready}
+use Rattle.queue.specs.Calls.{Argument, LoadAddress, StoreAddress, StoreData, Call, Activate, Give, Serve, Write, Take, Ready}
 
 -- a call, and whether it was answered 0
 pub record Told : Type 0 where

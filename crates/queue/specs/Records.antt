@@ -3,9 +3,11 @@
 -- runs; demand 3 holds of every one of them. The proof is proofs/RecordsDemand3.antt.
 use Prim.Native.Nat.{ℕ, _<_, _^_}
 use mathlib.Core.Path.{_≡_}
+use mathlib.Core.Bool.{true}
 use mathlib.Core.List.{List, [], _∷_}
 use mathlib.Core.Option.{Option, none, some}
 use lib.ListN.{length}
+use Rattle.table.specs.Basics.{nth}
 use Rattle.table.specs.declared.Table.{Table}
 use Rattle.table.specs.Table.{groupsOf}
 use Rattle.queue.specs.declared.Value.{Value}
@@ -24,9 +26,11 @@ use Rattle.queue.specs.Write.{write}
 use Rattle.queue.specs.Take.{take}
 use Rattle.queue.specs.Outcome.{Moves, Takes, Serves, Writes, Opens}
 use Rattle.queue.specs.ReadyOutcome.{Readies}
-use Rattle.queue.specs.Call.{Argument, Side, Call, Activate, Give, Serve, Write, Take, Ready, give, ready, Machine, Answered}
+use Rattle.queue.specs.Calls.{Argument, Side, Call, Activate, Give, Serve, Write, Take, Ready}
+use Rattle.queue.specs.Call.{give, ready, Machine, Answered}
 use Rattle.queue.specs.Plain.{Filling}
-use Rattle.queue.specs.Demand3.{Sequential}
+use Rattle.queue.specs.Sound.{sound}
+use Rattle.queue.specs.Demand3.{told, takenAt, Sequential, Alike}
 
 abbrev pub valueIn : Value → Option ℕ
 valueIn (Word w) = some w
@@ -49,11 +53,33 @@ pub data Runs : Queue → List ℕ → List Call → List Answered → Queue →
 abbrev pub machineOf : Queue → List ℕ → Machine
 machineOf q m = record { queue = contentsOf q; memory = m }
 
--- DEMAND 3, of records: an accepted opening for memories of this length, any memory of that length, any run of calls from there.
+-- the beginning of such a run: an accepted opening of the table for memories of this length
+pub record OpenedRecord (table : Table) (memory : List ℕ) (o : Opened) : Type 0 where
+  pub loadDepth : ℕ
+  pub storeDepth : ℕ
+  pub first : ℕ
+  pub serial : first < 2 ^ 32
+  pub refused : Queue
+  pub opens : Opens refused (openQueue (groupsOf table) loadDepth storeDepth first (length memory)) o
+  pub accepted : o .answer ≡ 0
+
+-- DEMAND 3, of records: an accepted opening, any memory of the length opened for, any run of calls from there.
 abbrev pub RecordsDemand3 : Type 0
 RecordsDemand3 =
-    (table : Table) (loadDepth storeDepth first : ℕ) (refused : Queue) (o : Opened) (memory : List ℕ) →
-    first < 2 ^ 32 → Opens refused (openQueue (groupsOf table) loadDepth storeDepth first (length memory)) o → o .answer ≡ 0 →
-    (calls : List Call) (log : List Answered) (q : Queue) (m : List ℕ) → Runs (o .queue) memory calls log q m →
+    (table : Table) (memory : List ℕ) (o : Opened) → OpenedRecord table memory o →
+    (calls : List Call) (log : List Answered) (q : Queue) (left : List ℕ) → Runs (o .queue) memory calls log q left →
     (fill : Filling) → ((k : ℕ) → fill .address k < length memory) →
-    Sequential (groupsOf table) memory log (machineOf q m) fill
+    Sequential (groupsOf table) memory log (machineOf q left) fill
+
+-- The corollary for two lists, of records; and no record that is handed back is refused for what it holds.
+abbrev pub AlikeRecords : Type 0
+AlikeRecords =
+    (table : Table) (memory : List ℕ) (o₁ o₂ : Opened) → OpenedRecord table memory o₁ → OpenedRecord table memory o₂ →
+    (calls₁ calls₂ : List Call) (log₁ log₂ : List Answered) (q₁ q₂ : Queue) (left₁ left₂ : List ℕ) →
+    Runs (o₁ .queue) memory calls₁ log₁ q₁ left₁ → Runs (o₂ .queue) memory calls₂ log₂ q₂ left₂ → Alike (told log₁) (told log₂) →
+    (port n v w : ℕ) → nth (takenAt port log₁) n ≡ some v → nth (takenAt port log₂) n ≡ some w → v ≡ w
+
+abbrev pub RecordsSound : Type 0
+RecordsSound =
+    (table : Table) (memory : List ℕ) (o : Opened) → OpenedRecord table memory o →
+    (calls : List Call) (log : List Answered) (q : Queue) (left : List ℕ) → Runs (o .queue) memory calls log q left → sound (contentsOf q) ≡ true

@@ -11,10 +11,10 @@ use lib.Seq.{length-take-le, take-suc-set, drop-set-lt, take-at, drop-at, drop-a
 use borrow.Author.Tests.{lt-ltb, le-ltb, lt-leb, le-leb}
 use lib.Dec.{ltb}
 use Rattle.table.specs.declared.Written.the-variants.{Bytes, Unwritten}
-use Rattle.table.specs.Basics.{pick}
+use Rattle.table.specs.Basics.{pick, splice}
 use Rattle.table.specs.Refusal.{tooShort}
 use Rattle.table.specs.Number.{bytesUpTo, numberBytes, bytesOf, Wrote, wrote}
-use Rattle.table.specs.Internal.{splice, numberBound}
+use Rattle.table.specs.Internal.{numberBound}
 use Rattle.table.proofs.NumberLaws.{bound-most}
 
 pub splice-none : (d : List ℕ) (p : ℕ) → splice d p [] ≡ d

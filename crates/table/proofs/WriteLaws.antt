@@ -13,12 +13,12 @@ use lib.Seq.{take-suc, take-all}
 use Rattle.table.specs.declared.Pair.{Pair}
 use Rattle.table.specs.declared.Group.{Group}
 use Rattle.table.specs.declared.Table.{Table}
-use Rattle.table.specs.Basics.{flat, within, check, orElse}
+use Rattle.table.specs.Basics.{flat, within, check, orElse, splice}
 use Rattle.table.specs.Refusal.{badGroupCount, badCounts}
 use Rattle.table.specs.Group.{GroupPairs, listOf, pairsOf, blankPair}
 use Rattle.table.specs.Table.{blankGroup, groupsOf, countsRight, Seen, noneSeen, seenAfter, groupFault, groupsFault, tableFault}
 use Rattle.table.specs.TableBytes.{pairNumbers, groupNumbers, tableNumbers}
-use Rattle.table.specs.Internal.{splice, GroupFits, TableFits}
+use Rattle.table.specs.Internal.{GroupFits, TableFits}
 use Rattle.table.proofs.CheckLaws.{held-length, counts-few, and-right, groups-size, group-at}
 use Rattle.table.specs.Number.{numberBytes, bytesOf}
 use Rattle.table.proofs.SpliceLaws.{bytes-append, Put, put-more}

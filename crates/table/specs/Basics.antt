@@ -1,10 +1,10 @@
 -- Words that the definitions are written with. Every one of them computes on closed arguments.
-use Prim.Native.Nat.{ℕ, zero, suc, _-_}
+use Prim.Native.Nat.{ℕ, zero, suc, _+_, _-_}
 use mathlib.Core.Bool.{Bool, true, false, _&&_, _||_}
 use mathlib.Core.List.{List, [], _∷_, _++_}
 use mathlib.Core.Option.{Option, none, some}
 use lib.Dec.{eqb, leb}
-use lib.ListN.{length, take, replicate}
+use lib.ListN.{length, take, drop, replicate}
 
 -- a where the test holds, else b
 abbrev pub pick : {A : Type 0} → Bool → A → A → A
@@ -66,3 +66,7 @@ check test number rest = pick test rest number
 -- the first refusal of two: the second only where the first is 0
 abbrev pub orElse : ℕ → ℕ → ℕ
 orElse n rest = pick (eqb n 0) rest n
+
+-- a buffer with the bytes at a place
+abbrev pub splice : List ℕ → ℕ → List ℕ → List ℕ
+splice buffer place bytes = take place buffer ++ bytes ++ drop (place + length bytes) buffer

@@ -2,7 +2,7 @@
 use Prim.Native.Nat.{ℕ, zero, suc, _+_, _*_, _≤_, _<_}
 use mathlib.Core.Path.{_≡_}
 use mathlib.Core.Bool.{Bool, true}
-use mathlib.Core.List.{List, [], _∷_, _++_}
+use mathlib.Core.List.{List, [], _∷_}
 use lib.ListN.{length, getD, take, drop}
 use Rattle.table.specs.declared.Pair.{Pair}
 use Rattle.table.specs.declared.Group.{Group}
@@ -23,10 +23,6 @@ use Rattle.table.specs.Table.{blankGroup, loadRule, storeRule, pairsFaul
 use Rattle.table.specs.declared.NumberRead.{NumberRead}
 use Rattle.table.specs.declared.trace.Numbers.{Numbers}
 use Rattle.table.specs.declared.NumberRead.the-variants.{Number, Refused}
-
--- a buffer with the bytes at a place
-abbrev pub splice : List ℕ → ℕ → List ℕ → List ℕ
-splice buffer place bytes = take place buffer ++ bytes ++ drop (place + length bytes) buffer
 
 -- numbers of one byte and up to `more` after it, the last of which is at most 0F, are below this
 abbrev pub numberBound : ℕ → ℕ

@@ -2,12 +2,12 @@
 ghost use mathlib.Core.Path.{_≡_};
 ghost use Prim.Native.Nat.{_+_, _≤_};
 ghost use lib.ListN.{length};
-ghost use Rattle.table.specs.Basics.{flat};
+ghost use Rattle.table.specs.Basics.{flat, splice};
 ghost use Rattle.table.specs.Number.{bytesOf};
 ghost use Rattle.table.specs.Group.{listOf, pairsOf};
 ghost use Rattle.table.specs.Table.{groupsOf};
 ghost use Rattle.table.specs.TableBytes.{pairNumbers, groupNumbers, tableNumbers, wroteTable};
-ghost use Rattle.table.specs.Internal.{splice, GroupFits, TableFits};
+ghost use Rattle.table.specs.Internal.{GroupFits, TableFits};
 use crate::Group;
 use crate::Pairs;
 use crate::Table;

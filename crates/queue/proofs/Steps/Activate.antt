@@ -15,7 +15,8 @@ use Rattle.queue.specs.Ruled.{accept}
 use Rattle.queue.specs.Contents.{Contents}
 use Rattle.queue.specs.Sound.{sound}
 use Rattle.queue.specs.Activate.{newLoads, newStores, room, withGroup, activate}
-use Rattle.queue.specs.Call.{Argument, LoadAddress, StoreAddress, StoreData, Activate, Machine, Answered}
+use Rattle.queue.specs.Calls.{Argument, LoadAddress, StoreAddress, StoreData, Activate}
+use Rattle.queue.specs.Call.{Machine, Answered}
 use Rattle.queue.specs.Plain.{rowsOf}
 use Rattle.queue.specs.Demand3.{told, takenAt}
 use Rattle.queue.proofs.Lists.{and-left, and-right, all-join, count-append}

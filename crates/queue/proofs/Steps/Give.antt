@@ -14,7 +14,8 @@ use Rattle.queue.specs.Ruled.{accept, isSome}
 use Rattle.queue.specs.Contents.{Load, Store, Contents, withLoads, withStores, updateAt, firstPlace}
 use Rattle.queue.specs.Sound.{sound}
 use Rattle.queue.specs.Arguments.{isLoadPort, isStorePort, loadLacksAddress, storeLacksAddress, storeLacksWord, loadWithAddress, storeWithAddress, storeWithWord, loadAddress, storeAddress, storeData}
-use Rattle.queue.specs.Call.{Argument, LoadAddress, StoreAddress, StoreData, Give, give, Machine, Answered}
+use Rattle.queue.specs.Calls.{Argument, LoadAddress, StoreAddress, StoreData, Give}
+use Rattle.queue.specs.Call.{give, Machine, Answered}
 use Rattle.queue.specs.Plain.{consOption, sameKind, rowsOf}
 use Rattle.queue.specs.Demand3.{told, takenAt}
 use Rattle.queue.proofs.Lists.{is-none, and-left, and-right, and-both, or-right, implies, implied, all-left, all-middle, all-weaken, any-first, first-passes, first-before}

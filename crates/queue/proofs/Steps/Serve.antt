@@ -13,7 +13,8 @@ use Rattle.queue.specs.Ruled.{accept, have, isSome}
 use Rattle.queue.specs.Contents.{Load, Store, Contents, withLoads, updateAt, loadPlace}
 use Rattle.queue.specs.Sound.{sound, addressRight}
 use Rattle.queue.specs.Serve.{Served, Source, hasAddress, supplies, nearest, sourceOf, storesBefore, loadWithValue, serve}
-use Rattle.queue.specs.Call.{Argument, LoadAddress, StoreAddress, StoreData, Serve, Machine, Answered}
+use Rattle.queue.specs.Calls.{Argument, LoadAddress, StoreAddress, StoreData, Serve}
+use Rattle.queue.specs.Call.{Machine, Answered}
 use Rattle.queue.specs.Plain.{rowsOf}
 use Rattle.queue.specs.Demand3.{told, takenAt}
 use Rattle.queue.specs.declared.Counts.{Counts}

@@ -15,7 +15,8 @@ use Rattle.queue.specs.Sound.{sound}
 use Rattle.queue.specs.Arguments.{isLoadPort}
 use Rattle.queue.specs.Write.{settle}
 use Rattle.queue.specs.Take.{Taken, untaken, loadTaken, take}
-use Rattle.queue.specs.Call.{Argument, LoadAddress, StoreAddress, StoreData, Take, Machine, Answered}
+use Rattle.queue.specs.Calls.{Argument, LoadAddress, StoreAddress, StoreData, Take}
+use Rattle.queue.specs.Call.{Machine, Answered}
 use Rattle.queue.specs.Plain.{rowsOf}
 use Rattle.queue.specs.Demand3.{told, takenAt}
 use Rattle.queue.proofs.Lists.{false-true, and-left, and-right, and-both, implies, all-left, all-middle, all-weaken₂, first-passes, first-before}

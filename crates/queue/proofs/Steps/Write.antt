@@ -13,7 +13,8 @@ use Rattle.queue.specs.Ruled.{accept, isSome}
 use Rattle.queue.specs.Contents.{Store, Contents, withStores, updateAt, storePlace}
 use Rattle.queue.specs.Sound.{sound}
 use Rattle.queue.specs.Write.{Written, addressApart, loadGivesWay, storeGivesWay, storeDone, settle, write}
-use Rattle.queue.specs.Call.{Argument, LoadAddress, StoreAddress, StoreData, Write, Machine, Answered}
+use Rattle.queue.specs.Calls.{Argument, LoadAddress, StoreAddress, StoreData, Write}
+use Rattle.queue.specs.Call.{Machine, Answered}
 use Rattle.queue.specs.Plain.{rowsOf}
 use Rattle.queue.specs.Demand3.{told, takenAt}
 use Rattle.queue.proofs.Lists.{and-both, or-left, implied, all-left, all-middle}

@@ -74,9 +74,9 @@ pub(crate) fn offset_right(rule: Rule, low: u32, i: u32, offset: u32) -> bool
     offset <= rule.stores as u32
 }
 
-// A pair's first fault, or 0.
-pub(crate) fn pair_fault(right: bool, seen: [bool; 32], port: u32) -> u8
-    ensures { λ r. ⌜ r ≡ pairFault right seen port ⌝ }
+// A pair's first fault, or 0. The marks are lent: a copy for each pair would cost more than the test.
+pub(crate) fn pair_fault(right: bool, seen: &[bool; 32], port: u32) -> u8
+    ensures { λ r. ⌜ r ≡ pairFault right (now (seen .entry)) port ⌝ }
 {
     if !right {
         return BAD_OFFSET;
@@ -105,7 +105,7 @@ fn check_pairs(rule: Rule, pairs: Pairs, seen: [bool; 32]) -> Checked
         let port = pair.port as u32;
         let offset = pair.offset as u32;
         let right = offset_right(rule, low, i as u32, offset);
-        let answer = pair_fault(right, marks, port);
+        let answer = pair_fault(right, &marks, port);
         if answer != 0 {
             return Checked {
                 answer,

@@ -135,7 +135,7 @@ fn read_pairs(bytes: &[u8], at: usize, count: u32, rule: Rule, seen: [bool; 32])
             };
         };
         let right = offset_right(rule, low, i, offset);
-        let answer = pair_fault(right, marks, port);
+        let answer = pair_fault(right, &marks, port);
         if answer != 0 {
             return PairsRead {
                 answer,

@@ -34,15 +34,15 @@ inside : (c : tie.In-loop Inv-loop μ-loop) → c .before .loop .i < length (lis
 inside c = omega (arith, size (c .before .before), c .loop-test .taken)
 
 -- its fault, as the two calls found it
-fault : (c : tie.After-pair-fault Inv-loop μ-loop) → c .pair-fault .result ≡ pairFault (ruleOf (c .before .before .before .before .before .before .before .args .rule) (c .before .before .before .before .before .before .loop .low) (c .before .before .before .before .before .before .loop .i) (getD (c .before .before .before .before .before .before .before .args .t2 .places) (c .before .before .before .before .before .before .loop .i) blankPair .offset)) (c .before .before .before .before .before .before .loop .marks) (getD (c .before .before .before .before .before .before .before .args .t2 .places) (c .before .before .before .before .before .before .loop .i) blankPair .port)
-fault c = c .pair-fault .ensures ∙ rw (c .before .offset-right .ensures)
+fault : (c : tie.After-pair-fault Inv-loop μ-loop) → c .pair-fault .result ≡ pairFault (ruleOf (c .before .before .before .before .before .before .before .before .args .rule) (c .before .before .before .before .before .before .before .loop .low) (c .before .before .before .before .before .before .before .loop .i) (getD (c .before .before .before .before .before .before .before .before .args .t2 .places) (c .before .before .before .before .before .before .before .loop .i) blankPair .offset)) (c .before .before .before .before .before .before .before .loop .marks) (getD (c .before .before .before .before .before .before .before .before .args .t2 .places) (c .before .before .before .before .before .before .before .loop .i) blankPair .port)
+fault c = c .pair-fault .ensures ∙ rw (c .before .before .offset-right .ensures)
 
-no-fault : (c : tie.Else1 Inv-loop μ-loop) → pairFault (ruleOf (c .before .before .before .before .before .before .before .before .args .rule) (c .before .before .before .before .before .before .before .loop .low) (c .before .before .before .before .before .before .before .loop .i) (getD (c .before .before .before .before .before .before .before .before .args .t2 .places) (c .before .before .before .before .before .before .before .loop .i) blankPair .offset)) (c .before .before .before .before .before .before .before .loop .marks) (getD (c .before .before .before .before .before .before .before .before .args .t2 .places) (c .before .before .before .before .before .before .before .loop .i) blankPair .port) ≡ 0
+no-fault : (c : tie.Else1 Inv-loop μ-loop) → pairFault (ruleOf (c .before .before .before .before .before .before .before .before .before .args .rule) (c .before .before .before .before .before .before .before .before .loop .low) (c .before .before .before .before .before .before .before .before .loop .i) (getD (c .before .before .before .before .before .before .before .before .before .args .t2 .places) (c .before .before .before .before .before .before .before .before .loop .i) blankPair .offset)) (c .before .before .before .before .before .before .before .before .loop .marks) (getD (c .before .before .before .before .before .before .before .before .before .args .t2 .places) (c .before .before .before .before .before .before .before .before .loop .i) blankPair .port) ≡ 0
 no-fault c = sym (fault (c .before)) ∙ c .if1 .left
 
-port-low : (c : tie.Else1 Inv-loop μ-loop) → getD (c .before .before .before .before .before .before .before .before .args .t2 .places) (c .before .before .before .before .before .before .before .loop .i) blankPair .port ≤ 31
+port-low : (c : tie.Else1 Inv-loop μ-loop) → getD (c .before .before .before .before .before .before .before .before .before .args .t2 .places) (c .before .before .before .before .before .before .before .before .loop .i) blankPair .port ≤ 31
 port-low c =
-    let l = c .before .before .before .before .before .before .before in
+    let l = c .before .before .before .before .before .before .before .before in
     let p = getD (l .before .args .t2 .places) (l .loop .i) blankPair in
     fault-none (ruleOf (l .before .args .rule) (l .loop .low) (l .loop .i) (p .offset)) (l .loop .marks) (p .port) (no-fault c) .1
 
@@ -75,7 +75,7 @@ pair-fault-requires c κs = search needs
 
 returns : tie.Need-returns Inv-loop μ-loop
 returns c =
-    let l = c .before .before .before .before .before .before in
+    let l = c .before .before .before .before .before .before .before in
     record {
       answer = checking-stop (l .before .loop .inv .1) (inside l) (this l) (fault (c .before)) (c .if1 .taken);
       marks = λ z. absurd (c .if1 .taken z);
@@ -95,7 +95,7 @@ loop-less c = omega arith
 
 loop-again : tie.Need-loop-again Inv-loop μ-loop
 loop-again c =
-    let l = c .before .before .before .before .before .before in
+    let l = c .before .before .before .before .before .before .before in
     (omega arith, checking-more (l .before .loop .inv .1) (inside l) (this l) (no-fault c))
 
 returns-2 : tie.Need-returns-2 Inv-loop μ-loop

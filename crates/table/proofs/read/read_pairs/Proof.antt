@@ -53,21 +53,21 @@ pair-fault-requires c κs = search needs
 two : (c : tie.After-read Inv-loop μ-loop) → TwoGot (c .before .before .before .before .before .before .before .args .bytes .now) (c .before .before .before .before .loop .place) (c .read .given .0 .0) (c .read .given .0 .1 .0) (c .read .given .0 .1 .1 .0)
 two c = two-answer _ _ (sym (c .read .given .1) ∙ c .before .before .read-two .ensures)
 
-fault : (c : tie.After-pair-fault Inv-loop μ-loop) → c .pair-fault .result ≡ pairFault (ruleOf (c .before .before .before .before .before .before .before .before .before .before .args .rule) (c .before .before .before .before .before .before .before .loop .low) (c .before .before .before .before .before .before .before .loop .i) (c .before .before .before .read .given .0 .0)) (c .before .before .before .before .before .before .before .loop .marks) (c .before .before .before .read .given .0 .1 .0)
-fault c = c .pair-fault .ensures ∙ rw (c .before .offset-right .ensures)
+fault : (c : tie.After-pair-fault Inv-loop μ-loop) → c .pair-fault .result ≡ pairFault (ruleOf (c .before .before .before .before .before .before .before .before .before .before .before .args .rule) (c .before .before .before .before .before .before .before .before .loop .low) (c .before .before .before .before .before .before .before .before .loop .i) (c .before .before .before .before .read .given .0 .0)) (c .before .before .before .before .before .before .before .before .loop .marks) (c .before .before .before .before .read .given .0 .1 .0)
+fault c = c .pair-fault .ensures ∙ rw (c .before .before .offset-right .ensures)
 
 returns-2 : tie.Need-returns-2 Inv-loop μ-loop
 returns-2 c =
-    let g = c .before .before .before .before in
+    let g = c .before .before .before .before .before in
     let l = g .before .before .before in
     pairs-refused (reading-fault (l .before .loop .inv .1) (l .loop-test .taken) (two g) (fault (c .before)) (c .if1 .taken)) refl (c .if1 .taken)
 
-no-fault : (c : tie.Else1 Inv-loop μ-loop) → pairFault (ruleOf (c .before .before .before .before .before .before .before .before .before .before .before .args .rule) (c .before .before .before .before .before .before .before .before .loop .low) (c .before .before .before .before .before .before .before .before .loop .i) (c .before .before .before .before .read .given .0 .0)) (c .before .before .before .before .before .before .before .before .loop .marks) (c .before .before .before .before .read .given .0 .1 .0) ≡ 0
+no-fault : (c : tie.Else1 Inv-loop μ-loop) → pairFault (ruleOf (c .before .before .before .before .before .before .before .before .before .before .before .before .args .rule) (c .before .before .before .before .before .before .before .before .before .loop .low) (c .before .before .before .before .before .before .before .before .before .loop .i) (c .before .before .before .before .before .read .given .0 .0)) (c .before .before .before .before .before .before .before .before .before .loop .marks) (c .before .before .before .before .before .read .given .0 .1 .0) ≡ 0
 no-fault c = sym (fault (c .before)) ∙ c .if1 .left
 
-small : (c : tie.Else1 Inv-loop μ-loop) → (c .before .before .before .before .read .given .0 .0 ≤ 16) × (c .before .before .before .before .read .given .0 .1 .0 ≤ 31)
+small : (c : tie.Else1 Inv-loop μ-loop) → (c .before .before .before .before .before .read .given .0 .0 ≤ 16) × (c .before .before .before .before .before .read .given .0 .1 .0 ≤ 31)
 small c =
-    let g = c .before .before .before .before in
+    let g = c .before .before .before .before .before in
     let l = g .before .before .before .before in
     let f = fault-none (ruleOf (l .before .before .before .args .rule) (l .loop .low) (l .loop .i) (g .read .given .0 .0)) (l .loop .marks) (g .read .given .0 .1 .0) (no-fault c) in
     (rule-small (l .before .before .before .args .rule) (l .loop .low) (l .loop .i) (g .read .given .0 .0) (l .before .before .before .pre .2) (f .0), f .1)
@@ -101,7 +101,7 @@ loop-less c = omega arith
 
 loop-again : tie.Need-loop-again Inv-loop μ-loop
 loop-again c =
-    let g = c .before .before .before .before in
+    let g = c .before .before .before .before .before in
     let l = g .before .before .before in
     (omega arith, reading-more (l .before .loop .inv .1) (l .loop-test .taken) (two g) (l .before .before .before .before .pre .0) (no-fault c))
 

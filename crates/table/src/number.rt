@@ -78,10 +78,19 @@ fn read_up_to(bytes: &[u8], at: usize, more: u32) -> NumberRead
     }
 }
 
-// Reads the number at a place.
+// Reads the number at a place. Most numbers of a trace take one byte, so that case comes first.
 pub fn read_number(bytes: &[u8], at: usize) -> NumberRead
     ensures { λ r. ⌜ r ≡ numberAnswer (now (bytes .entry)) (readNumber (drop at (now (bytes .entry)))) ⌝ }
 {
+    if at < bytes.len() {
+        let low = bytes[at] as u32;
+        if low < 128 {
+            return NumberRead::Number {
+                value: low,
+                next: at + 1,
+            };
+        }
+    }
     read_up_to(bytes, at, 4)
 }
 

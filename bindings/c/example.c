@@ -26,12 +26,12 @@ static const uint8_t trace[] = {
     0x06, 0x00,                                     /* take */
 };
 
-static void print_event(size_t number, uint8_t answer, uint64_t value)
+static void print_event(size_t number, uint8_t answer, uint8_t given, uint32_t value)
 {
-    if (value == LSQ_NO_VALUE)
-        printf("%zu %u -\n", number, answer);
+    if (given)
+        printf("%zu %u %" PRIu32 "\n", number, answer, value);
     else
-        printf("%zu %u %" PRIu64 "\n", number, answer, value);
+        printf("%zu %u -\n", number, answer);
 }
 
 int main(void)
@@ -41,25 +41,27 @@ int main(void)
         fprintf(stderr, "refused: %" PRIu32 "\n", fault);
         return 1;
     }
-    size_t events = lsq_event_count(trace, sizeof trace);
-    size_t words = lsq_memory_length(trace, sizeof trace);
+    size_t events = lsq_event_count(table, sizeof table, trace, sizeof trace);
+    size_t words = lsq_memory_length(table, sizeof table, trace, sizeof trace);
     uint32_t *memory = calloc(words, sizeof *memory);
     uint8_t *answers = calloc(events + 1, sizeof *answers);
-    uint64_t *values = calloc(events + 1, sizeof *values);
+    uint8_t *given = calloc(events + 1, sizeof *given);
+    uint32_t *values = calloc(events + 1, sizeof *values);
     uint32_t counts[2] = {0, 0};
-    if (memory == NULL || answers == NULL || values == NULL)
+    if (memory == NULL || answers == NULL || given == NULL || values == NULL)
         return 1;
-    fault = lsq_replay(table, sizeof table, trace, sizeof trace, memory, words,
-                       counts, 2, answers, events, values, events);
+    fault = lsq_replay(table, sizeof table, trace, sizeof trace, memory, words, counts, 2,
+                       answers, events, given, events, values, events);
     for (size_t i = 0; i < events; i++)
-        print_event(i + 1, answers[i], values[i]);
+        print_event(i + 1, answers[i], given[i], values[i]);
     uint64_t share = lsq_share(counts[0], counts[1]);
     printf("word 3 %" PRIu32 "\n", memory[3]);
     printf("loads %" PRIu32 " forwarded %" PRIu32 " share %" PRIu64 "\n", counts[0], counts[1], share);
     int right = fault == 0 && events == 12 && answers[4] == LSQ_EARLIER_STORE_ADDRESS
-        && values[9] == 1 && memory[3] == 1 && share == 500;
+        && given[9] == 1 && values[9] == 1 && memory[3] == 1 && share == 500;
     free(memory);
     free(answers);
+    free(given);
     free(values);
     return right ? 0 : 1;
 }

@@ -21,11 +21,8 @@
 extern "C" {
 #endif
 
-/* Stands among the values of a replay for "no value"; no word reaches it. */
-#define LSQ_NO_VALUE UINT64_C(4294967296)
-
-/* The least length of the text buffer of lsq_text. */
-#define LSQ_TEXT_BYTES 524288
+/* The least length of the text buffer of lsq_text: no text is longer. */
+#define LSQ_TEXT_BYTES 1224789
 
 /* Answers of the functions below, and of a replay's events. */
 enum lsq_answer {
@@ -70,30 +67,34 @@ uint32_t lsq_table_fault(const uint8_t *table, size_t table_len);
 uint32_t lsq_trace_fault(const uint8_t *table, size_t table_len,
                          const uint8_t *trace, size_t trace_len);
 
-/* How many events follow the leading numbers; 0 where the trace cannot be
- * read. */
-uint64_t lsq_event_count(const uint8_t *trace, size_t trace_len);
+/* How many events the trace has: the length that a replay's buffers need. 0
+ * where lsq_trace_fault is not 0. */
+uint64_t lsq_event_count(const uint8_t *table, size_t table_len,
+                         const uint8_t *trace, size_t trace_len);
 
-/* The fourth leading number, or 0. */
-uint32_t lsq_memory_length(const uint8_t *trace, size_t trace_len);
+/* The memory length that the trace asks for, in words. 0 where
+ * lsq_trace_fault is not 0. */
+uint32_t lsq_memory_length(const uint8_t *table, size_t table_len,
+                           const uint8_t *trace, size_t trace_len);
 
 /* Plays every event of the trace from a fresh opening, on the memory and the
  * counts (counts[0] loads, counts[1] forwarded) as lent.
  *
- * Answers first the fault that lsq_trace_fault gives; then 30 where memory_len
- * is not the fourth leading number; then 10 where counts_len is below 2, or
- * answers_len or values_len is below the number of events. Everything lent
- * then keeps its contents.
+ * Answers, in this order: the fault that lsq_table_fault gives; 10 where
+ * counts_len is below 2; the fault that lsq_trace_fault gives; 30 where
+ * memory_len is not lsq_memory_length; 10 where answers_len, given_len or
+ * values_len is below lsq_event_count. Everything lent then keeps its contents.
  *
- * Else 0: answers[i] is the answer of event i, and values[i] the value of an
- * accepted serve or take, or LSQ_NO_VALUE. The rest of answers, values and
- * counts keeps its contents. */
+ * Else 0: answers[i] is the answer of event i; given[i] is 1 where the event
+ * gave a value (an accepted serve or take), else 0; values[i] is that value, or
+ * 0. The rest of the buffers and of counts keeps its contents. */
 uint32_t lsq_replay(const uint8_t *table, size_t table_len,
                     const uint8_t *trace, size_t trace_len,
                     uint32_t *memory, size_t memory_len,
                     uint32_t *counts, size_t counts_len,
                     uint8_t *answers, size_t answers_len,
-                    uint64_t *values, size_t values_len);
+                    uint8_t *given, size_t given_len,
+                    uint32_t *values, size_t values_len);
 
 /* Thousandths of the loads that were forwarded, to the nearest, half going up;
  * 0 for no loads. */

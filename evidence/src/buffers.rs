@@ -62,8 +62,10 @@ pub struct Buffers {
     pub counts: Guarded<u32>,
     /// The answers.
     pub answers: Guarded<u8>,
+    /// Whether a value was given.
+    pub given: Guarded<u8>,
     /// The values.
-    pub values: Guarded<u64>,
+    pub values: Guarded<u32>,
 }
 
 /// The lengths of what is lent.
@@ -75,6 +77,8 @@ pub struct Lengths {
     pub counts: usize,
     /// Places of answers.
     pub answers: usize,
+    /// Places of given.
+    pub given: usize,
     /// Places of values.
     pub values: usize,
 }
@@ -86,11 +90,13 @@ impl Buffers {
         let memory = Guarded::new(lengths.memory, || any_word(rng));
         let counts = Guarded::new(lengths.counts, || any_count(rng));
         let answers = Guarded::new(lengths.answers, || rng.word() as u8);
-        let values = Guarded::new(lengths.values, || rng.bits());
+        let given = Guarded::new(lengths.given, || rng.word() as u8);
+        let values = Guarded::new(lengths.values, || rng.word());
         Self {
             memory,
             counts,
             answers,
+            given,
             values,
         }
     }
@@ -101,6 +107,7 @@ impl Buffers {
             memory: self.memory.lend(),
             counts: self.counts.lend(),
             answers: self.answers.lend(),
+            given: self.given.lend(),
             values: self.values.lend(),
         }
     }
@@ -111,6 +118,7 @@ impl Buffers {
             memory: self.memory.lend(),
             counts: self.counts.lend(),
             answers: self.answers.lend(),
+            given: self.given.lend(),
             values: self.values.lend(),
         }
     }

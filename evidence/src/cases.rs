@@ -1,11 +1,11 @@
 //! Cases from seeds: a table's and a trace's bytes, and what is lent to play
 //! them.
 
-use lsq_ref::event::{Event, Header};
+use lsq_ref::event::{read_header, Event, Header};
 use lsq_ref::gen::{self, Lean, Scenario};
 use lsq_ref::number::write_numbers;
 use lsq_ref::play::MAX_FILE;
-use lsq_ref::replay::{event_count, memory_length};
+use lsq_ref::replay::{event_count, trace_fault};
 use lsq_ref::rng::Rng;
 use lsq_ref::Table;
 
@@ -112,9 +112,16 @@ impl Case {
         let kind = kind_of(seed);
         let mut rng = Rng::new(seed);
         let (table, trace) = bytes(&mut rng, kind);
-        let mut lengths = right_lengths(&mut rng, &trace);
-        if kind == Lengths || rng.chance(1, 40) {
-            spoil_lengths(&mut rng, &mut lengths, event_count(&trace) as usize);
+        let faulty = trace_fault(&table, &trace) != 0;
+        // Behind a fault the order of checking is at stake.
+        let seldom = if faulty { 4 } else { 40 };
+        let events = match faulty {
+            true => trace.len() / 2,
+            false => event_count(&table, &trace) as usize,
+        };
+        let mut lengths = right_lengths(&mut rng, &trace, events);
+        if kind == Lengths || rng.chance(1, seldom) {
+            spoil_lengths(&mut rng, &mut lengths, events);
         }
         Self {
             seed,
@@ -442,15 +449,15 @@ fn any_bytes(rng: &mut Rng) -> Vec<u8> {
     (0..count).map(|_| byte(rng)).collect()
 }
 
-/// Lengths that a replay accepts, mostly the least ones. Where the trace can't
-/// be read or opened any will do.
-fn right_lengths(rng: &mut Rng, trace: &[u8]) -> Lengths {
-    let events = event_count(trace) as usize;
+/// Lengths that a replay of so many events accepts, mostly the least ones.
+fn right_lengths(rng: &mut Rng, trace: &[u8], events: usize) -> Lengths {
+    let words = read_header(trace).map_or(9, |(header, _)| header.memory_length);
     let more = |rng: &mut Rng| rng.pick(&[0, 0, 0, 1, 2, 40]);
     Lengths {
-        memory: memory_length(trace).min(5_000) as usize,
+        memory: words.min(5_000) as usize,
         counts: 2 + rng.pick(&[0, 0, 1, 2]),
         answers: events + more(rng),
+        given: events + more(rng),
         values: events + more(rng),
     }
 }
@@ -459,16 +466,19 @@ fn right_lengths(rng: &mut Rng, trace: &[u8]) -> Lengths {
 fn spoil_lengths(rng: &mut Rng, lengths: &mut Lengths, events: usize) {
     let memory = lengths.memory;
     let others = [memory + 1, memory.saturating_sub(1), 0, 4_096];
-    match rng.below(6) {
+    let fewer = [events.saturating_sub(1), events / 2];
+    match rng.below(7) {
         0 | 1 => lengths.memory = rng.pick(&others),
         2 => lengths.counts = rng.pick(&[0, 1]),
-        3 => lengths.answers = rng.pick(&[events.saturating_sub(1), events / 2]),
-        4 => lengths.values = rng.pick(&[events.saturating_sub(1), events / 2]),
+        3 => lengths.answers = rng.pick(&fewer),
+        4 => lengths.given = rng.pick(&fewer),
+        5 => lengths.values = rng.pick(&fewer),
         _ => {
             *lengths = Lengths {
                 memory: rng.pick(&others),
                 counts: rng.below(3),
                 answers: 0,
+                given: 0,
                 values: 0,
             }
         }

@@ -61,10 +61,12 @@ impl<'a, S: Subject> Comparer<'a, S> {
         let expected = u32::from(replay::trace_fault(table, trace));
         let found = subject.trace_fault(table, trace);
         same("lsq_trace_fault", expected, found)?;
-        let expected = replay::event_count(trace);
-        same("lsq_event_count", expected, subject.event_count(trace))?;
-        let expected = replay::memory_length(trace);
-        same("lsq_memory_length", expected, subject.memory_length(trace))
+        let expected = replay::event_count(table, trace);
+        let found = subject.event_count(table, trace);
+        same("lsq_event_count", expected, found)?;
+        let expected = replay::memory_length(table, trace);
+        let found = subject.memory_length(table, trace);
+        same("lsq_memory_length", expected, found)
     }
 
     /// Compares the faults alone on damaged copies of the bytes.
@@ -160,7 +162,7 @@ pub fn wrapper(case: &Case) -> Result<(), Difference> {
     let mut found = case.buffers.clone();
     let result = lsq::replay(table, trace, found.lend_to_wrapper());
     let outcome = match played {
-        Ok(()) => Ok(replay::event_count(trace) as usize),
+        Ok(()) => Ok(replay::event_count(table, trace) as usize),
         Err(30 | 10) => Err(wrong_length(case)),
         Err(refusal) => Err(Error::Refused(refusal.into())),
     };
@@ -170,12 +172,14 @@ pub fn wrapper(case: &Case) -> Result<(), Difference> {
 
 /// The wrong length that the wrapper names first.
 fn wrong_length(case: &Case) -> Error {
-    let events = replay::event_count(&case.trace) as usize;
-    let words = replay::memory_length(&case.trace) as usize;
+    let Case { table, trace, .. } = case;
+    let events = replay::event_count(table, trace) as usize;
+    let words = replay::memory_length(table, trace) as usize;
     let Buffers {
         memory,
         counts,
         answers,
+        given,
         values,
     } = &case.buffers;
     let error = |buffer, lent, needed| Error::Length {
@@ -183,14 +187,17 @@ fn wrong_length(case: &Case) -> Error {
         lent,
         needed,
     };
-    if memory.length() != words {
-        return error(Buffer::Memory, memory.length(), words);
-    }
     if counts.length() < 2 {
         return error(Buffer::Counts, counts.length(), 2);
     }
+    if memory.length() != words {
+        return error(Buffer::Memory, memory.length(), words);
+    }
     if answers.length() < events {
         return error(Buffer::Answers, answers.length(), events);
+    }
+    if given.length() < events {
+        return error(Buffer::Given, given.length(), events);
     }
     error(Buffer::Values, values.length(), events)
 }
@@ -220,6 +227,7 @@ fn same_shown<T: PartialEq + Debug>(what: &str, expected: &T, found: &T) -> Resu
 
 fn same_buffers(what: &str, expected: &Buffers, found: &Buffers) -> Result<(), Difference> {
     same_run(what, "answers", &expected.answers, &found.answers)?;
+    same_run(what, "given", &expected.given, &found.given)?;
     same_run(what, "values", &expected.values, &found.values)?;
     same_run(what, "memory", &expected.memory, &found.memory)?;
     same_run(what, "counts", &expected.counts, &found.counts)

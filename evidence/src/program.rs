@@ -12,10 +12,50 @@ use lsq_ref::rng::Rng;
 use crate::cases::Case;
 use crate::compare::Difference;
 
-/// Two files, either of which may be missing.
+/// What stands where the program looks for a file.
+#[derive(Clone)]
+enum Found {
+    /// Nothing.
+    Missing,
+    /// A folder, which opens and can't be read.
+    Folder,
+    /// A link to nothing.
+    DeadLink,
+    /// A file.
+    Bytes(Vec<u8>),
+}
+
+impl Found {
+    /// "A file that can't be opened counts as empty."
+    fn bytes(&self) -> Option<&[u8]> {
+        match self {
+            Self::Bytes(bytes) => Some(bytes),
+            Self::Missing | Self::Folder | Self::DeadLink => None,
+        }
+    }
+
+    fn put(&self, place: &Path) -> io::Result<()> {
+        match self {
+            Self::Missing => Ok(()),
+            Self::Folder => fs::create_dir(place),
+            Self::DeadLink => std::os::unix::fs::symlink("nowhere", place),
+            Self::Bytes(bytes) => fs::write(place, bytes),
+        }
+    }
+
+    fn named(&self) -> String {
+        match self {
+            Self::Missing => "none".into(),
+            Self::Folder => "a folder".into(),
+            Self::DeadLink => "a dead link".into(),
+            Self::Bytes(bytes) => format!("{} bytes", bytes.len()),
+        }
+    }
+}
+
 struct Files {
-    table: Option<Vec<u8>>,
-    trace: Option<Vec<u8>>,
+    table: Found,
+    trace: Found,
 }
 
 /// `target/bin/play` of the repository, or the program that LSQ_PLAY names, if
@@ -28,57 +68,77 @@ pub fn built() -> Option<PathBuf> {
     program.is_file().then_some(program)
 }
 
-/// Runs the program on the files of some cases and on files of special
-/// lengths, and gives the number of runs.
+/// Runs the program on files of special lengths, and on the files of some
+/// cases as they are and damaged; gives the number of runs.
 ///
 /// # Errors
 /// The first difference, or what kept the program from running.
 pub fn compare(program: &Path, seed: u64, cases: u64) -> Result<usize, Difference> {
     let folder = env::temp_dir().join(format!("lsq-play-{}", std::process::id()));
-    let mut pairs = special(seed);
-    pairs.extend((seed..seed + cases).map(pair));
-    let compared = pairs
+    let special = special(seed);
+    let mut runs = special.len();
+    let mut compared = special
         .iter()
         .try_for_each(|files| compare_one(program, &folder, files));
-    let removed = fs::remove_dir_all(&folder);
-    compared?;
-    removed.map_err(|error| Difference(format!("{}: {error}", folder.display())))?;
-    Ok(pairs.len())
+    for case in (seed..seed + cases).map(Case::new) {
+        let pairs = [whole(&case), damaged(&case)];
+        runs += pairs.len();
+        let each = |files| compare_one(program, &folder, files);
+        compared = compared.and_then(|()| pairs.iter().try_for_each(each));
+    }
+    if compared.is_ok() {
+        // The last pair stays where there is a difference.
+        let removed = fs::remove_dir_all(&folder);
+        removed.map_err(|error| Difference(format!("{}: {error}", folder.display())))?;
+    }
+    compared.map(|()| runs)
 }
 
-fn pair(seed: u64) -> Files {
-    let Case { table, trace, .. } = Case::new(seed);
+fn whole(case: &Case) -> Files {
     Files {
-        table: Some(table),
-        trace: Some(trace),
+        table: Found::Bytes(case.table.clone()),
+        trace: Found::Bytes(case.trace.clone()),
     }
 }
 
-/// Every pair of a table and a trace that are missing, empty, right, as long
-/// as a file may be, and one byte longer.
+/// The case with its table damaged, or its trace, or both.
+fn damaged(case: &Case) -> Files {
+    let mut rng = Rng::new(!case.seed);
+    let (mut table, mut trace) = (case.table.clone(), case.trace.clone());
+    let which = rng.below(4);
+    if which != 1 {
+        gen::damage(&mut rng, &mut trace);
+    }
+    if which < 2 {
+        gen::damage(&mut rng, &mut table);
+    }
+    Files {
+        table: Found::Bytes(table),
+        trace: Found::Bytes(trace),
+    }
+}
+
+/// Every pair of a table and a trace that are missing, a folder, a dead link,
+/// empty, right, as long as a file may be, one byte longer, and far longer.
 fn special(seed: u64) -> Vec<Files> {
     let (table, trace) = gen::Scenario::of_length(&mut Rng::new(seed), 40).bytes();
-    let tables = [
-        None,
-        Some(Vec::new()),
-        Some(table.clone()),
-        Some(with_zeros(&table, MAX_FILE)),
-        Some(with_zeros(&table, MAX_FILE + 1)),
-    ];
-    let traces = [
-        None,
-        Some(Vec::new()),
-        Some(trace.clone()),
-        Some(with_takes(&trace, MAX_FILE)),
-        Some(with_takes(&trace, MAX_FILE + 1)),
-    ];
-    let with_each_trace = |table: &Option<Vec<u8>>| {
-        let table = table.clone();
-        let files = |trace| Files {
+    let none = [Found::Missing, Found::Folder, Found::DeadLink];
+    let lengths = [MAX_FILE - 1, MAX_FILE, MAX_FILE + 1, 100 * MAX_FILE];
+    let bytes = |file: &[u8], lengthened: &dyn Fn(usize) -> Vec<u8>| {
+        let mut found = none.to_vec();
+        found.extend([Found::Bytes(Vec::new()), Found::Bytes(file.to_vec())]);
+        found.extend(lengths.map(|length| Found::Bytes(lengthened(length))));
+        found
+    };
+    let mut tables = bytes(&table, &|length| with_zeros(&table, length));
+    tables.push(Found::Bytes(padded(&table)));
+    let traces = bytes(&trace, &|length| with_takes(&trace, length));
+    let with_each_trace = |table: &Found| {
+        let files = |trace: &Found| Files {
             table: table.clone(),
-            trace,
+            trace: trace.clone(),
         };
-        traces.clone().map(files)
+        traces.iter().map(files).collect::<Vec<_>>()
     };
     tables.iter().flat_map(with_each_trace).collect()
 }
@@ -87,6 +147,11 @@ fn with_zeros(bytes: &[u8], length: usize) -> Vec<u8> {
     let mut bytes = bytes.to_vec();
     bytes.resize(length, 0);
     bytes
+}
+
+/// The table with its first number, 2, in five bytes.
+fn padded(table: &[u8]) -> Vec<u8> {
+    [&[0x82, 0x80, 0x80, 0x80, 0x00], &table[1..]].concat()
 }
 
 /// 06 00 and 06 80 00 are takes, so a right trace stays one.
@@ -105,15 +170,15 @@ fn compare_one(program: &Path, folder: &Path, files: &Files) -> Result<(), Diffe
     let Files { table, trace } = files;
     let printed = run(program, folder, files);
     let printed = printed.map_err(|error| Difference(format!("running play: {error}")))?;
-    let expected = play(table.as_deref(), trace.as_deref());
+    let expected = play(table.bytes(), trace.bytes());
     if printed == expected.as_bytes() {
         return Ok(());
     }
-    let length = |file: &Option<Vec<u8>>| file.as_ref().map_or(0, Vec::len);
     Err(Difference(format!(
-        "play on a table of {} and a trace of {} bytes: reference {:?}.., program {:?}..",
-        length(table),
-        length(trace),
+        "play on a table ({}) and a trace ({}), kept in {}: reference {:?}.., program {:?}..",
+        table.named(),
+        trace.named(),
+        folder.display(),
         expected.chars().take(60).collect::<String>(),
         String::from_utf8_lossy(&printed)
             .chars()
@@ -127,10 +192,8 @@ fn run(program: &Path, folder: &Path, files: &Files) -> io::Result<Vec<u8>> {
     let _ = fs::remove_dir_all(folder);
     fs::create_dir_all(folder)?;
     let named = [("table.bin", &files.table), ("trace.bin", &files.trace)];
-    for (name, bytes) in named {
-        if let Some(bytes) = bytes {
-            fs::write(folder.join(OsStr::new(name)), bytes)?;
-        }
+    for (name, found) in named {
+        found.put(&folder.join(OsStr::new(name)))?;
     }
     let output = Command::new(program).current_dir(folder).output()?;
     if !output.status.success() {

@@ -10,9 +10,9 @@ pub trait Subject {
     /// `lsq_trace_fault`.
     fn trace_fault(&self, table: &[u8], trace: &[u8]) -> u32;
     /// `lsq_event_count`.
-    fn event_count(&self, trace: &[u8]) -> u64;
+    fn event_count(&self, table: &[u8], trace: &[u8]) -> u64;
     /// `lsq_memory_length`.
-    fn memory_length(&self, trace: &[u8]) -> u32;
+    fn memory_length(&self, table: &[u8], trace: &[u8]) -> u32;
     /// `lsq_replay`.
     fn replay(&self, table: &[u8], trace: &[u8], lent: Lent) -> u32;
     /// `lsq_share`.
@@ -33,12 +33,12 @@ impl Subject for Library {
         direct::trace_fault(table, trace)
     }
 
-    fn event_count(&self, trace: &[u8]) -> u64 {
-        direct::event_count(trace)
+    fn event_count(&self, table: &[u8], trace: &[u8]) -> u64 {
+        direct::event_count(table, trace)
     }
 
-    fn memory_length(&self, trace: &[u8]) -> u32 {
-        direct::memory_length(trace)
+    fn memory_length(&self, table: &[u8], trace: &[u8]) -> u32 {
+        direct::memory_length(table, trace)
     }
 
     fn replay(&self, table: &[u8], trace: &[u8], lent: Lent) -> u32 {
@@ -46,9 +46,17 @@ impl Subject for Library {
             memory,
             counts,
             answers,
+            given,
             values,
         } = lent;
-        direct::replay(table, trace, memory, counts, answers, values)
+        let lent = lsq::Lent {
+            memory,
+            counts,
+            answers,
+            given,
+            values,
+        };
+        direct::replay(table, trace, lent)
     }
 
     fn share(&self, loads: u32, forwarded: u32) -> u64 {

@@ -5,7 +5,7 @@ use std::fmt;
 
 use lsq_ref::event::{read_header, Event};
 use lsq_ref::queue::MAX_DEPTH;
-use lsq_ref::replay::event_count;
+use lsq_ref::replay::{event_count, trace_fault};
 use lsq_ref::{Queue, Table};
 
 use crate::buffers::Buffers;
@@ -18,7 +18,9 @@ const OPENING: &str = "opening";
 const EVENT: &str = "reading an event";
 const MEMORY: &str = "lent memory";
 const COUNTS: &str = "lent counts";
+const COUNTS_FIRST: &str = "lent counts, before a fault of the trace";
 const ANSWERS: &str = "lent answers";
+const GIVEN: &str = "lent given";
 const VALUES: &str = "lent values";
 const ACTIVATE: &str = "activate";
 const LOAD_ADDRESS: &str = "load address";
@@ -31,14 +33,16 @@ const TEXT_TABLE: &str = "text, table";
 const TEXT_TRACE: &str = "text, trace";
 
 /// The places in which each number can occur; a run that leaves one out fails.
-const CAN_OCCUR: [(&str, &[u8]); 17] = [
+const CAN_OCCUR: [(&str, &[u8]); 19] = [
     (TABLE, &[1, 2, 3, 4, 5, 6, 7, 8, 9]),
     (LEADING, &[1, 2]),
     (OPENING, &[11, 12, 13, 14]),
     (EVENT, &[1, 2, 35]),
     (MEMORY, &[30]),
     (COUNTS, &[10]),
+    (COUNTS_FIRST, &[10]),
     (ANSWERS, &[10]),
+    (GIVEN, &[10]),
     (VALUES, &[10]),
     (ACTIVATE, &[0, 20, 21]),
     (LOAD_ADDRESS, &[0, 22, 23, 24]),
@@ -182,7 +186,7 @@ impl Tally {
         let (loads, stores) = read_header(&case.trace).map_or((0, 0), |(header, _)| {
             (header.load_depth, header.store_depth)
         });
-        let events = event_count(&case.trace);
+        let events = event_count(&case.table, &case.trace);
         let counts = &left.counts.run()[..2];
         self.reach(&[
             (events >= 10_000, LONG),
@@ -248,12 +252,19 @@ fn refused_for(case: &Case, answer: u8) -> &'static str {
 
 /// The first lent buffer that is too short.
 fn short_buffer(case: &Case) -> &'static str {
-    let events = event_count(&case.trace) as usize;
+    let Case { table, trace, .. } = case;
+    let events = event_count(table, trace) as usize;
     if case.buffers.counts.length() < 2 {
-        return COUNTS;
+        return match trace_fault(table, trace) {
+            0 => COUNTS,
+            _ => COUNTS_FIRST,
+        };
     }
     if case.buffers.answers.length() < events {
         return ANSWERS;
+    }
+    if case.buffers.given.length() < events {
+        return GIVEN;
     }
     VALUES
 }

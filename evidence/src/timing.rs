@@ -33,7 +33,8 @@ pub struct Run {
     memory: Vec<u32>,
     counts: [u32; 2],
     answers: Vec<u8>,
-    values: Vec<u64>,
+    given: Vec<u8>,
+    values: Vec<u32>,
 }
 
 impl Run {
@@ -44,6 +45,7 @@ impl Run {
             memory: vec![0; workload.memory_length],
             counts: [0; 2],
             answers: vec![0; workload.calls],
+            given: vec![0; workload.calls],
             values: vec![0; workload.calls],
         }
     }
@@ -58,14 +60,7 @@ impl Run {
         // Counts that reach the last number would stop, and cost less.
         self.counts = [0; 2];
         let answer = match implementation {
-            Implementation::Proved => direct::replay(
-                table,
-                trace,
-                &mut self.memory,
-                &mut self.counts,
-                &mut self.answers,
-                &mut self.values,
-            ),
+            Implementation::Proved => direct::replay(table, trace, self.lend_to_library()),
             Implementation::Checked => refusal(replay::<true>(table, trace, self.lend())),
             Implementation::Unchecked => refusal(replay::<false>(table, trace, self.lend())),
         };
@@ -78,6 +73,17 @@ impl Run {
             memory: &mut self.memory,
             counts: &mut self.counts,
             answers: &mut self.answers,
+            given: &mut self.given,
+            values: &mut self.values,
+        }
+    }
+
+    fn lend_to_library(&mut self) -> lsq::Lent<'_> {
+        lsq::Lent {
+            memory: &mut self.memory,
+            counts: &mut self.counts,
+            answers: &mut self.answers,
+            given: &mut self.given,
             values: &mut self.values,
         }
     }

@@ -54,11 +54,13 @@ impl Workload {
         let mut memory = vec![0; self.memory_length];
         let mut counts = [0; 2];
         let mut answers = vec![0; self.calls];
+        let mut given = vec![0; self.calls];
         let mut values = vec![0; self.calls];
         let lent = Lent {
             memory: &mut memory,
             counts: &mut counts,
             answers: &mut answers,
+            given: &mut given,
             values: &mut values,
         };
         let mut held = [0; 2];

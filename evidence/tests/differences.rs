@@ -11,7 +11,7 @@ use lsq_ref::play::play;
 use lsq_ref::replay::{self, Lent};
 use lsq_ref::Counts;
 
-const TEXT_BYTES: usize = 524_288;
+const TEXT_BYTES: usize = 1_224_789;
 
 /// What a subject does wrong.
 #[derive(Clone, Copy, Debug, PartialEq, Eq)]
@@ -22,11 +22,14 @@ enum Fault {
     EventCount,
     MemoryLength,
     ReplayAnswer,
+    CountsLast,
     Answer,
+    Given,
     Value,
     Word,
     Count,
     AnswerBehind,
+    GivenBehind,
     ValueBehind,
     CountBehind,
     WordWhenRefused,
@@ -39,17 +42,20 @@ enum Fault {
 
 use Fault::*;
 
-const FAULTS: [Fault; 18] = [
+const FAULTS: [Fault; 21] = [
     WrongTable,
     WrongTrace,
     EventCount,
     MemoryLength,
     ReplayAnswer,
+    CountsLast,
     Answer,
+    Given,
     Value,
     Word,
     Count,
     AnswerBehind,
+    GivenBehind,
     ValueBehind,
     CountBehind,
     WordWhenRefused,
@@ -84,10 +90,14 @@ impl Broken {
             memory,
             counts,
             answers,
+            given,
             values,
         } = lent;
         if self.does(Answer, events > 300) {
             answers[300] ^= 1;
+        }
+        if self.does(Given, events > 300) {
+            given[300] ^= 1;
         }
         if self.does(Value, events > 300) {
             values[300] ^= 1;
@@ -100,6 +110,9 @@ impl Broken {
         }
         if self.does(AnswerBehind, answers.len() > events) {
             answers[events] ^= 1;
+        }
+        if self.does(GivenBehind, given.len() > events) {
+            given[events] ^= 1;
         }
         if self.does(ValueBehind, values.len() > events) {
             values[events] ^= 1;
@@ -121,13 +134,13 @@ impl Subject for Broken {
         fault + u32::from(self.does(WrongTrace, fault == 12))
     }
 
-    fn event_count(&self, trace: &[u8]) -> u64 {
-        let count = replay::event_count(trace);
+    fn event_count(&self, table: &[u8], trace: &[u8]) -> u64 {
+        let count = replay::event_count(table, trace);
         count + u64::from(self.does(EventCount, count > 1_000))
     }
 
-    fn memory_length(&self, trace: &[u8]) -> u32 {
-        let length = replay::memory_length(trace);
+    fn memory_length(&self, table: &[u8], trace: &[u8]) -> u32 {
+        let length = replay::memory_length(table, trace);
         length + u32::from(self.does(MemoryLength, length == 0))
     }
 
@@ -136,21 +149,28 @@ impl Subject for Broken {
             memory,
             counts,
             answers,
+            given,
             values,
         } = lent;
         let again = Lent {
             memory: &mut *memory,
             counts: &mut *counts,
             answers: &mut *answers,
+            given: &mut *given,
             values: &mut *values,
         };
         let refused = replay::replay::<true>(table, trace, again).err();
+        let fault = u32::from(replay::trace_fault(table, trace));
+        if self.does(CountsLast, refused == Some(10) && fault != 0) {
+            return fault;
+        }
         if refused.is_none() {
-            let events = replay::event_count(trace) as usize;
+            let events = replay::event_count(table, trace) as usize;
             let lent = Lent {
                 memory,
                 counts,
                 answers,
+                given,
                 values,
             };
             self.spoil_played(lent, events);

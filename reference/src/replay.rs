@@ -7,9 +7,6 @@ use crate::queue::LoadStoreQueue;
 use crate::refusal;
 use crate::table::Table;
 
-/// Stands in the values for "no value"; no word reaches it.
-pub const NO_VALUE: u64 = 1 << 32;
-
 /// What a replay is lent.
 #[derive(Debug)]
 pub struct Lent<'a> {
@@ -19,8 +16,10 @@ pub struct Lent<'a> {
     pub counts: &'a mut [u32],
     /// A place or more for each event.
     pub answers: &'a mut [u8],
-    /// A place or more for each event.
-    pub values: &'a mut [u64],
+    /// A place or more for each event: 1 where it gave a value, else 0.
+    pub given: &'a mut [u8],
+    /// A place or more for each event: the value, or 0.
+    pub values: &'a mut [u32],
 }
 
 /// 0 where the bytes spell a right table, else 1 to 9.
@@ -37,27 +36,25 @@ pub fn trace_fault(table: &[u8], trace: &[u8]) -> u8 {
     opened.err().unwrap_or(refusal::ACCEPTED)
 }
 
-/// How many events follow the leading numbers; 0 where some number of the
-/// trace can't be read.
+/// How many events the trace has; 0 where [`trace_fault`] is not 0.
 #[must_use]
-pub fn event_count(trace: &[u8]) -> u64 {
-    let counted = read_header(trace).and_then(|(_, at)| count_events(trace, at));
-    counted.unwrap_or(0) as u64
+pub fn event_count(table: &[u8], trace: &[u8]) -> u64 {
+    open::<true>(table, trace).map_or(0, |opened| opened.count as u64)
 }
 
-/// The fourth leading number, or 0 where it can't be read.
+/// The memory length that the trace asks for; 0 where [`trace_fault`] is not 0.
 #[must_use]
-pub fn memory_length(trace: &[u8]) -> u32 {
-    read_header(trace).map_or(0, |(header, _)| header.memory_length)
+pub fn memory_length(table: &[u8], trace: &[u8]) -> u32 {
+    open::<true>(table, trace).map_or(0, |opened| opened.queue.memory_length)
 }
 
-/// Plays every event of the trace from a fresh opening. Answers and values
-/// stand at the front of their buffers, [`NO_VALUE`] for no value.
+/// Plays every event of the trace from a fresh opening. Answers, whether a
+/// value was given, and values stand at the front of their buffers.
 ///
 /// # Errors
-/// Those of [`trace_fault`]; 30 where the lent memory has another length than
-/// the trace says; 10 where counts, answers or values are too short. Everything
-/// lent then keeps its contents.
+/// The table's; 10 where counts are fewer than two; the trace's; 30 where the
+/// lent memory has another length than the trace says; 10 where a buffer is
+/// shorter than the events. Everything lent then keeps its contents.
 pub fn replay<const CHECKED: bool>(table: &[u8], trace: &[u8], lent: Lent) -> Result<(), u8> {
     replay_watched::<CHECKED>(table, trace, lent, |_, _, _| {})
 }
@@ -73,12 +70,16 @@ pub fn replay_watched<const CHECKED: bool>(
     lent: Lent,
     watch: impl FnMut(&LoadStoreQueue<CHECKED>, &Event, Result<Option<u32>, u8>),
 ) -> Result<(), u8> {
-    let opened = open::<CHECKED>(table, trace)?;
+    let table = Table::read(table)?;
+    if lent.counts.len() < 2 {
+        return Err(refusal::TOO_SHORT);
+    }
+    let opened = open_on::<CHECKED>(table, trace)?;
     if lent.memory.len() != opened.queue.memory_length as usize {
         return Err(refusal::OTHER_MEMORY);
     }
-    let room = lent.answers.len().min(lent.values.len());
-    if lent.counts.len() < 2 || room < opened.count {
+    let room = lent.answers.len().min(lent.given.len());
+    if room.min(lent.values.len()) < opened.count {
         return Err(refusal::TOO_SHORT);
     }
     play(opened.queue, opened.events, lent, watch);
@@ -93,7 +94,10 @@ struct Opened<'a, const CHECKED: bool> {
 }
 
 fn open<'a, const CHECKED: bool>(table: &[u8], trace: &'a [u8]) -> Result<Opened<'a, CHECKED>, u8> {
-    let table = Table::read(table)?;
+    open_on(Table::read(table)?, trace)
+}
+
+fn open_on<const CHECKED: bool>(table: Table, trace: &[u8]) -> Result<Opened<'_, CHECKED>, u8> {
     let (header, at) = read_header(trace)?;
     let queue = LoadStoreQueue::open(table, header)?;
     let count = count_events(trace, at)?;
@@ -127,12 +131,14 @@ fn play<const CHECKED: bool>(
         loads: lent.counts[0],
         forwarded: lent.counts[1],
     };
-    let mut places = lent.answers.iter_mut().zip(lent.values);
+    let mut places = lent.answers.iter_mut().zip(lent.given).zip(lent.values);
     while let Step::Event(event, _) = events.step() {
         let outcome = queue.apply(&event, lent.memory, &mut counts);
-        if let Some((answer, value)) = places.next() {
+        if let Some(((answer, given), word)) = places.next() {
+            let value = outcome.ok().flatten();
             *answer = outcome.err().unwrap_or(refusal::ACCEPTED);
-            *value = outcome.ok().flatten().map_or(NO_VALUE, u64::from);
+            *given = u8::from(value.is_some());
+            *word = value.unwrap_or(0);
         }
         watch(&queue, &event, outcome);
     }

@@ -5,7 +5,7 @@ mod common;
 use common::{k1_trace, K1_TABLE, K1_TRACE};
 use lsq_ref::gen::Scenario;
 use lsq_ref::replay::{
-    event_count, memory_length, replay, replay_watched, table_fault, trace_fault, Lent, NO_VALUE,
+    event_count, memory_length, replay, replay_watched, table_fault, trace_fault, Lent,
 };
 use lsq_ref::rng::Rng;
 
@@ -15,15 +15,17 @@ struct Buffers {
     memory: Vec<u32>,
     counts: Vec<u32>,
     answers: Vec<u8>,
-    values: Vec<u64>,
+    given: Vec<u8>,
+    values: Vec<u32>,
 }
 
 impl Buffers {
-    fn new(memory: usize, counts: usize, answers: usize, values: usize) -> Self {
+    fn new([memory, counts, answers, given, values]: [usize; 5]) -> Self {
         Self {
             memory: vec![7; memory],
             counts: vec![5; counts],
             answers: vec![99; answers],
+            given: vec![88; given],
             values: vec![77; values],
         }
     }
@@ -33,6 +35,7 @@ impl Buffers {
             memory: &mut self.memory,
             counts: &mut self.counts,
             answers: &mut self.answers,
+            given: &mut self.given,
             values: &mut self.values,
         }
     }
@@ -48,27 +51,34 @@ fn refusal(table: &[u8], trace: &[u8], mut buffers: Buffers) -> u8 {
 
 #[test]
 fn k1_in_longer_buffers() {
-    let mut buffers = Buffers::new(4, 3, 13, 14);
+    let mut buffers = Buffers::new([4, 3, 13, 14, 15]);
     let played = replay::<true>(&K1_TABLE, &K1_TRACE, buffers.lent());
     assert_eq!(played, Ok(()));
     assert_eq!(buffers.memory, [7, 7, 7, 1]);
     assert_eq!(buffers.counts, [7, 6, 5]);
     assert_eq!(buffers.answers, [0, 0, 0, 0, 28, 0, 0, 0, 0, 0, 0, 0, 99]);
-    let none = NO_VALUE;
-    let first = [none, none, none, none, none, 7, 7];
-    let rest = [none, none, 1, none, 1, 77, 77];
+    assert_eq!(buffers.given, [0, 0, 0, 0, 0, 1, 1, 0, 0, 1, 0, 1, 88, 88]);
+    let first = [0, 0, 0, 0, 0, 7, 7];
+    let rest = [0, 0, 1, 0, 1, 77, 77, 77];
     assert_eq!(buffers.values, [&first[..], &rest[..]].concat());
 }
 
 #[test]
 fn counts_of_a_trace() {
-    assert_eq!(event_count(&K1_TRACE), 12);
-    assert_eq!(event_count(&k1_trace(0, &[])), 0);
-    assert_eq!(event_count(&K1_TRACE[..43]), 0);
-    assert_eq!(event_count(&k1_trace(12, &[7])), 0);
-    assert_eq!(memory_length(&K1_TRACE), 4);
-    assert_eq!(memory_length(&k1_trace(12, &[7])), 4);
-    assert_eq!(memory_length(&K1_TRACE[..7]), 0);
+    let counts = |trace: &[u8]| {
+        (
+            event_count(&K1_TABLE, trace),
+            memory_length(&K1_TABLE, trace),
+        )
+    };
+    assert_eq!(counts(&K1_TRACE), (12, 4));
+    assert_eq!(counts(&k1_trace(0, &[])), (0, 4));
+    assert_eq!(counts(&K1_TRACE[..43]), (0, 0));
+    assert_eq!(counts(&k1_trace(12, &[7])), (0, 0));
+    assert_eq!(counts(&K1_TRACE[..7]), (0, 0));
+    assert_eq!(counts(&[65, 2, 0, 4]), (0, 0));
+    assert_eq!(event_count(&[3], &K1_TRACE), 0);
+    assert_eq!(memory_length(&[3], &K1_TRACE), 0);
 }
 
 #[test]
@@ -80,21 +90,27 @@ fn faults_come_in_order() {
     assert_eq!(trace_fault(&K1_TABLE, &[65, 65, 0, 0, 7]), 11);
     assert_eq!(trace_fault(&K1_TABLE, &k1_trace(3, &[7])), 35);
     assert_eq!(trace_fault(&K1_TABLE, &K1_TRACE), 0);
-    let none = Buffers::new(0, 0, 0, 0);
+    let none = Buffers::new([0; 5]);
+    let counts_alone = Buffers::new([0, 2, 0, 0, 0]);
     assert_eq!(refusal(&[3], &K1_TRACE, none.clone()), 3);
-    assert_eq!(refusal(&K1_TABLE, &k1_trace(3, &[7]), none.clone()), 35);
-    assert_eq!(refusal(&K1_TABLE, &K1_TRACE, none), 30);
+    assert_eq!(refusal(&K1_TABLE, &k1_trace(3, &[7]), none), 10);
+    assert_eq!(
+        refusal(&K1_TABLE, &k1_trace(3, &[7]), counts_alone.clone()),
+        35
+    );
+    assert_eq!(refusal(&K1_TABLE, &K1_TRACE, counts_alone), 30);
 }
 
 #[test]
 fn lengths_are_tested() {
     let refusal = |buffers| refusal(&K1_TABLE, &K1_TRACE, buffers);
-    assert_eq!(refusal(Buffers::new(3, 2, 12, 12)), 30);
-    assert_eq!(refusal(Buffers::new(5, 1, 0, 0)), 30);
-    assert_eq!(refusal(Buffers::new(4, 1, 12, 12)), 10);
-    assert_eq!(refusal(Buffers::new(4, 2, 11, 12)), 10);
-    assert_eq!(refusal(Buffers::new(4, 2, 12, 11)), 10);
-    let mut exact = Buffers::new(4, 2, 12, 12);
+    assert_eq!(refusal(Buffers::new([3, 2, 12, 12, 12])), 30);
+    assert_eq!(refusal(Buffers::new([5, 2, 0, 0, 0])), 30);
+    assert_eq!(refusal(Buffers::new([5, 1, 12, 12, 12])), 10);
+    assert_eq!(refusal(Buffers::new([4, 2, 11, 12, 12])), 10);
+    assert_eq!(refusal(Buffers::new([4, 2, 12, 11, 12])), 10);
+    assert_eq!(refusal(Buffers::new([4, 2, 12, 12, 11])), 10);
+    let mut exact = Buffers::new([4, 2, 12, 12, 12]);
     assert!(replay::<true>(&K1_TABLE, &K1_TRACE, exact.lent()).is_ok());
 }
 
@@ -106,7 +122,7 @@ fn the_trusting_queue_plays_alike() {
         let (table, trace) = scenario.bytes();
         let events = scenario.events.len();
         let length = scenario.header.memory_length as usize;
-        let mut checked = Buffers::new(length, 2, events, events);
+        let mut checked = Buffers::new([length, 2, events, events, events]);
         let mut trusting = checked.clone();
         let mut watched = 0;
         let watch = |_: &_, event: &_, _| {

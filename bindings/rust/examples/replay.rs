@@ -23,20 +23,22 @@ const TRACE: [u8; 44] = [
 ];
 
 fn main() -> Result<(), Error> {
-    let events = event_count(&TRACE) as usize;
-    let mut memory = vec![0; memory_length(&TRACE) as usize];
+    let events = event_count(&TABLE, &TRACE) as usize;
+    let mut memory = vec![0; memory_length(&TABLE, &TRACE) as usize];
     let mut counts = [0; 2];
     let mut answers = vec![0; events];
+    let mut given = vec![0; events];
     let mut values = vec![0; events];
     let lent = Lent {
         memory: &mut memory,
         counts: &mut counts,
         answers: &mut answers,
+        given: &mut given,
         values: &mut values,
     };
     let played = replay(&TABLE, &TRACE, lent)?;
-    for (i, (answer, &place)) in answers.iter().zip(&values).enumerate() {
-        let shown = value(place).map_or("-".into(), |value| value.to_string());
+    for (i, answer) in answers.iter().enumerate() {
+        let shown = value(given[i], values[i]).map_or("-".into(), |value| value.to_string());
         println!("{} {answer} {shown}", i + 1);
     }
     println!("word 3 {}", memory[3]);

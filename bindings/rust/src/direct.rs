@@ -1,6 +1,8 @@
 //! The library's functions as they are, on slices. They are total and test all
 //! lengths themselves, so nothing is asked of a caller; the crate's root has
-//! the same calls with lengths tested first and errors that can be read.
+//! the same calls with errors that can be read.
+
+use crate::Lent;
 
 /// The declarations of `bindings/c/lsq.h`.
 mod ffi {
@@ -12,8 +14,18 @@ mod ffi {
             trace: *const u8,
             trace_len: usize,
         ) -> u32;
-        pub fn lsq_event_count(trace: *const u8, trace_len: usize) -> u64;
-        pub fn lsq_memory_length(trace: *const u8, trace_len: usize) -> u32;
+        pub fn lsq_event_count(
+            table: *const u8,
+            table_len: usize,
+            trace: *const u8,
+            trace_len: usize,
+        ) -> u64;
+        pub fn lsq_memory_length(
+            table: *const u8,
+            table_len: usize,
+            trace: *const u8,
+            trace_len: usize,
+        ) -> u32;
         pub fn lsq_replay(
             table: *const u8,
             table_len: usize,
@@ -25,7 +37,9 @@ mod ffi {
             counts_len: usize,
             answers: *mut u8,
             answers_len: usize,
-            values: *mut u64,
+            given: *mut u8,
+            given_len: usize,
+            values: *mut u32,
             values_len: usize,
         ) -> u32;
         pub fn lsq_share(loads: u32, forwarded: u32) -> u64;
@@ -56,28 +70,29 @@ pub fn trace_fault(table: &[u8], trace: &[u8]) -> u32 {
     unsafe { ffi::lsq_trace_fault(table.as_ptr(), table.len(), trace.as_ptr(), trace.len()) }
 }
 
-/// How many events follow the leading numbers; 0 where the trace can't be read.
+/// How many events the trace has; 0 where [`trace_fault`] is not 0.
 #[must_use]
-pub fn event_count(trace: &[u8]) -> u64 {
-    unsafe { ffi::lsq_event_count(trace.as_ptr(), trace.len()) }
+pub fn event_count(table: &[u8], trace: &[u8]) -> u64 {
+    unsafe { ffi::lsq_event_count(table.as_ptr(), table.len(), trace.as_ptr(), trace.len()) }
 }
 
-/// The fourth leading number, or 0.
+/// The memory length that the trace asks for; 0 where [`trace_fault`] is not 0.
 #[must_use]
-pub fn memory_length(trace: &[u8]) -> u32 {
-    unsafe { ffi::lsq_memory_length(trace.as_ptr(), trace.len()) }
+pub fn memory_length(table: &[u8], trace: &[u8]) -> u32 {
+    unsafe { ffi::lsq_memory_length(table.as_ptr(), table.len(), trace.as_ptr(), trace.len()) }
 }
 
-/// Plays the trace; 0, or the fault, or 30, or 10, as `lsq.h` says.
+/// Plays the trace; 0, or the fault, or 30, or 10, in the order that `lsq.h`
+/// says.
 #[must_use]
-pub fn replay(
-    table: &[u8],
-    trace: &[u8],
-    memory: &mut [u32],
-    counts: &mut [u32],
-    answers: &mut [u8],
-    values: &mut [u64],
-) -> u32 {
+pub fn replay(table: &[u8], trace: &[u8], lent: Lent) -> u32 {
+    let Lent {
+        memory,
+        counts,
+        answers,
+        given,
+        values,
+    } = lent;
     unsafe {
         ffi::lsq_replay(
             table.as_ptr(),
@@ -90,6 +105,8 @@ pub fn replay(
             counts.len(),
             answers.as_mut_ptr(),
             answers.len(),
+            given.as_mut_ptr(),
+            given.len(),
             values.as_mut_ptr(),
             values.len(),
         )

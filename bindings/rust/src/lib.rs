@@ -1,8 +1,8 @@
 //! Safe calls into the static library of the group-allocated load-store queue.
 //!
-//! [`replay`] and [`text`] test the lengths of what they are lent before they
-//! call, and say which one is wrong. [`direct`] has the library's functions as
-//! they are, with the paper's numbers for answers.
+//! [`replay`] and [`text`] say which of the things lent has a wrong length.
+//! [`direct`] has the library's functions as they are, with the paper's numbers
+//! for answers.
 
 #![warn(missing_docs)]
 
@@ -12,11 +12,12 @@ pub mod direct;
 
 pub use direct::{event_count, memory_length, share, table_fault, trace_fault};
 
-/// Stands among the values of a replay for "no value"; no word reaches it.
-pub const NO_VALUE: u64 = 1 << 32;
+/// The least length of the buffer lent to [`text`]: no text is longer.
+pub const TEXT_BYTES: usize = 1_224_789;
 
-/// The least length of the buffer lent to [`text`].
-pub const TEXT_BYTES: usize = 524_288;
+/// The paper's numbers that a replay answers for what it is lent.
+const TOO_SHORT: u32 = 10;
+const OTHER_MEMORY: u32 = 30;
 
 /// What a replay is lent.
 #[derive(Debug)]
@@ -27,8 +28,31 @@ pub struct Lent<'a> {
     pub counts: &'a mut [u32],
     /// At least as many places as [`event_count`] says.
     pub answers: &'a mut [u8],
-    /// At least as many places as [`event_count`] says.
-    pub values: &'a mut [u64],
+    /// At least as many places: 1 where an event gave a value, else 0.
+    pub given: &'a mut [u8],
+    /// At least as many places: the value, or 0.
+    pub values: &'a mut [u32],
+}
+
+impl Lent<'_> {
+    fn lengths(&self) -> Lengths {
+        Lengths {
+            memory: self.memory.len(),
+            counts: self.counts.len(),
+            answers: self.answers.len(),
+            given: self.given.len(),
+            values: self.values.len(),
+        }
+    }
+}
+
+/// The lengths of what was lent.
+struct Lengths {
+    memory: usize,
+    counts: usize,
+    answers: usize,
+    given: usize,
+    values: usize,
 }
 
 /// Something lent to a call.
@@ -40,6 +64,8 @@ pub enum Buffer {
     Counts,
     /// [`Lent::answers`].
     Answers,
+    /// [`Lent::given`].
+    Given,
     /// [`Lent::values`].
     Values,
     /// The text of [`text`].
@@ -83,28 +109,34 @@ impl std::error::Error for Error {}
 /// the front of their buffers.
 ///
 /// # Errors
-/// The fault of the table or the trace; else the first wrong length.
+/// In this order: the table's fault; counts that are too short; the trace's
+/// fault; another memory length; the first buffer that is too short.
 pub fn replay(table: &[u8], trace: &[u8], lent: Lent) -> Result<usize, Error> {
-    accepted(trace_fault(table, trace))?;
-    let words = memory_length(trace) as usize;
-    if lent.memory.len() != words {
-        return Err(wrong_length(Buffer::Memory, lent.memory.len(), words));
+    let lengths = lent.lengths();
+    match direct::replay(table, trace, lent) {
+        0 => Ok(event_count(table, trace) as usize),
+        TOO_SHORT => Err(short(&lengths, event_count(table, trace) as usize)),
+        OTHER_MEMORY => {
+            let needed = memory_length(table, trace) as usize;
+            Err(wrong_length(Buffer::Memory, lengths.memory, needed))
+        }
+        number => Err(Error::Refused(number)),
     }
-    // Each event takes up bytes of the trace, so their number fits.
-    let events = event_count(trace) as usize;
-    at_least(Buffer::Counts, lent.counts.len(), 2)?;
-    at_least(Buffer::Answers, lent.answers.len(), events)?;
-    at_least(Buffer::Values, lent.values.len(), events)?;
-    let Lent {
-        memory,
-        counts,
-        answers,
-        values,
-    } = lent;
-    accepted(direct::replay(
-        table, trace, memory, counts, answers, values,
-    ))?;
-    Ok(events)
+}
+
+/// The first length that is too short for so many events. The library found
+/// that there is one.
+fn short(lengths: &Lengths, events: usize) -> Error {
+    if lengths.counts < 2 {
+        return wrong_length(Buffer::Counts, lengths.counts, 2);
+    }
+    if lengths.answers < events {
+        return wrong_length(Buffer::Answers, lengths.answers, events);
+    }
+    if lengths.given < events {
+        return wrong_length(Buffer::Given, lengths.given, events);
+    }
+    wrong_length(Buffer::Values, lengths.values, events)
 }
 
 /// The text that `play` prints for these two files' bytes, at the front of
@@ -113,29 +145,18 @@ pub fn replay(table: &[u8], trace: &[u8], lent: Lent) -> Result<usize, Error> {
 /// # Errors
 /// When `out` is shorter than [`TEXT_BYTES`].
 pub fn text<'a>(table: &[u8], trace: &[u8], out: &'a mut [u8]) -> Result<&'a [u8], Error> {
-    at_least(Buffer::Text, out.len(), TEXT_BYTES)?;
+    if out.len() < TEXT_BYTES {
+        return Err(wrong_length(Buffer::Text, out.len(), TEXT_BYTES));
+    }
     let length = direct::text(table, trace, out) as usize;
     Ok(&out[..length])
 }
 
-/// The value that a place of [`Lent::values`] stands for.
+/// The value that an event's places of [`Lent::given`] and [`Lent::values`]
+/// stand for.
 #[must_use]
-pub fn value(place: u64) -> Option<u32> {
-    u32::try_from(place).ok()
-}
-
-fn accepted(number: u32) -> Result<(), Error> {
-    match number {
-        0 => Ok(()),
-        _ => Err(Error::Refused(number)),
-    }
-}
-
-fn at_least(buffer: Buffer, lent: usize, needed: usize) -> Result<(), Error> {
-    if lent < needed {
-        return Err(wrong_length(buffer, lent, needed));
-    }
-    Ok(())
+pub fn value(given: u8, word: u32) -> Option<u32> {
+    (given == 1).then_some(word)
 }
 
 fn wrong_length(buffer: Buffer, lent: usize, needed: usize) -> Error {

@@ -1,9 +1,10 @@
 //! `differential [SEED [CALLS]]` compares the static library with the
-//! reference on cases of seeds SEED, SEED + 1 and so on, until CALLS calls were
-//! made. Exit status 1: a difference; 2: none, but something that can occur
-//! never did, or bad arguments.
+//! reference on the cases of a seed, one after another, until CALLS calls were
+//! made. Cases of different seeds are different. `differential case NUMBER`
+//! compares one case again. Exit status 1: a difference; 2: none, but something
+//! that can occur never did, or bad arguments.
 //!
-//! With LSQ_SHOW_SEEDS set it prints each seed before its case is played, so
+//! With LSQ_SHOW_CASES set it prints each case's number before it is played, so
 //! that a crash can be traced to one.
 
 use std::path::Path;
@@ -19,20 +20,35 @@ use evidence::tally::Tally;
 
 const SEED: u64 = 1;
 const CALLS: u64 = 1_000_000;
-/// Cases whose files the program `play` is run on.
-const PROGRAM_CASES: u64 = 96;
+/// Cases whose files the program `play` is run on, as they are and damaged.
+const PROGRAM_CASES: u64 = 1_000;
 
 fn main() -> ExitCode {
-    let mut args = env::args().skip(1);
-    let mut number = |default| args.next().map_or(Ok(default), |arg| arg.parse());
-    let (Ok(seed), Ok(calls)) = (number(SEED), number(CALLS)) else {
-        eprintln!("usage: differential [SEED [CALLS]]");
-        return ExitCode::from(2);
-    };
+    let args: Vec<String> = env::args().skip(1).collect();
+    let numbers: Vec<Option<u64>> = args.iter().map(|arg| arg.parse().ok()).collect();
+    match numbers[..] {
+        [] => all(SEED, CALLS),
+        [Some(seed)] => all(seed, CALLS),
+        [Some(seed), Some(calls)] => all(seed, calls),
+        [None, Some(number)] if args[0] == "case" => one(number),
+        _ => {
+            eprintln!("usage: differential [SEED [CALLS]] | case NUMBER");
+            ExitCode::from(2)
+        }
+    }
+}
+
+/// The number of a seed's first case.
+fn first_case(seed: u64) -> u64 {
+    seed.wrapping_mul(1 << 32)
+}
+
+fn all(seed: u64, calls: u64) -> ExitCode {
     let start = Instant::now();
     let mut tally = Tally::default();
-    let end = run(seed, calls, &mut tally);
+    let compared = run(first_case(seed), calls, &mut tally);
     println!("{tally}");
+    let end = compared.and_then(|()| run_program(first_case(seed)));
     match end {
         Ok(program) => println!("{program}"),
         Err(report) => {
@@ -50,23 +66,34 @@ fn main() -> ExitCode {
     ExitCode::from(2)
 }
 
-/// Goes through the cases, then the program `play`; a difference ends the run
-/// and is reported.
-fn run(first: u64, calls: u64, tally: &mut Tally) -> Result<String, String> {
-    let show_seeds = env::var_os("LSQ_SHOW_SEEDS").is_some();
+fn one(number: u64) -> ExitCode {
+    match run(number, 0, &mut Tally::default()) {
+        Ok(()) => println!("case {number}: no difference"),
+        Err(report) => {
+            println!("{report}");
+            return ExitCode::from(1);
+        }
+    }
+    ExitCode::SUCCESS
+}
+
+/// Goes through the cases from this one on, at least one; a difference ends the
+/// run and is reported.
+fn run(first: u64, calls: u64, tally: &mut Tally) -> Result<(), String> {
+    let show = env::var_os("LSQ_SHOW_CASES").is_some();
     let mut comparer = Comparer::new(&Library);
-    for seed in first.. {
+    for number in first.. {
+        if show {
+            eprintln!("case {number}");
+        }
+        let case = Case::new(number);
+        let compared = compare(&mut comparer, &case, tally);
+        compared.map_err(|difference| report(&case, &difference))?;
         if tally.calls >= calls {
             break;
         }
-        if show_seeds {
-            eprintln!("seed {seed}");
-        }
-        let case = Case::new(seed);
-        let compared = compare(&mut comparer, &case, tally);
-        compared.map_err(|difference| report(&case, &difference))?;
     }
-    run_program(first)
+    Ok(())
 }
 
 fn compare(
@@ -82,14 +109,14 @@ fn compare(
     Ok(())
 }
 
-fn run_program(seed: u64) -> Result<String, String> {
+fn run_program(first: u64) -> Result<String, String> {
     let Some(path) = program::built() else {
         return Ok("target/bin/play is not built, so no file was played by it".into());
     };
     let path_shown = path.display();
-    match program::compare(&path, seed, PROGRAM_CASES) {
+    match program::compare(&path, first, PROGRAM_CASES) {
         Ok(runs) => Ok(format!("{runs:>9} pairs of files played by {path_shown}")),
-        Err(Difference(words)) => Err(format!("DIFFERENCE from seed {seed} on: {words}")),
+        Err(Difference(words)) => Err(format!("DIFFERENCE in a case from {first} on: {words}")),
     }
 }
 
@@ -105,8 +132,8 @@ fn report(case: &Case, Difference(words): &Difference) -> String {
         Err(error) => format!("not kept, {error}"),
     };
     format!(
-        "DIFFERENCE in the case of seed {seed} ({kind:?}): {words}\n\
-         again: evidence/run differential {seed} 1\n\
+        "DIFFERENCE in case {seed} ({kind:?}): {words}\n\
+         again: evidence/run differential case {seed}\n\
          its table.bin and trace.bin: {files}"
     )
 }

@@ -1,8 +1,9 @@
 /* The group-allocated load-store queue: the functions of libexports.a, which
  * `rt staticlib exports` writes to target/staticlib/.
  *
- * Every function is total: it tests what it is handed, and answers with a
- * number of the scope paper. Nothing is allocated and nothing is kept between
+ * Every function is total: it tests what it is handed. The three that can
+ * refuse answer with a number of enum lsq_answer; what the others answer is
+ * said at each. Nothing is allocated and nothing is kept between
  * calls. A run of bytes or numbers is a pointer and a length (in elements).
  * What the caller owes, since C cannot show it:
  *   - a pointer is not NULL, even where its length is 0, and is aligned for

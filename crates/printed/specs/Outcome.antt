@@ -17,7 +17,7 @@ mostText = 63 * mostBytes + 47 * 4096 + 85
 abbrev pub TextFits : Type 0
 TextFits = (table trace : List ℕ) → length (text table trace) ≤ mostText
 
--- no text is empty: the last line is always there
+-- no text is empty: a fault's line, or the line of the counts, is always there
 abbrev pub TextSome : Type 0
 TextSome = (table trace : List ℕ) → 0 < length (text table trace)
 

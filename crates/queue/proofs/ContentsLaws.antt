@@ -149,17 +149,3 @@ module _ (q : Queue) where
       let side : Stores = record { depth = q .stores .depth; count = q .stores .count; next = q .stores .next; entries = set (q .stores .entries) i x } in
       stores-changed side (updateAt g i (storesOf (q .stores))) refl refl (side-update storeOf blankStore (q .stores .count) (q .stores .entries) w g i x k e)
       ∙ ap (λ (l : List Store). withStores (contentsOf q) (updateAt g i l)) (sym stores-held)
-
--- a queue's contents, part by part
-pub contents-parts : (q : Queue) → contentsOf q ≡ record {
-  groups = groupsOf (q .table);
-  memoryLength = q .words;
-  loadDepth = q .loads .depth;
-  nextLoad = q .loads .next;
-  loads = loadsOf (q .loads);
-  storeDepth = q .stores .depth;
-  nextStore = q .stores .next;
-  stores = storesOf (q .stores);
-}
-unfolding contentsOf
-contents-parts q = refl

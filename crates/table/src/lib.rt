@@ -1,5 +1,5 @@
 // Numbers, group tables and trace events: their records, and the calls that read, check and write them.
-// Firms take this crate by itself; the queue and `play` rest on its contracts alone.
+// Firms take this crate by itself; what lies above rests on its contracts, its definitions and the laws about them that its proofs publish.
 
 pub mod check;
 pub mod number;

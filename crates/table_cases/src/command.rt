@@ -11,8 +11,6 @@ pub(crate) const READ_NUMBER: usize = 0;
 
 pub(crate) const READ_EVENT: usize = 1;
 
-pub(crate) const READ_HEADER: usize = 2;
-
 pub(crate) const READ_TABLE: usize = 3;
 
 pub(crate) const ORDER: usize = 4;

@@ -34,7 +34,7 @@ pub(crate) fn set_bytes(mut run: Run, bytes: Bytes) -> Run {
     run
 }
 
-// The event at a place, and a step of the attached reader from there.
+// The event at a place, and one step of a reader that stands there.
 fn event_at(bytes: &[u8], at: usize) {
     show::event_read(table::trace::read_event(bytes, at));
     let stepped = table::trace::step_at(bytes, at);

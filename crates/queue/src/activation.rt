@@ -17,6 +17,7 @@ use crate::Value;
 use crate::refusal::NO_GROUP;
 use crate::refusal::NO_PLACE;
 use crate::refusal::UNSOUND;
+use crate::sound::parts_sound;
 use table::Group;
 use table::Pairs;
 
@@ -117,10 +118,12 @@ impl Queue {
     pub fn activate(self, group: u32) -> Outcome
         ensures { λ r. ⌜ Moves self (activate (contentsOf self) group) r ⌝ }
     {
-        if !self.sound() {
+        let table = self.table;
+        let loads = self.loads;
+        let stores = self.stores;
+        if !parts_sound(table, self.words, loads, stores) {
             return self.refused(UNSOUND);
         }
-        let table = self.table;
         if table.count as u32 <= group {
             return self.refused(NO_GROUP);
         }

@@ -19,6 +19,7 @@ use crate::refusal::BAD_ADDRESS;
 use crate::refusal::NO_PORT;
 use crate::refusal::NONE_WAITS;
 use crate::refusal::UNSOUND;
+use crate::sound::parts_sound;
 
 // A load of the port that has no address.
 fn load_waits(load: LoadEntry, port: u32) -> bool
@@ -121,17 +122,18 @@ impl Queue {
     pub fn load_address(self, port: u32, address: u32) -> Outcome
         ensures { λ r. ⌜ Moves self (loadAddress (contentsOf self) port address) r ⌝ }
     {
-        if !self.sound() {
+        let table = self.table;
+        let loads = self.loads;
+        let stores = self.stores;
+        if !parts_sound(table, self.words, loads, stores) {
             return self.refused(UNSOUND);
         }
-        let table = self.table;
         if !has_load_port(table, port) {
             return self.refused(NO_PORT);
         }
         if self.words as u32 <= address {
             return self.refused(BAD_ADDRESS);
         }
-        let loads = self.loads;
         let place = waiting_load(loads, port);
         if loads.count as usize <= place {
             return self.refused(NONE_WAITS);
@@ -148,17 +150,18 @@ impl Queue {
     pub fn store_address(self, port: u32, address: u32) -> Outcome
         ensures { λ r. ⌜ Moves self (storeAddress (contentsOf self) port address) r ⌝ }
     {
-        if !self.sound() {
+        let table = self.table;
+        let loads = self.loads;
+        let stores = self.stores;
+        if !parts_sound(table, self.words, loads, stores) {
             return self.refused(UNSOUND);
         }
-        let table = self.table;
         if !has_store_port(table, port) {
             return self.refused(NO_PORT);
         }
         if self.words as u32 <= address {
             return self.refused(BAD_ADDRESS);
         }
-        let stores = self.stores;
         let place = waiting_store(stores, port, false);
         if stores.count as usize <= place {
             return self.refused(NONE_WAITS);
@@ -175,14 +178,15 @@ impl Queue {
     pub fn store_data(self, port: u32, word: u32) -> Outcome
         ensures { λ r. ⌜ Moves self (storeData (contentsOf self) port word) r ⌝ }
     {
-        if !self.sound() {
+        let table = self.table;
+        let loads = self.loads;
+        let stores = self.stores;
+        if !parts_sound(table, self.words, loads, stores) {
             return self.refused(UNSOUND);
         }
-        let table = self.table;
         if !has_store_port(table, port) {
             return self.refused(NO_PORT);
         }
-        let stores = self.stores;
         let place = waiting_store(stores, port, true);
         if stores.count as usize <= place {
             return self.refused(NONE_WAITS);

@@ -20,6 +20,7 @@ use crate::refusal::UNSOUND;
 use crate::serial::oldest_serial;
 use crate::serving::Supply;
 use crate::serving::supply_for;
+use crate::sound::parts_sound;
 use crate::writing::write_fault;
 use table::refusal::TOO_SHORT;
 
@@ -139,7 +140,10 @@ impl Queue {
     pub fn ready_loads_into(self, out: &mut [u32]) -> Readied
         ensures { λ r. ⌜ Readies self (now (out .entry)) (readyLoads (contentsOf self) (now (out .entry))) r (now (out .exit)) ⌝ }
     {
-        if !self.sound() {
+        let table = self.table;
+        let loads = self.loads;
+        let stores = self.stores;
+        if !parts_sound(table, self.words, loads, stores) {
             return self.unready(UNSOUND);
         }
         let found = self.servable_loads();
@@ -159,7 +163,10 @@ impl Queue {
     pub fn ready_stores_into(self, out: &mut [u32]) -> Readied
         ensures { λ r. ⌜ Readies self (now (out .entry)) (readyStores (contentsOf self) (now (out .entry))) r (now (out .exit)) ⌝ }
     {
-        if !self.sound() {
+        let table = self.table;
+        let loads = self.loads;
+        let stores = self.stores;
+        if !parts_sound(table, self.words, loads, stores) {
             return self.unready(UNSOUND);
         }
         let found = self.writable_stores();

@@ -27,6 +27,7 @@ use crate::refusal::NO_SERIAL;
 use crate::refusal::UNSOUND;
 use crate::refusal::WRONG_MEMORY;
 use crate::serial::place_of;
+use crate::sound::parts_sound;
 
 // What the stores before a load have for it.
 pub enum Supply {
@@ -156,13 +157,15 @@ impl Queue {
     pub fn serve_counted(self, memory: &[u32], counts: Counts, serial: u32) -> Counted
         ensures { λ r. ⌜ Serves self counts (serve (contentsOf self) (now (memory .entry)) serial) r ⌝ }
     {
-        if !self.sound() {
+        let table = self.table;
+        let loads = self.loads;
+        let stores = self.stores;
+        if !parts_sound(table, self.words, loads, stores) {
             return self.unserved(counts, UNSOUND);
         }
         if memory.len() != self.words as usize {
             return self.unserved(counts, WRONG_MEMORY);
         }
-        let loads = self.loads;
         let place = place_of(loads.next, loads.count, serial);
         self.serve_at(memory, counts, place)
     }

@@ -10,6 +10,7 @@ use crate::Loads;
 use crate::Queue;
 use crate::StoreEntry;
 use crate::Stores;
+use table::Table;
 use table::check::table_fault;
 
 // A depth is 1 to 64.
@@ -92,35 +93,43 @@ fn stores_right(stores: Stores, words: u16, loads: u8) -> bool
     true
 }
 
+// Is the queue of these parts sound? A call hands over the parts that it holds, so that the record is not copied as a whole.
+// The cheap tests come first: the loops are safe only once the counts are known, and the table takes longest.
+pub(crate) fn parts_sound(table: Table, words: u16, loads: Loads, stores: Stores) -> bool
+    ensures { λ r. ⌜ r ≡ sound (contentsOf (record { table = table; words = words; loads = loads; stores = stores })) ⌝ }
+{
+    if !depth_right(loads.depth as u32) {
+        return false;
+    }
+    if !depth_right(stores.depth as u32) {
+        return false;
+    }
+    if !memory_right(words as u32) {
+        return false;
+    }
+    if loads.depth < loads.count {
+        return false;
+    }
+    if stores.depth < stores.count {
+        return false;
+    }
+    if !loads_right(loads, words, stores.count) {
+        return false;
+    }
+    if !stores_right(stores, words, loads.count) {
+        return false;
+    }
+    table_fault(table) == 0
+}
+
 impl Queue {
-    // The cheap tests come first: the loops are safe only once the counts are known, and the table takes longest.
+    // Is the record one that no call refuses with 40?
     pub fn sound(self) -> bool
         ensures { λ r. ⌜ r ≡ sound (contentsOf self) ⌝ }
     {
+        let table = self.table;
         let loads = self.loads;
         let stores = self.stores;
-        if !depth_right(loads.depth as u32) {
-            return false;
-        }
-        if !depth_right(stores.depth as u32) {
-            return false;
-        }
-        if !memory_right(self.words as u32) {
-            return false;
-        }
-        if loads.depth < loads.count {
-            return false;
-        }
-        if stores.depth < stores.count {
-            return false;
-        }
-        if !loads_right(loads, self.words, stores.count) {
-            return false;
-        }
-        if !stores_right(stores, self.words, loads.count) {
-            return false;
-        }
-        let table = self.table;
-        table_fault(table) == 0
+        parts_sound(table, self.words, loads, stores)
     }
 }

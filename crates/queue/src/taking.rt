@@ -17,6 +17,7 @@ use crate::refusal::NO_PORT;
 use crate::refusal::NONE_UNTAKEN;
 use crate::refusal::NOT_SERVED;
 use crate::refusal::UNSOUND;
+use crate::sound::parts_sound;
 
 // Is it an untaken load of the port?
 fn is_untaken(load: LoadEntry, port: u32) -> bool
@@ -67,14 +68,15 @@ impl Queue {
     pub fn take(self, port: u32) -> Outcome
         ensures { λ r. ⌜ Takes self (take (contentsOf self) port) r ⌝ }
     {
-        if !self.sound() {
+        let table = self.table;
+        let loads = self.loads;
+        let stores = self.stores;
+        if !parts_sound(table, self.words, loads, stores) {
             return self.refused(UNSOUND);
         }
-        let table = self.table;
         if !has_load_port(table, port) {
             return self.refused(NO_PORT);
         }
-        let loads = self.loads;
         let at = oldest_untaken(loads, port);
         if loads.count as usize <= at {
             return self.refused(NONE_UNTAKEN);

@@ -28,6 +28,7 @@ use crate::refusal::NO_SERIAL;
 use crate::refusal::UNSOUND;
 use crate::refusal::WRONG_MEMORY;
 use crate::serial::place_of;
+use crate::sound::parts_sound;
 
 // A load that is served, or is known to be of another word, gives way to a write to the address. Writing past an unserved
 // load of the word would spoil that load.
@@ -253,13 +254,15 @@ impl Queue {
     pub fn write(self, memory: &mut [u32], serial: u32) -> Outcome
         ensures { λ r. ⌜ Writes self (now (memory .entry)) (write (contentsOf self) (now (memory .entry)) serial) r (now (memory .exit)) ⌝ }
     {
-        if !self.sound() {
+        let table = self.table;
+        let loads = self.loads;
+        let stores = self.stores;
+        if !parts_sound(table, self.words, loads, stores) {
             return self.refused(UNSOUND);
         }
         if memory.len() != self.words as usize {
             return self.refused(WRONG_MEMORY);
         }
-        let stores = self.stores;
         let place = place_of(stores.next, stores.count, serial);
         self.write_at(memory, place)
     }

@@ -10,19 +10,23 @@ use borrow.Author.Needs.{needs}
 use Rattle.queue.proofs.Queue.ready_loads_into.Statement.{statement}
 use Rattle.queue.proofs.Queue.ready_loads_into.Tie as tie
 
-right : (c : tie.Else1) → sound (contentsOf (c .before .before .before .args .self)) ≡ true
-right c = sym (c .before .sound .ensures) ∙ not-false _ (c .if1 .left)
+abbrev start : tie.After-parts-sound → tie.Start
+start c = c .before .before .before .before .before
 
-sound-requires : tie.Need-sound-requires
-sound-requires c κs = search needs
+right : (c : tie.Else1) → sound (contentsOf (start (c .before) .args .self)) ≡ true
+right c = sym (c .before .parts-sound .ensures) ∙ not-false _ (c .if1 .left)
+
+parts-sound-requires : tie.Need-parts-sound-requires
+parts-sound-requires c κs = search needs
 
 unready-requires : tie.Need-unready-requires
 unready-requires c κs = search needs
 
 returns : tie.Need-returns
 returns c =
-    let s = c .before .before .before .before in
-    rw (ready-loads-unsound (contentsOf (s .args .self)) (s .args .out .now) (sym (c .before .before .sound .ensures) ∙ not-true _ (c .before .if1 .taken))) (record { outcome = c .unready .ensures; run-is = refl })
+    let p = c .before .before in
+    let s = start p in
+    rw (ready-loads-unsound (contentsOf (s .args .self)) (s .args .out .now) (sym (p .parts-sound .ensures) ∙ not-true _ (c .before .if1 .taken))) (record { outcome = c .unready .ensures; run-is = refl })
 
 servable-loads-requires : tie.Need-servable-loads-requires
 servable-loads-requires c κs = right c
@@ -33,7 +37,7 @@ unready-requires-2 c κs = search needs
 returns-2 : tie.Need-returns-2
 returns-2 c =
     let f = c .before .before in
-    let s = f .before .before .before .before in
+    let s = start (f .before .before) in
     rw (ready-loads-short (contentsOf (s .args .self)) (s .args .out .now) (right (f .before)) (rw (← f .servable-loads .ensures .size) (c .before .if2 .taken))) (record { outcome = c .unready2 .ensures; run-is = refl })
 
 put-serials-requires : tie.Need-put-serials-requires
@@ -46,14 +50,14 @@ returns-3 : tie.Need-returns-3
 returns-3 c =
     let e2 = c .before .before .before .before in
     let f = e2 .before in
-    let s = f .before .before .before .before in
+    let s = start (f .before .before) in
     rw (ready-loads-enough (contentsOf (s .args .self)) (s .args .out .now) (right (f .before)) (rw (← f .servable-loads .ensures .size) (e2 .if2 .left))) (ready-well (s .args .self) (f .servable-loads .ensures) (c .before .before .put-serials .ensures))
 
 pub ready-loads-into-spec : {M : Type 1} → statement M
 ready-loads-into-spec =
     tie.close
     (tie.spec
-    sound-requires
+    parts-sound-requires
     unready-requires
     returns
     servable-loads-requires

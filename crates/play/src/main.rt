@@ -2,16 +2,18 @@
 ghost use Prim.Native.Nat.{_≤_};
 ghost use lib.ListN.{length};
 use libc::STDOUT_FILENO;
+use printed::text::MOST_BYTES;
+use printed::text::MOST_TEXT;
 use table::Written;
 
 // One byte more than a file may have, so that a longer file is seen to be too long.
-fn file_buffer() -> [u8; 16385] {
-    [0; 16385]
+fn file_buffer() -> [u8; MOST_BYTES + 1] {
+    [0; MOST_BYTES + 1]
 }
 
 // Room for every text.
-fn text_buffer() -> [u8; 1224789] {
-    [0; 1224789]
+fn text_buffer() -> [u8; MOST_TEXT] {
+    [0; MOST_TEXT]
 }
 
 // The front of a file, as much of it as the buffer holds. A file that can't be opened counts as empty.

@@ -20,19 +20,19 @@ use table::read::read_table;
 use table::refusal::TOO_SHORT;
 
 // A file is at most this long.
-const MOST_BYTES: usize = 16384;
+pub const MOST_BYTES: usize = 16384;
 
 const FILE_TOO_LONG: u64 = 36;
 // No text is longer.
 pub const MOST_TEXT: usize = 1224789;
 
 // Room for an answer to each event, and for its value.
-fn no_answers() -> [u8; 16384] {
-    [0; 16384]
+fn no_answers() -> [u8; MOST_BYTES] {
+    [0; MOST_BYTES]
 }
 
-fn no_values() -> [u32; 16384] {
-    [0; 16384]
+fn no_values() -> [u32; MOST_BYTES] {
+    [0; MOST_BYTES]
 }
 
 // "Memory all zero".

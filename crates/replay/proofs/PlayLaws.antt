@@ -21,7 +21,7 @@ use Rattle.queue.specs.ServeLent.{withCounts}
 use Rattle.queue.specs.Records.{valueIn}
 use Rattle.queue.specs.Call.{Machine, Step, moved, served, written, taken}
 use Rattle.replay.specs.Playing.{Playing, playing, stepOf, played, countsAfter, afterServe}
-use Rattle.replay.specs.Outcome.{Plays}
+use Rattle.replay.specs.Internal.{Plays, uncounted}
 
 abbrev made : Machine → Counts → Playing
 made m c = record { machine = m; counts = c }
@@ -29,9 +29,9 @@ made m c = record { machine = m; counts = c }
 abbrev machine : Contents → List ℕ → Machine
 machine q m = record { queue = q; memory = m }
 
--- the event and the outcome by their values
-pub plays-as : {q : Queue} {c : Counts} {m : List ℕ} {e₁ e₂ : Event} {r₁ r₂ : Counted} {left : List ℕ} → e₁ ≡ e₂ → r₁ ≡ r₂ → Plays q c m e₂ r₂ left → Plays q c m e₁ r₁ left
-plays-as e r w = rw (e, r) w
+-- the event by its value
+pub plays-as : {q : Queue} {c : Counts} {m : List ℕ} {e₁ e₂ : Event} {r : Counted} {left : List ℕ} → e₁ ≡ e₂ → Plays q c m e₂ r left → Plays q c m e₁ r left
+plays-as e w = rw e w
 
 module _ (q : Queue) (c : Counts) (m : List ℕ) (e : Event) where
   abbrev now : Playing
@@ -75,8 +75,8 @@ module _ (q : Queue) (c : Counts) (m : List ℕ) where
   pub play-store-data : (p d : ℕ) (o : Outcome) → Moves q (storeData (contentsOf q) p d) o → Plays q c m (StoreData p d) (withCounts o c) m
   play-store-data p d o w = moves-play q c m (StoreData p d) (storeData (contentsOf q) p d) o refl refl w
 
-  pub play-serve : (s : ℕ) (r : Counted) → Serves q c (serve (contentsOf q) m s) r → Plays q c m (Serve s) r m
-  play-serve s r w = serves-play q c m (Serve s) (serve (contentsOf q) m s) r refl refl w
+  pub play-serve : (s : ℕ) (r : Counted) (o : Outcome) → o ≡ uncounted r → Serves q c (serve (contentsOf q) m s) r → Plays q c m (Serve s) (withCounts o (r .counts)) m
+  play-serve s r o is w = rw is (serves-play q c m (Serve s) (serve (contentsOf q) m s) r refl refl w)
 
   pub play-write : (s : ℕ) (o : Outcome) (left : List ℕ) → Writes q m (write (contentsOf q) m s) o left → Plays q c m (Write s) (withCounts o c) left
   play-write s o left w = writes-play q c m (Write s) (write (contentsOf q) m s) o left refl refl w

@@ -16,7 +16,7 @@ use Rattle.table.specs.Group.{GroupPairs}
 use Rattle.table.specs.TableBytes.{before}
 use Rattle.table.specs.declared.Event.{Event}
 use Rattle.queue.specs.declared.Counts.{Counts}
-use Rattle.queue.specs.declared.Counted.{Counted}
+use Rattle.queue.specs.declared.Outcome.{Outcome}
 use Rattle.queue.specs.declared.Queue.{Queue}
 use Rattle.queue.specs.Refusal.{wrongMemory}
 use Rattle.queue.specs.Ruled.{Ruled, refuse, accept}
@@ -25,23 +25,24 @@ use Rattle.queue.specs.Contents.{Contents, contentsOf}
 use Rattle.queue.specs.NoQueue.{noQueue}
 use Rattle.queue.specs.Outcome.{Opens}
 use Rattle.queue.specs.Records.{valueIn}
+use Rattle.queue.specs.ServeLent.{withCounts}
 use Rattle.replay.specs.declared.Replayed.{Replayed}
 use Rattle.replay.specs.Events.{eventsFrom}
 use Rattle.replay.specs.Playing.{Playing, playing, stepOf, played, Logged, logged, log, playedAll, answerOf, givenOf, wordOf, givenIn, wordIn}
 use Rattle.replay.specs.Replay.{Start, prepare, Replay, replayed, Buffers, fits, replay}
-use Rattle.replay.specs.Outcome.{Plays, over, logIn, Replays, Replayed-as}
-use Rattle.replay.specs.Internal.{Playable, eventsIn, through}
+use Rattle.replay.specs.Outcome.{over, logIn, Replays, Replayed-as}
+use Rattle.replay.specs.Internal.{Plays, Noted, Playable, eventsIn, through}
 use Rattle.replay.proofs.EventLaws.{EventGot}
 
 abbrev pub buffers : List ℕ → List ℕ → List ℕ → Buffers
 buffers a g w = record { answers = a; given = g; words = w }
 
 -- one number more behind those at a buffer's front
-over-more : (f : Logged → ℕ) (done : List Logged) (l : Logged) (d : List ℕ) (i v : ℕ) → length done ≡ i → i < length d → v ≡ f l → set (over (map f done) d) i v ≡ over (map f (done ++ l ∷ [])) d
-over-more f done l d i v many h e =
+over-more : (f : Logged → ℕ) (done : List Logged) (l : Logged) (d : List ℕ) (i : ℕ) → length done ≡ i → i < length d → set (over (map f done) d) i (f l) ≡ over (map f (done ++ l ∷ [])) d
+over-more f done l d i many h =
     let n : length (map f done) ≡ i = length-map done f ∙ many in
     let m : length (map f done ++ f l ∷ []) ≡ suc i = length-append (map f done) (f l ∷ []) ∙ omega arith in
-    rw (map-append f done (l ∷ []), m, n, drop-cons d i 0 h, e) (set-at (map f done) (getD d i 0) (drop (suc i) d) (f l) i n ∙ sym (append-snoc (map f done) (f l) (drop (suc i) d)))
+    rw (map-append f done (l ∷ []), m, n, drop-cons d i 0 h) (set-at (map f done) (getD d i 0) (drop (suc i) d) (f l) i n ∙ sym (append-snoc (map f done) (f l) (drop (suc i) d)))
 
 over-length : (f : Logged → ℕ) (done : List Logged) (d : List ℕ) → length done ≤ length d → length (over (map f done) d) ≡ length d
 over-length f done d h = rw (length-append, length-drop, length-map) (omega arith)
@@ -121,25 +122,26 @@ same-buffers : {a a₂ g g₂ w w₂ : List ℕ} → a ≡ a₂ → g ≡ g₂ �
 same-buffers e f h = cc
 
 -- one event more
-pub walk-more : {s : List ℕ} {start : ℕ} {p₀ : Playing} {b₀ : Buffers} {place i next : ℕ} {q : Queue} {c : Counts} {m left : List ℕ} {a g w : List ℕ} {e : Event} {r : Counted} {x y : ℕ} → Walk s start p₀ b₀ place i (playing (contentsOf q) m c) (buffers a g w) → EventGot s place e next → Plays q c m e r left → x ≡ givenIn (valueIn (r .value)) → y ≡ wordIn (valueIn (r .value)) → Walk s start p₀ b₀ next (i + 1) (playing (contentsOf (r .queue)) left (r .counts)) (buffers (set a i (r .answer)) (set g i x) (set w i y))
-walk-more {s} {start} {p₀} {b₀} {place} {i} {next} {q} {c} {m} {left} {a} {g} {w} {e} {r} {x} {y} k ev pl ex ey =
+pub walk-more : {s : List ℕ} {start : ℕ} {p₀ : Playing} {b₀ b b₂ : Buffers} {place i next : ℕ} {q r : Queue} {c c₂ : Counts} {m left : List ℕ} {e : Event} {o : Outcome} → Walk s start p₀ b₀ place i (playing (contentsOf q) m c) b → EventGot s place e next → Plays q c m e (withCounts o c₂) left → Noted o i b r b₂ → Walk s start p₀ b₀ next (i + 1) (playing (contentsOf r) left c₂) b₂
+walk-more {s} {start} {p₀} {b₀} {b} {b₂} {place} {i} {next} {q} {r} {c} {c₂} {m} {left} {e} {o} k ev pl note =
     let n = next-left (k .left) (k .reads) ev in
     let l : length (k .left) ≡ suc (length (n .rest)) = ap length (n .is) in
     let p = playing (contentsOf q) m c in
-    let new = asLogged (r .answer) (valueIn (r .value)) in
+    let new = asLogged (o .answer) (valueIn (o .value)) in
     let same : logged (stepOf p e) ≡ new = ap₂ asLogged (pl .answer) (pl .value) in
-    let tail : log p (k .left) ≡ new ∷ log (playing (contentsOf (r .queue)) left (r .counts)) (n .rest) = ap (log p) (n .is) ∙ ap₂ (λ (h : Logged) (z : Playing). h ∷ log z (n .rest)) same (pl .next) in
+    let moves : played p e ≡ playing (contentsOf r) left c₂ = pl .next ∙ ap (λ (x : Queue). playing (contentsOf x) left c₂) (sym (note .queue)) in
+    let tail : log p (k .left) ≡ new ∷ log (playing (contentsOf r) left c₂) (n .rest) = ap (log p) (n .is) ∙ ap₂ (λ (h : Logged) (z : Playing). h ∷ log z (n .rest)) same moves in
     record {
       done = k .done ++ new ∷ [];
       left = n .rest;
       reads = n .reads;
       logs = k .logs ∙ ap (λ (t : List Logged). k .done ++ t) tail ∙ sym (append-snoc (k .done) new _);
-      ends = k .ends ∙ ap (playedAll p) (n .is) ∙ ap (λ (z : Playing). playedAll z (n .rest)) (pl .next);
+      ends = k .ends ∙ ap (playedAll p) (n .is) ∙ ap (λ (z : Playing). playedAll z (n .rest)) moves;
       many = length-append (k .done) (new ∷ []) ∙ omega (arith, k .many);
       are = same-buffers
-          (ap (λ (z : Buffers). set (z .answers) i (r .answer)) (k .are) ∙ over-more answerOf (k .done) new (b₀ .answers) i (r .answer) (k .many) (omega (arith, k .answers)) refl)
-          (ap (λ (z : Buffers). set (z .given) i x) (k .are) ∙ over-more givenOf (k .done) new (b₀ .given) i x (k .many) (omega (arith, k .given)) ex)
-          (ap (λ (z : Buffers). set (z .words) i y) (k .are) ∙ over-more wordOf (k .done) new (b₀ .words) i y (k .many) (omega (arith, k .words)) ey);
+          (note .answers ∙ ap (λ (z : Buffers). set (z .answers) i (answerOf new)) (k .are) ∙ over-more answerOf (k .done) new (b₀ .answers) i (k .many) (omega (arith, k .answers)))
+          (note .given ∙ ap (λ (z : Buffers). set (z .given) i (givenOf new)) (k .are) ∙ over-more givenOf (k .done) new (b₀ .given) i (k .many) (omega (arith, k .given)))
+          (note .words ∙ ap (λ (z : Buffers). set (z .words) i (wordOf new)) (k .are) ∙ over-more wordOf (k .done) new (b₀ .words) i (k .many) (omega (arith, k .words)));
       answers = omega (arith, k .answers);
       given = omega (arith, k .given);
       words = omega (arith, k .words);

@@ -18,12 +18,6 @@ use Rattle.replay.specs.declared.Replayed.{Replayed}
 use Rattle.replay.specs.Playing.{Playing, playing, stepOf, played, Logged, answerOf, givenOf, wordOf}
 use Rattle.replay.specs.Replay.{Start, Replay, Buffers}
 
--- one event played on a queue's record, with the memory and the counts as they were and as they are left
-pub record Plays (q : Queue) (c : Counts) (memory : List ℕ) (e : Event) (r : Counted) (left : List ℕ) : Type 0 where
-  pub answer : stepOf (playing (contentsOf q) memory c) e .number ≡ r .answer
-  pub value : stepOf (playing (contentsOf q) memory c) e .value ≡ valueIn (r .value)
-  pub next : played (playing (contentsOf q) memory c) e ≡ playing (contentsOf (r .queue)) left (r .counts)
-
 -- the leading numbers of a trace, and the place after them, where its events begin
 abbrev pub headerIn : Got Header → Header
 headerIn (got h rest) = h

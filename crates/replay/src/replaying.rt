@@ -8,13 +8,13 @@ ghost use Rattle.replay.specs.Replay.{replay};
 ghost use Rattle.replay.specs.Outcome.{Replays, Replayed-as};
 ghost use Rattle.replay.specs.Internal.{Playable, eventsIn, through};
 use crate::Replayed;
-use crate::playing::play_event;
-use crate::playing::value_given;
-use crate::playing::value_word;
+use crate::playing::note;
+use crate::playing::uncounted;
 use crate::preparing::prepare;
 use queue::Counts;
 use queue::Queue;
 use queue::refusal::WRONG_MEMORY;
+use table::Event;
 use table::EventRead;
 use table::Table;
 use table::refusal::TOO_SHORT;
@@ -42,37 +42,63 @@ fn unplayed(answer: u8, counts: Counts) -> Replayed
     }
 }
 
-// Plays the events from a place on, which can all be read.
+// Plays the events from a place on, which can all be read. Each kind's arm puts its own queue in place: a queue that all arms
+// hand to one place would be copied there once more.
 fn play_all(
     mut queue: Queue,
     mut counts: Counts,
     trace: &[u8],
-    at: usize,
+    from: usize,
     memory: &mut [u32],
     answers: &mut [u8],
     given: &mut [u8],
     words: &mut [u32],
 ) -> Replayed
-    requires { ⌜ Playable (now trace) at (record { answers = now answers; given = now given; words = now words }) ⌝ }
-    ensures { λ r. ⌜ Replays (through (playing (contentsOf queue) (now (memory .entry)) counts) (eventsIn (eventsFrom (now (trace .entry)) at)))
+    requires { ⌜ Playable (now trace) from (record { answers = now answers; given = now given; words = now words }) ⌝ }
+    ensures { λ r. ⌜ Replays (through (playing (contentsOf queue) (now (memory .entry)) counts) (eventsIn (eventsFrom (now (trace .entry)) from)))
         (record { answers = now (answers .entry); given = now (given .entry); words = now (words .entry) }) r (now (memory .exit))
         (record { answers = now (answers .exit); given = now (given .exit); words = now (words .exit) }) ⌝ }
 {
-    let mut place = at;
+    let mut place = from;
     let mut i: usize = 0;
     loop {
         let read = read_event(trace, place);
         match read {
             EventRead::Found(event, next) => {
-                let step = play_event(queue, counts, memory, event);
-                let value = step.value;
-                answers[i] = step.answer;
-                given[i] = value_given(value);
-                words[i] = value_word(value);
-                queue = step.queue;
-                counts = step.counts;
+                let at = i;
                 place = next;
                 i += 1;
+                match event {
+                    Event::Activate { group } => {
+                        queue = note(queue.activate(group), at, answers, given, words);
+                    }
+                    Event::LoadAddress { port, address } => {
+                        queue = note(queue.load_address(port, address), at, answers, given, words);
+                    }
+                    Event::StoreAddress { port, address } => {
+                        queue = note(
+                            queue.store_address(port, address),
+                            at,
+                            answers,
+                            given,
+                            words,
+                        );
+                    }
+                    Event::StoreData { port, word } => {
+                        queue = note(queue.store_data(port, word), at, answers, given, words);
+                    }
+                    Event::Serve { serial } => {
+                        let served = queue.serve_counted(memory, counts, serial);
+                        counts = served.counts;
+                        queue = note(uncounted(served), at, answers, given, words);
+                    }
+                    Event::Write { serial } => {
+                        queue = note(queue.write(memory, serial), at, answers, given, words);
+                    }
+                    Event::Take { port } => {
+                        queue = note(queue.take(port), at, answers, given, words);
+                    }
+                }
             }
             EventRead::End => return played(i, counts),
             EventRead::NoEvent(_) => return played(i, counts),

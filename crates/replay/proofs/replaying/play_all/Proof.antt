@@ -6,144 +6,286 @@ use lib.ListN.{length}
 use Rattle.queue.specs.Contents.{contentsOf}
 use Rattle.replay.specs.Playing.{playing}
 use Rattle.replay.proofs.EventLaws.{EventGot, event-got, event-end, event-fault}
+use Rattle.replay.proofs.PlayLaws.{plays-as, play-activate, play-load-address, play-store-address, play-store-data, play-serve, play-write, play-take}
 use Rattle.replay.proofs.ReplayLaws.{buffers, Walk, walk-none, Room, walk-room, walk-lengths, walk-more, walk-end, walk-no-fault}
 use Rattle.replay.proofs.replaying.play_all.Statement.{statement}
 use Rattle.replay.proofs.replaying.play_all.Tie as tie
 use Rattle.replay.proofs.replaying.play_all.Reads as reads
 use Rattle.replay.proofs.replaying.play_all.Lts as lts
-use Rattle.replay.proofs.playing.play_event.Reads as play-event-reads
-use Rattle.replay.proofs.playing.value_given.Reads as value-given-reads
-use Rattle.replay.proofs.playing.value_word.Reads as value-word-reads
+use Rattle.queue.proofs.Queue.activate.Reads as activate-reads
+use Rattle.queue.proofs.Queue.load_address.Reads as load-address-reads
+use Rattle.queue.proofs.Queue.serve_counted.Reads as serve-counted-reads
+use Rattle.queue.proofs.Queue.store_address.Reads as store-address-reads
+use Rattle.queue.proofs.Queue.store_data.Reads as store-data-reads
+use Rattle.queue.proofs.Queue.take.Reads as take-reads
+use Rattle.queue.proofs.Queue.write.Reads as write-reads
+use Rattle.replay.proofs.playing.note.Reads as note-reads
+use Rattle.replay.proofs.playing.uncounted.Reads as uncounted-reads
 use Rattle.replay.proofs.replaying.played.Reads as played-reads
 use Rattle.table.proofs.trace.read_event.Reads as read-event-reads
 
 abbrev Inv-loop : tie.InvT-loop
-Inv-loop queue₀ counts₀ trace at memory₀ answers₀ given₀ words₀ place₀ i₀ queue counts memory answers given words place i =
-    Walk trace at (playing (contentsOf queue₀) memory₀ counts₀) (buffers answers₀ given₀ words₀) place i (playing (contentsOf queue) memory counts) (buffers answers given words) × (length memory ≡ length memory₀)
+Inv-loop queue₀ counts₀ trace from memory₀ answers₀ given₀ words₀ place₀ i₀ queue counts memory answers given words place i =
+    Walk trace from (playing (contentsOf queue₀) memory₀ counts₀) (buffers answers₀ given₀ words₀) place i (playing (contentsOf queue) memory counts) (buffers answers given words) × (length memory ≡ length memory₀)
 
 abbrev μ-loop : tie.MeasureT-loop
-μ-loop queue₀ counts₀ trace at memory₀ answers₀ given₀ words₀ place₀ i₀ queue counts memory answers given words place i = length trace - place
+μ-loop queue₀ counts₀ trace from memory₀ answers₀ given₀ words₀ place₀ i₀ queue counts memory answers given words place i = length trace - place
 
--- src/replaying.rt:52:5
+-- src/replaying.rt:63:5
 loop-holds : tie.Need-loop-holds Inv-loop μ-loop
 loop-holds c = (walk-none (c .before .before .before .before .before .pre), refl)
 
--- src/replaying.rt:53:13
+-- src/replaying.rt:64:13
 read-event-requires : tie.Need-read-event-requires Inv-loop μ-loop
 read-event-requires c κs = search needs
 
--- src/replaying.rt:55:30
+-- src/replaying.rt:66:30
 enum-known-read : tie.Need-enum-known-read Inv-loop μ-loop
 enum-known-read c = search needs
 
--- src/replaying.rt:56:21
-play-event-requires : tie.Need-play-event-requires Inv-loop μ-loop
-play-event-requires c κs = search needs
+-- the event that was read
+event : (c : tie.After-known-told Inv-loop μ-loop) → EventGot (c .before .before .before .before .before .before .before .before .before .before .args .trace .now) (c .before .before .before .before .loop .place) (c .before .read .given .0 .0) (c .before .read .given .0 .1 .0)
+event c = event-got _ _ (sym (c .before .before .before .read-event .ensures) ∙ c .before .read .given .1)
 
--- the event that was read, in what follows its playing
-event : (c : tie.After-slice-known5 Inv-loop μ-loop) → EventGot (c .before .before .before .before .before .before .before .before .before .before .before .before .before .before .args .trace .now) (c .before .before .before .before .before .before .before .before .loop .place) (c .before .before .before .before .before .read .given .0 .0) (c .before .before .before .before .before .read .given .0 .1 .0)
-event c = event-got _ _ (sym (c .before .before .before .before .before .before .before .read-event .ensures) ∙ c .before .before .before .before .before .read .given .1)
+room : (c : tie.After-known-told Inv-loop μ-loop) → Room (c .before .before .before .before .loop .inv .0)
+room c = walk-room (c .before .before .before .before .loop .inv .0) (event c)
 
-room : (c : tie.After-slice-known5 Inv-loop μ-loop) → Room (c .before .before .before .before .before .before .before .before .loop .inv .0)
-room c = walk-room (c .before .before .before .before .before .before .before .before .loop .inv .0) (event c)
-
--- src/replaying.rt:58:17
-slice-write-answers : tie.Need-slice-write-answers Inv-loop μ-loop
-slice-write-answers c = room c .answers
-
--- src/replaying.rt:59:28
-value-given-requires : tie.Need-value-given-requires Inv-loop μ-loop
-value-given-requires c κs = search needs
-
--- src/replaying.rt:59:17
-slice-write-given : tie.Need-slice-write-given Inv-loop μ-loop
-slice-write-given c = room (c .before) .given
-
--- src/replaying.rt:60:28
-value-word-requires : tie.Need-value-word-requires Inv-loop μ-loop
-value-word-requires c κs = search needs
-
--- src/replaying.rt:60:17
-mul-words : tie.Need-mul-words Inv-loop μ-loop
-mul-words c =
-    let w = c .before .before .before .before .before .before .before .before .before .before .loop .inv .0 in
-    let r = room (c .before .before) .words in
-    let g = c .before .before .before .before .before .before .before .before .before .before .before .before .before .before .before .before .good in
-    omega (arith, r, walk-lengths w .2, g)
-
--- src/replaying.rt:60:17
-slice-write-words : tie.Need-slice-write-words Inv-loop μ-loop
-slice-write-words c = room (c .before .before) .words
-
--- src/replaying.rt:64:17
+-- src/replaying.rt:69:17
 add-i : tie.Need-add-i Inv-loop μ-loop
-add-i c =
-    let w = c .before .before .before .before .before .before .before .before .before .before .before .before .loop .inv .0 in
-    let r = room (c .before .before .before .before) .answers in
-    let g = c .before .before .before .before .before .before .before .before .before .before .before .before .before .before .before .before .before .before .good in
-    omega (arith, r, walk-lengths w .0, g)
+add-i c = omega (arith, room c .answers, walk-lengths (c .before .before .before .before .loop .inv .0) .0, c .before .before .before .before .before .before .before .before .before .before .good)
 
--- src/replaying.rt:52:5
+-- src/replaying.rt:71:39
+enum-known-event : tie.Need-enum-known-event Inv-loop μ-loop
+enum-known-event c = search needs
+
+-- src/replaying.rt:72:38
+activate-requires : tie.Need-activate-requires Inv-loop μ-loop
+activate-requires c κs = search needs
+
+-- src/replaying.rt:72:25
+note-requires : tie.Need-note-requires Inv-loop μ-loop
+note-requires c κs = let r = room (c .before .before .before .before .before .before .before) in (r .answers, r .given, r .words)
+
+-- src/replaying.rt:63:5
 loop-less : tie.Need-loop-less Inv-loop μ-loop
-loop-less c = let g = event (c .before .before .before .before) in omega (arith, g .later, g .inside)
+loop-less c = let g = event (c .before .before .before .before .before .before .before .before .before .before .before .before .before .before) in omega (arith, g .later, g .inside)
 
--- src/replaying.rt:52:5
+-- src/replaying.rt:63:5
 loop-again : tie.Need-loop-again Inv-loop μ-loop
-loop-again c = (walk-more (c .before .before .before .before .before .before .before .before .before .before .before .before .loop .inv .0) (event (c .before .before .before .before)) (c .before .before .before .before .before .before .play-event .ensures) (c .before .before .before .value-given .ensures) (c .before .before .value-word .ensures), search needs)
+loop-again c =
+    let n = c .before .before .before .before .before .before in
+    let k = n .before .before .before .before in
+    let t = k .before .before .before .before in
+    let l = t .before .before .before .before in
+    (walk-more (l .loop .inv .0) (event t) (plays-as (k .before .before .event .given .1) (play-activate _ _ _ _ _ (k .activate .ensures))) (n .note .ensures), l .loop .inv .1)
 
--- src/replaying.rt:66:31
+-- src/replaying.rt:74:42
+enum-known-event-2 : tie.Need-enum-known-event-2 Inv-loop μ-loop
+enum-known-event-2 c = search needs
+
+-- src/replaying.rt:75:38
+load-address-requires : tie.Need-load-address-requires Inv-loop μ-loop
+load-address-requires c κs = search needs
+
+-- src/replaying.rt:75:25
+note-requires-2 : tie.Need-note-requires-2 Inv-loop μ-loop
+note-requires-2 c κs = let r = room (c .before .before .before .before .before .before .before) in (r .answers, r .given, r .words)
+
+-- src/replaying.rt:63:5
+loop-less-2 : tie.Need-loop-less-2 Inv-loop μ-loop
+loop-less-2 c = let g = event (c .before .before .before .before .before .before .before .before .before .before .before .before .before .before) in omega (arith, g .later, g .inside)
+
+-- src/replaying.rt:63:5
+loop-again-2 : tie.Need-loop-again-2 Inv-loop μ-loop
+loop-again-2 c =
+    let n = c .before .before .before .before .before .before in
+    let k = n .before .before .before .before in
+    let t = k .before .before .before .before in
+    let l = t .before .before .before .before in
+    (walk-more (l .loop .inv .0) (event t) (plays-as (k .before .before .event2 .given .1) (play-load-address _ _ _ _ _ _ (k .load-address .ensures))) (n .note2 .ensures), l .loop .inv .1)
+
+-- src/replaying.rt:77:43
+enum-known-event-3 : tie.Need-enum-known-event-3 Inv-loop μ-loop
+enum-known-event-3 c = search needs
+
+-- src/replaying.rt:79:29
+store-address-requires : tie.Need-store-address-requires Inv-loop μ-loop
+store-address-requires c κs = search needs
+
+-- src/replaying.rt:78:25
+note-requires-3 : tie.Need-note-requires-3 Inv-loop μ-loop
+note-requires-3 c κs = let r = room (c .before .before .before .before .before .before .before) in (r .answers, r .given, r .words)
+
+-- src/replaying.rt:63:5
+loop-less-3 : tie.Need-loop-less-3 Inv-loop μ-loop
+loop-less-3 c = let g = event (c .before .before .before .before .before .before .before .before .before .before .before .before .before .before) in omega (arith, g .later, g .inside)
+
+-- src/replaying.rt:63:5
+loop-again-3 : tie.Need-loop-again-3 Inv-loop μ-loop
+loop-again-3 c =
+    let n = c .before .before .before .before .before .before in
+    let k = n .before .before .before .before in
+    let t = k .before .before .before .before in
+    let l = t .before .before .before .before in
+    (walk-more (l .loop .inv .0) (event t) (plays-as (k .before .before .event3 .given .1) (play-store-address _ _ _ _ _ _ (k .store-address .ensures))) (n .note3 .ensures), l .loop .inv .1)
+
+-- src/replaying.rt:86:40
+enum-known-event-4 : tie.Need-enum-known-event-4 Inv-loop μ-loop
+enum-known-event-4 c = search needs
+
+-- src/replaying.rt:87:38
+store-data-requires : tie.Need-store-data-requires Inv-loop μ-loop
+store-data-requires c κs = search needs
+
+-- src/replaying.rt:87:25
+note-requires-4 : tie.Need-note-requires-4 Inv-loop μ-loop
+note-requires-4 c κs = let r = room (c .before .before .before .before .before .before .before) in (r .answers, r .given, r .words)
+
+-- src/replaying.rt:63:5
+loop-less-4 : tie.Need-loop-less-4 Inv-loop μ-loop
+loop-less-4 c = let g = event (c .before .before .before .before .before .before .before .before .before .before .before .before .before .before) in omega (arith, g .later, g .inside)
+
+-- src/replaying.rt:63:5
+loop-again-4 : tie.Need-loop-again-4 Inv-loop μ-loop
+loop-again-4 c =
+    let n = c .before .before .before .before .before .before in
+    let k = n .before .before .before .before in
+    let t = k .before .before .before .before in
+    let l = t .before .before .before .before in
+    (walk-more (l .loop .inv .0) (event t) (plays-as (k .before .before .event4 .given .1) (play-store-data _ _ _ _ _ _ (k .store-data .ensures))) (n .note4 .ensures), l .loop .inv .1)
+
+-- src/replaying.rt:89:36
+enum-known-event-5 : tie.Need-enum-known-event-5 Inv-loop μ-loop
+enum-known-event-5 c = search needs
+
+-- src/replaying.rt:90:29
+serve-counted-requires : tie.Need-serve-counted-requires Inv-loop μ-loop
+serve-counted-requires c κs = search needs
+
+-- src/replaying.rt:92:38
+uncounted-requires : tie.Need-uncounted-requires Inv-loop μ-loop
+uncounted-requires c κs = search needs
+
+-- src/replaying.rt:92:25
+note-requires-5 : tie.Need-note-requires-5 Inv-loop μ-loop
+note-requires-5 c κs = let r = room (c .before .before .before .before .before .before .before .before .before .before) in (r .answers, r .given, r .words)
+
+-- src/replaying.rt:63:5
+loop-less-5 : tie.Need-loop-less-5 Inv-loop μ-loop
+loop-less-5 c = let g = event (c .before .before .before .before .before .before .before .before .before .before .before .before .before .before .before .before .before) in omega (arith, g .later, g .inside)
+
+-- src/replaying.rt:63:5
+loop-again-5 : tie.Need-loop-again-5 Inv-loop μ-loop
+loop-again-5 c =
+    let n = c .before .before .before .before .before .before in
+    let k = n .before .before .before .before .before .before in
+    let t = k .before .before .before .before .before in
+    let l = t .before .before .before .before in
+    (walk-more (l .loop .inv .0) (event t) (plays-as (k .before .before .before .event5 .given .1) (play-serve _ _ _ _ _ _ (n .before .before .before .before .uncounted .ensures) (k .serve-counted .ensures))) (n .note5 .ensures), l .loop .inv .1)
+
+-- src/replaying.rt:94:36
+enum-known-event-6 : tie.Need-enum-known-event-6 Inv-loop μ-loop
+enum-known-event-6 c = search needs
+
+-- src/replaying.rt:95:38
+write-requires : tie.Need-write-requires Inv-loop μ-loop
+write-requires c κs = search needs
+
+-- src/replaying.rt:95:25
+note-requires-6 : tie.Need-note-requires-6 Inv-loop μ-loop
+note-requires-6 c κs = let r = room (c .before .before .before .before .before .before .before .before .before .before) in (r .answers, r .given, r .words)
+
+-- src/replaying.rt:63:5
+loop-less-6 : tie.Need-loop-less-6 Inv-loop μ-loop
+loop-less-6 c = let g = event (c .before .before .before .before .before .before .before .before .before .before .before .before .before .before .before .before .before) in omega (arith, g .later, g .inside)
+
+-- src/replaying.rt:63:5
+loop-again-6 : tie.Need-loop-again-6 Inv-loop μ-loop
+loop-again-6 c =
+    let n = c .before .before .before .before .before .before in
+    let k = n .before .before .before .before .before .before in
+    let t = k .before .before .before .before .before in
+    let l = t .before .before .before .before in
+    (walk-more (l .loop .inv .0) (event t) (plays-as (k .before .before .before .event6 .given .1) (play-write _ _ _ _ _ _ (k .write .ensures))) (n .note6 .ensures), search (needs, l .loop .inv .1))
+
+-- src/replaying.rt:97:35
+enum-known-event-7 : tie.Need-enum-known-event-7 Inv-loop μ-loop
+enum-known-event-7 c = search needs
+
+-- src/replaying.rt:98:38
+take-requires : tie.Need-take-requires Inv-loop μ-loop
+take-requires c κs = search needs
+
+-- src/replaying.rt:98:25
+note-requires-7 : tie.Need-note-requires-7 Inv-loop μ-loop
+note-requires-7 c κs = let r = room (c .before .before .before .before .before .before .before) in (r .answers, r .given, r .words)
+
+-- src/replaying.rt:63:5
+loop-less-7 : tie.Need-loop-less-7 Inv-loop μ-loop
+loop-less-7 c = let g = event (c .before .before .before .before .before .before .before .before .before .before .before .before .before .before) in omega (arith, g .later, g .inside)
+
+-- src/replaying.rt:63:5
+loop-again-7 : tie.Need-loop-again-7 Inv-loop μ-loop
+loop-again-7 c =
+    let n = c .before .before .before .before .before .before in
+    let k = n .before .before .before .before in
+    let t = k .before .before .before .before in
+    let l = t .before .before .before .before in
+    (walk-more (l .loop .inv .0) (event t) (plays-as (k .before .before .event7 .given .1) (play-take _ _ _ _ _ (k .take .ensures))) (n .note7 .ensures), l .loop .inv .1)
+
+-- src/replaying.rt:102:31
 enum-told : tie.Need-enum-told Inv-loop μ-loop
 enum-told c = search needs
 
--- src/replaying.rt:66:31
+-- src/replaying.rt:102:31
 played-requires : tie.Need-played-requires Inv-loop μ-loop
 played-requires c κs = search needs
 
--- src/replaying.rt:66:31
+-- src/replaying.rt:102:31
 same-length : tie.Need-same-length Inv-loop μ-loop
 same-length c = c .before .before .before .before .loop .inv .1
 
--- src/replaying.rt:66:31
+-- src/replaying.rt:102:31
 same-length-2 : tie.Need-same-length-2 Inv-loop μ-loop
 same-length-2 c = walk-lengths (c .before .before .before .before .loop .inv .0) .0
 
--- src/replaying.rt:66:31
+-- src/replaying.rt:102:31
 same-length-3 : tie.Need-same-length-3 Inv-loop μ-loop
 same-length-3 c = walk-lengths (c .before .before .before .before .loop .inv .0) .1
 
--- src/replaying.rt:66:31
+-- src/replaying.rt:102:31
 same-length-4 : tie.Need-same-length-4 Inv-loop μ-loop
 same-length-4 c = walk-lengths (c .before .before .before .before .loop .inv .0) .2
 
--- src/replaying.rt:66:31
+-- src/replaying.rt:102:31
 returns : tie.Need-returns Inv-loop μ-loop
 returns c = rw (c .played .ensures) (walk-end (c .before .before .before .before .loop .inv .0) (event-end _ _ (sym (c .before .before .before .read-event .ensures) ∙ c .before .enum-told .given .1)))
 
--- src/replaying.rt:67:38
+-- src/replaying.rt:103:38
 enum-told-2 : tie.Need-enum-told-2 Inv-loop μ-loop
 enum-told-2 c = search needs
 
--- src/replaying.rt:67:38
+-- src/replaying.rt:103:38
 played-requires-2 : tie.Need-played-requires-2 Inv-loop μ-loop
 played-requires-2 c κs = search needs
 
--- src/replaying.rt:67:38
+-- src/replaying.rt:103:38
 same-length-5 : tie.Need-same-length-5 Inv-loop μ-loop
 same-length-5 c = c .before .before .before .before .loop .inv .1
 
--- src/replaying.rt:67:38
+-- src/replaying.rt:103:38
 same-length-6 : tie.Need-same-length-6 Inv-loop μ-loop
 same-length-6 c = walk-lengths (c .before .before .before .before .loop .inv .0) .0
 
--- src/replaying.rt:67:38
+-- src/replaying.rt:103:38
 same-length-7 : tie.Need-same-length-7 Inv-loop μ-loop
 same-length-7 c = walk-lengths (c .before .before .before .before .loop .inv .0) .1
 
--- src/replaying.rt:67:38
+-- src/replaying.rt:103:38
 same-length-8 : tie.Need-same-length-8 Inv-loop μ-loop
 same-length-8 c = walk-lengths (c .before .before .before .before .loop .inv .0) .2
 
--- src/replaying.rt:67:38
+-- src/replaying.rt:103:38
 returns-2 : tie.Need-returns-2 Inv-loop μ-loop
 returns-2 c = absurd (walk-no-fault (c .before .before .before .before .loop .inv .0) (event-fault _ _ (sym (c .before .before .before .read-event .ensures) ∙ c .before .enum-told2 .given .1)))
 
@@ -156,16 +298,43 @@ play-all-spec =
     loop-holds
     read-event-requires
     enum-known-read
-    play-event-requires
-    slice-write-answers
-    value-given-requires
-    slice-write-given
-    value-word-requires
-    mul-words
-    slice-write-words
     add-i
+    enum-known-event
+    activate-requires
+    note-requires
     loop-less
     loop-again
+    enum-known-event-2
+    load-address-requires
+    note-requires-2
+    loop-less-2
+    loop-again-2
+    enum-known-event-3
+    store-address-requires
+    note-requires-3
+    loop-less-3
+    loop-again-3
+    enum-known-event-4
+    store-data-requires
+    note-requires-4
+    loop-less-4
+    loop-again-4
+    enum-known-event-5
+    serve-counted-requires
+    uncounted-requires
+    note-requires-5
+    loop-less-5
+    loop-again-5
+    enum-known-event-6
+    write-requires
+    note-requires-6
+    loop-less-6
+    loop-again-6
+    enum-known-event-7
+    take-requires
+    note-requires-7
+    loop-less-7
+    loop-again-7
     enum-told
     played-requires
     same-length

@@ -64,8 +64,8 @@ returns-2 c =
 no-pairs-requires : tie.Need-no-pairs-requires
 no-pairs-requires c κs = search needs
 
-cast-t24 : tie.Need-cast-t24
-cast-t24 c = omega (arith, few (c .before) .1)
+cast-few-stores : tie.Need-cast-few-stores
+cast-few-stores c = omega (arith, few (c .before) .1)
 
 read-pairs-requires : tie.Need-read-pairs-requires
 read-pairs-requires c κs =
@@ -90,10 +90,6 @@ loads-right c = read-right _ _ _ _ _ _ (loads c .is)
 
 loads-few : (c : tie.Else2) → length (loads c .pairs) ≤ 16
 loads-few c = omega (arith, loads-right c .1, few (c .before .before .before .before .before) .0)
-
-cast-t24-2 : tie.Need-cast-t24-2
-cast-t24-2 c =
-    omega (arith, few (c .before .before .before .before .before .before) .1)
 
 read-pairs-requires-2 : tie.Need-read-pairs-requires-2
 read-pairs-requires-2 c κs =
@@ -140,11 +136,10 @@ read-group-spec =
     no-group-requires-2
     returns-2
     no-pairs-requires
-    cast-t24
+    cast-few-stores
     read-pairs-requires
     no-group-requires-3
     returns-3
-    cast-t24-2
     read-pairs-requires-2
     no-group-requires-4
     returns-4

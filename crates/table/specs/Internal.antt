@@ -1,5 +1,5 @@
 -- What the crate's own functions promise each other: nothing here is promised to a caller from outside.
-use Prim.Native.Nat.{ℕ, zero, suc, _+_, _*_, _≤_, _<_}
+use Prim.Native.Nat.{ℕ, _≤_, _<_}
 use mathlib.Core.Path.{_≡_}
 use mathlib.Core.Bool.{Bool, true}
 use mathlib.Core.List.{List, [], _∷_}
@@ -18,18 +18,7 @@ use Rattle.table.specs.TableBytes.{packPairs, packGroup, pack}
 use Rattle.table.specs.Basics.{pick}
 use Rattle.table.specs.Group.{GroupPairs, listOf}
 use Rattle.table.specs.Table.{blankGroup, loadRule, storeRule, pairsFault, seeing, Seen, seenAfter, groupFault}
-use Rattle.table.specs.declared.NumberRead.{NumberRead}
 use Rattle.table.specs.declared.trace.Numbers.{Numbers}
-use Rattle.table.specs.declared.NumberRead.the-variants.{Number, Refused}
-
--- numbers of one byte and up to `more` after it, the last of which is at most 0F, are below this
-abbrev pub numberBound : ℕ → ℕ
-numberBound zero = 16
-numberBound (suc more) = 128 * numberBound more
-
-abbrev pub NumberBelow : ℕ → NumberRead → Type 0
-NumberBelow more (Number value next) = value < numberBound more
-NumberBelow more (Refused number) = Unit {0}
 
 -- the numbers that are written together
 abbrev pub listed : Numbers → List ℕ

@@ -1,18 +1,14 @@
 -- Both counts, then the loads, then the stores, whose rule goes by the loads that were read.
-use Prim.Native.Nat.{ℕ, _≤_}
-use mathlib.Core.Path.{_≡_, refl, sym, ap, subst, _∙_}
-use mathlib.Core.Bool.{true, false, false≢true}
+use Prim.Native.Nat.{_≤_}
+use mathlib.Core.Path.{_≡_, sym, ap, _∙_}
+use mathlib.Core.Bool.{true, false≢true}
 use native.Mathlib.Omega.{arith}
 use lib.ListN.{length, drop}
-use mathlib.Core.List.{List}
 use borrow.Author.Tests.{not-true, not-false}
-use Rattle.table.specs.declared.Pair.{Pair}
 use Rattle.table.specs.declared.Pairs.{Pairs}
-use Rattle.table.specs.Group.{listOf}
-use Rattle.table.specs.Table.{loadRule, storeRule, pairsFault, countsRight}
+use Rattle.table.specs.Table.{loadRule, pairsFault, countsRight}
 use Rattle.table.specs.TableBytes.{readPairs}
-use Rattle.table.specs.Number.{got, bad}
-use Rattle.table.specs.Internal.{twoRefusal, seenOf, GroupResult, group-none, group-found}
+use Rattle.table.specs.Internal.{twoRefusal, seenOf, group-none, group-found}
 use Rattle.table.proofs.CheckLaws.{counts-few, rising-checked}
 use Rattle.table.proofs.ReadLaws.{TwoGot, two-answer, two-bad, two-refused, pairs-bad, PairsGot, pairs-got, read-right, group-refused, group-counts-bad, group-loads-bad, group-stores-bad, group-read, store-rule, same-stores, group-made}
 use borrow.Author.Needs.{needs}

@@ -1,9 +1,8 @@
 -- i pairs have been read into the array; what is left to read is the rest, with the marks and the last offset so far.
-use Prim.Native.Nat.{ℕ, _≤_, _<_, _-_}
+use Prim.Native.Nat.{ℕ, _≤_, _-_}
 use mathlib.Core.Path.{_≡_, refl, sym, ap, _∙_}
 use mathlib.Core.Bool.{Bool}
 use native.Mathlib.Omega.{arith}
-use lib.ListN.{length, getD}
 use borrow.Author.Needs.{needs}
 use Rattle.table.specs.declared.Pairs.{Pairs}
 use Rattle.table.specs.Table.{pairFault}

@@ -2,88 +2,146 @@
 use Prim.Native.Nat.{ℕ, zero, suc, _+_, _-_, _*_, _/_, _%_, _≤_, _<_, _^_}
 use mathlib.Core.Path.{_≡_, refl, sym, ap, _∙_}
 use mathlib.Core.Bool.{Bool, true, false}
-use mathlib.Core.List.{List, [], _∷_, _++_}
+use mathlib.Core.List.{List, [], _∷_}
 use native.Mathlib.Omega.{arith}
 use native.Mathlib.Numerals.{add-one}
 use lib.Dec.{leb, ltb}
-use lib.ListN.{length, getD, drop, take, length-drop, drop-of-length-le}
+use lib.ListN.{length, getD, drop, length-drop, drop-of-length-le}
 use lib.Seq.{drop-cons, drop-drop}
 use lib.Count.{leadingZeros, leading-length}
 use lib.Pow.{pow-mono}
-use native.Mathlib.Nat.{le-trans, pow-suc}
+use native.Mathlib.Nat.{le-trans, pow-suc, add-mul, mul-assoc, mul-comm, mul-le-mul-left, mul-le-mul-right}
 use borrow.Author.Tests.{lt-ltb, le-ltb, le-leb, lt-leb, ltb-true, ltb-false, leb-true, leb-false}
 use Rattle.table.specs.declared.NumberRead.the-variants.{Number, Refused}
 use Rattle.table.specs.Basics.{pick}
 use Rattle.table.specs.Refusal.{ended, tooLarge}
-use Rattle.table.specs.Internal.{numberBound}
 use Rattle.table.specs.Number.{Got, got, bad, above, numberUpTo, readNumber, numberAnswer, placeOf, significantBits, byteCount, bytesUpTo, numberBytes}
 
 -- the place where what is left after `at` bytes begins
 pub place-drop : (s : List ℕ) (at : ℕ) → at ≤ length s → placeOf s (drop at s) ≡ at
 place-drop s at h = rw length-drop (omega arith)
 
-module _ (top : ℕ) (s : List ℕ) (at : ℕ) where
-  pub number-ended : (more : ℕ) → length s ≤ at → Refused ended ≡ numberAnswer s (numberUpTo more top (drop at s))
+-- numbers of one byte and up to `more` after it, the last of which is at most 0F, are below this
+abbrev pub numberBound : ℕ → ℕ
+numberBound zero = 16
+numberBound (suc more) = 128 * numberBound more
+
+bound-least : (more : ℕ) → 16 ≤ numberBound more
+bound-least zero = omega arith
+bound-least (suc more) = omega (arith, bound-least more)
+
+-- ---- reading a number byte by byte
+
+-- what the bytes at a place say, where a number of one byte and up to `more` after it is read
+module _ (s : List ℕ) (at : ℕ) where
+  up-ended : (more : ℕ) → length s ≤ at → numberUpTo more 15 (drop at s) ≡ bad ended
   unfolding numberUpTo
-  number-ended zero h = rw (drop-of-length-le s h)
-  number-ended (suc more) h = rw (drop-of-length-le s h)
+  up-ended zero h = rw (drop-of-length-le s h)
+  up-ended (suc more) h = rw (drop-of-length-le s h)
 
   module _ (h : at < length s) where
-    last-place : at + 1 ≡ placeOf s (drop (suc at) s)
-    last-place = add-one at ∙ sym (place-drop s (suc at) h)
-
-    pub number-last : getD s at 0 ≤ top → Number (getD s at 0) (at + 1) ≡ numberAnswer s (numberUpTo zero top (drop at s))
+    up-last : getD s at 0 ≤ 15 → numberUpTo zero 15 (drop at s) ≡ got (getD s at 0) (drop (at + 1) s)
     unfolding numberUpTo
-    number-last k = rw (drop-cons s at 0 h, le-leb _ _ k, last-place)
+    up-last k = rw (drop-cons s at 0 h, le-leb _ _ k, add-one)
 
-    pub number-too-large : top < getD s at 0 → Refused tooLarge ≡ numberAnswer s (numberUpTo zero top (drop at s))
+    up-too-large : 15 < getD s at 0 → numberUpTo zero 15 (drop at s) ≡ bad tooLarge
     unfolding numberUpTo
-    number-too-large k = rw (drop-cons s at 0 h, lt-leb _ _ k)
+    up-too-large k = rw (drop-cons s at 0 h, lt-leb _ _ k)
 
-    pub number-one : (more : ℕ) → (more ≡ 0 → ⊥) → getD s at 0 < 128 → Number (getD s at 0) (at + 1) ≡ numberAnswer s (numberUpTo more top (drop at s))
-    unfolding numberUpTo
-    number-one zero p k = absurd (p refl)
-    number-one (suc more) p k = rw (drop-cons s at 0 h, lt-ltb _ _ k, last-place)
+    module _ {more fewer : ℕ} (e : more ≡ suc fewer) where
+      up-one : getD s at 0 < 128 → numberUpTo more 15 (drop at s) ≡ got (getD s at 0) (drop (at + 1) s)
+      unfolding numberUpTo
+      up-one k = rw (e, drop-cons s at 0 h, lt-ltb _ _ k, add-one)
 
-    number-step : (more : ℕ) → (more ≡ 0 → ⊥) → 128 ≤ getD s at 0 → numberUpTo more top (drop at s) ≡ above (getD s at 0 - 128) (numberUpTo (more - 1) top (drop (at + 1) s))
-    unfolding numberUpTo
-    number-step zero p k = absurd (p refl)
-    number-step (suc more) p k =
-        let e : suc more - 1 ≡ more = omega arith in
-        rw (e, drop-cons s at 0 h, le-ltb _ _ k, add-one)
+      up-more : 128 ≤ getD s at 0 → numberUpTo more 15 (drop at s) ≡ above (getD s at 0 - 128) (numberUpTo fewer 15 (drop (at + 1) s))
+      unfolding numberUpTo
+      up-more k = rw (e, drop-cons s at 0 h, le-ltb _ _ k, add-one)
 
-    module _ (more : ℕ) (p : more ≡ 0 → ⊥) (k : 128 ≤ getD s at 0) where
-      pub number-more : {v next : ℕ} → Number v next ≡ numberAnswer s (numberUpTo (more - 1) top (drop (at + 1) s)) → Number (getD s at 0 - 128 + 128 * v) next ≡ numberAnswer s (numberUpTo more top (drop at s))
-      number-more {v} {next} e = rw (number-step more p k) (go (numberUpTo (more - 1) top (drop (at + 1) s)) e)
-        where
-          go : (g : Got ℕ) → Number v next ≡ numberAnswer s g → Number (getD s at 0 - 128 + 128 * v) next ≡ numberAnswer s (above (getD s at 0 - 128) g)
-          go (got n rest) d = let q : v ≡ n = cc in let r : next ≡ placeOf s rest = cc in rw (q, r)
-          go (bad n) d = let z : _≡_ {A = ℕ} 0 1 = cc in absurd (omega arith)
+-- a number of higher groups above the groups worth `value`, where the next group counts `scale`
+abbrev over : ℕ → ℕ → Got ℕ → Got ℕ
+over value scale (got n s) = got (value + n * scale) s
+over value scale (bad k) = bad k
 
-      pub number-more-refused : {n : ℕ} → Refused n ≡ numberAnswer s (numberUpTo (more - 1) top (drop (at + 1) s)) → Refused n ≡ numberAnswer s (numberUpTo more top (drop at s))
-      number-more-refused {n} e = rw (number-step more p k) (go (numberUpTo (more - 1) top (drop (at + 1) s)) e)
-        where
-          go : (g : Got ℕ) → Refused n ≡ numberAnswer s g → Refused n ≡ numberAnswer s (above (getD s at 0 - 128) g)
-          go (got m rest) d = let z : _≡_ {A = ℕ} 0 1 = cc in absurd (omega arith)
-          go (bad m) d = d
+over-none : (g : Got ℕ) → over 0 1 g ≡ g
+over-none (got n s) = let e : 0 + n * 1 ≡ n = omega arith in rw e
+over-none (bad k) = refl
 
--- every number of one byte and up to `more` after it is below the bound, which for four is 2 ^ 32
-pub bound-step : (more : ℕ) → (more ≡ 0 → ⊥) → numberBound more ≡ 128 * numberBound (more - 1)
-bound-step zero p = absurd (p refl)
-bound-step (suc more) p = let e : suc more - 1 ≡ more = omega arith in rw e
+over-above : (value low scale : ℕ) (g : Got ℕ) → over value scale (above low g) ≡ over (value + low * scale) (scale * 128) g
+over-above value low scale (got n s) =
+    let e : (low + 128 * n) * scale ≡ low * scale + n * (scale * 128) = add-mul low (128 * n) scale ∙ rw (mul-comm 128 n, mul-assoc, mul-comm 128 scale) in
+    let d : value + (low + 128 * n) * scale ≡ value + low * scale + n * (scale * 128) = omega arith in
+    rw d
+over-above value low scale (bad k) = refl
 
-pub bound-most : (more : ℕ) → more ≤ 4 → numberBound more ≤ 2 ^ 32
-bound-most zero h = omega arith
-bound-most (suc zero) h = omega arith
-bound-most (suc (suc zero)) h = omega arith
-bound-most (suc (suc (suc zero))) h = omega arith
-bound-most (suc (suc (suc (suc zero)))) h = omega arith
-bound-most (suc (suc (suc (suc (suc more))))) h = absurd (omega arith)
+-- the bytes from `at` to `place` are groups of a number, worth `value`; the next group counts `scale`, and up to `more` may follow it
+pub record NumberSoFar (s : List ℕ) (at value scale place : ℕ) : Type 0 where
+  pub more : ℕ
+  pub is : readNumber (drop at s) ≡ over value scale (numberUpTo more 15 (drop place s))
+  pub below : value < scale
+  pub room : scale * numberBound more ≡ 2 ^ 32
 
-pub bound-least : (more : ℕ) → (more ≡ 0 → ⊥) → 128 < numberBound more
-bound-least zero p = absurd (p refl)
-bound-least (suc zero) p = omega arith
-bound-least (suc (suc more)) p = let h = bound-least (suc more) (λ e. omega arith) in omega arith
+pub number-begun : {s : List ℕ} {at : ℕ} → NumberSoFar s at 0 1 at
+number-begun {s} {at} = record { more = 4; is = sym (over-none (readNumber (drop at s))); below = omega arith; room = refl }
+
+-- the scale tells whether the next group is the fifth
+module _ (scale : ℕ) where
+  scale-most : (more : ℕ) → scale * numberBound (suc more) ≡ 2 ^ 32 → scale * 128 ≤ 2 ^ 28
+  scale-most more r = omega (arith, mul-assoc scale 128 (numberBound more), mul-le-mul-left (scale * 128) (bound-least more))
+
+  fifth : (more : ℕ) → scale * numberBound more ≡ 2 ^ 32 → 2 ^ 28 ≤ scale → more ≡ 0
+  fifth zero r h = refl
+  fifth (suc more) r h = absurd (omega (arith, scale-most more r))
+
+  not-fifth : (more : ℕ) → scale * numberBound more ≡ 2 ^ 32 → scale < 2 ^ 28 → more ≡ suc (more - 1)
+  not-fifth zero r h = absurd (omega arith)
+  not-fifth (suc more) r h = omega arith
+
+module _ {s : List ℕ} {at value scale place : ℕ} (w : NumberSoFar s at value scale place) where
+  pub number-ended : length s ≤ place → Refused ended ≡ numberAnswer s (readNumber (drop at s))
+  number-ended h = rw (w .is, up-ended s place (w .more) h)
+
+  -- a group that ends the number
+  ends : place < length s → numberUpTo (w .more) 15 (drop place s) ≡ got (getD s place 0) (drop (place + 1) s) → Number (value + getD s place 0 * scale) (place + 1) ≡ numberAnswer s (readNumber (drop at s))
+  ends h e = rw (w .is, e, place-drop s (place + 1) (omega arith))
+
+  module _ (t : scale < 2 ^ 28) where
+    some : w .more ≡ suc (w .more - 1)
+    some = not-fifth scale (w .more) (w .room) t
+
+    room-left : scale * numberBound (suc (w .more - 1)) ≡ 2 ^ 32
+    room-left = ap (λ (m : ℕ). scale * numberBound m) (sym some) ∙ w .room
+
+    pub group-fits : (b : ℕ) → b < 128 → (value + b * scale < scale * 128) × (scale * 128 ≤ 2 ^ 28)
+    group-fits b k = (omega (arith, w .below, mul-le-mul-right {m = b} {n = 127} scale (omega arith)), scale-most scale (w .more - 1) room-left)
+
+    module _ (h : place < length s) where
+      pub number-one : getD s place 0 < 128 → Number (value + getD s place 0 * scale) (place + 1) ≡ numberAnswer s (readNumber (drop at s))
+      number-one k = ends h (up-one s place h some k)
+
+      pub number-more : 128 ≤ getD s place 0 → getD s place 0 < 256 → NumberSoFar s at (value + (getD s place 0 - 128) * scale) (scale * 128) (place + 1)
+      number-more k b =
+          record {
+            more = w .more - 1;
+            is = w .is ∙ ap (over value scale) (up-more s place h some k) ∙ over-above value (getD s place 0 - 128) scale (numberUpTo (w .more - 1) 15 (drop (place + 1) s));
+            below = group-fits (getD s place 0 - 128) (omega arith) .0;
+            room = mul-assoc scale 128 (numberBound (w .more - 1)) ∙ room-left;
+          }
+
+  module _ (t : 2 ^ 28 ≤ scale) where
+    none : w .more ≡ 0
+    none = fifth scale (w .more) (w .room) t
+
+    pub last-fits : (b : ℕ) → b ≤ 15 → value + b * scale < 2 ^ 32
+    last-fits b k =
+        let r : scale * 16 ≡ 2 ^ 32 = ap (λ (m : ℕ). scale * numberBound m) (sym none) ∙ w .room in
+        omega (arith, w .below, mul-le-mul-right {m = b} {n = 15} scale k)
+
+    module _ (h : place < length s) where
+      pub number-last : getD s place 0 ≤ 15 → Number (value + getD s place 0 * scale) (place + 1) ≡ numberAnswer s (readNumber (drop at s))
+      number-last k = ends h (rw none (up-last s place h k))
+
+      pub number-too-large : 15 < getD s place 0 → Refused tooLarge ≡ numberAnswer s (readNumber (drop at s))
+      number-too-large k = rw (w .is, none, up-too-large s place h k)
 
 -- ---- how long a number is
 

@@ -10,10 +10,9 @@ use borrow.Author.Tests.{lt-ltb, le-ltb, le-leb, ltb-true, ltb-false, leb-true}
 use Rattle.table.specs.Basics.{pick, all}
 use Rattle.table.specs.Refusal.{tooLarge}
 use Rattle.table.specs.Number.{Got, got, bad, above, numberUpTo, readNumber, bytesUpTo, numberBytes, bytesOf, spells, isEmpty, valueOf}
-use Rattle.table.specs.Internal.{numberBound}
 use Rattle.table.specs.RoundTrip.{Spelled, nothing, next, Fit, none, one, isByte, NumbersAreSpelled, OnlySpelledNumbers, NumbersReadBack, NumberLength, FewestBytes}
 use Rattle.table.proofs.CheckLaws.{and-left, and-right}
-use Rattle.table.proofs.NumberLaws.{number-length-law}
+use Rattle.table.proofs.NumberLaws.{numberBound, number-length-law}
 
 no : {A : Type 0} → false ≡ true → A
 no e = let z : _≡_ {A = ℕ} 0 1 = cc in absurd (omega arith)

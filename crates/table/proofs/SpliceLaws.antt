@@ -14,8 +14,7 @@ use Rattle.table.specs.declared.Written.the-variants.{Bytes, Unwritten}
 use Rattle.table.specs.Basics.{pick, splice}
 use Rattle.table.specs.Refusal.{tooShort}
 use Rattle.table.specs.Number.{bytesUpTo, numberBytes, bytesOf, Wrote, wrote}
-use Rattle.table.specs.Internal.{numberBound}
-use Rattle.table.proofs.NumberLaws.{bound-most}
+use Rattle.table.proofs.NumberLaws.{numberBound}
 
 pub splice-none : (d : List ℕ) (p : ℕ) → splice d p [] ≡ d
 splice-none d p = rw (append-nil, add-zero) (take-append-drop p d)

@@ -1,37 +1,24 @@
 -- What the crate's own functions promise each other: nothing here is promised to a caller from outside.
-use Prim.Native.Nat.{ℕ, zero, suc, _+_, _*_, _≤_, _<_}
+use Prim.Native.Nat.{ℕ, _≤_, _<_}
 use mathlib.Core.Path.{_≡_}
 use mathlib.Core.Bool.{Bool, true}
 use mathlib.Core.List.{List, [], _∷_}
 use lib.ListN.{length, getD, take, drop}
 use Rattle.table.specs.declared.Pair.{Pair}
+use Rattle.table.specs.declared.Pairs.{Pairs}
 use Rattle.table.specs.declared.Group.{Group}
 use Rattle.table.specs.declared.Table.{Table}
-use Rattle.table.specs.declared.check.Rule.{Rule}
 use Rattle.table.specs.declared.read.TwoRead.{TwoRead}
+use Rattle.table.specs.declared.read.Ports.{Ports}
 use Rattle.table.specs.declared.read.PairsRead.{PairsRead}
 use Rattle.table.specs.declared.read.GroupRead.{GroupRead}
 use Rattle.table.specs.declared.read.GroupsRead.{GroupsRead}
 use Rattle.table.specs.Number.{Got, got, bad, andThen, readNumber, placeOf}
 use Rattle.table.specs.TableBytes.{packPairs, packGroup, pack}
-use Rattle.table.specs.declared.check.Checked.{Checked}
-use Rattle.table.specs.declared.check.Ports.{Ports}
-use Rattle.table.specs.declared.check.Passed.{Passed}
 use Rattle.table.specs.Basics.{pick}
 use Rattle.table.specs.Group.{GroupPairs, listOf}
 use Rattle.table.specs.Table.{blankGroup, loadRule, storeRule, pairsFault, seeing, Seen, seenAfter, groupFault}
-use Rattle.table.specs.declared.NumberRead.{NumberRead}
 use Rattle.table.specs.declared.trace.Numbers.{Numbers}
-use Rattle.table.specs.declared.NumberRead.the-variants.{Number, Refused}
-
--- numbers of one byte and up to `more` after it, the last of which is at most 0F, are below this
-abbrev pub numberBound : ℕ → ℕ
-numberBound zero = 16
-numberBound (suc more) = 128 * numberBound more
-
-abbrev pub NumberBelow : ℕ → NumberRead → Type 0
-NumberBelow more (Number value next) = value < numberBound more
-NumberBelow more (Refused number) = Unit {0}
 
 -- the numbers that are written together
 abbrev pub listed : Numbers → List ℕ
@@ -39,33 +26,34 @@ listed ns = take (ns .count) (ns .values)
 
 -- ---- checking and reading a group's pairs
 
--- the rule that a record of it stands for
-abbrev pub ruleOf : Rule → ℕ → ℕ → ℕ → Bool
-ruleOf r low i offset = pick (r .storing) (storeRule (listOf (r .loads)) low i offset) (loadRule (r .stores) low i offset)
+-- the rule for the offsets of a group's pairs of one kind: a store's goes by the loads, a load's by the store count
+abbrev pub ruleOf : Bool → ℕ → Pairs → ℕ → ℕ → ℕ → Bool
+ruleOf storing stores loads low i offset = pick storing (storeRule (listOf loads) low i offset) (loadRule stores low i offset)
 
 -- offsets that never fall, from `low` on
 abbrev pub Rising : ℕ → List Pair → Type 0
 Rising low [] = Unit {0}
 Rising low (p ∷ ps) = (low ≤ p .offset) × Rising (p .offset) ps
 
--- what a rule's record needs: a store's rule looks into the loads, which have been found to rise
-pub record RuleRight (r : Rule) : Type 0 where
-  pub few : r .loads .count ≤ 16
-  pub few-stores : r .stores ≤ 16
-  pub rising : r .storing ≡ true → Rising 0 (listOf (r .loads))
+-- what the rule needs: a store's looks into the loads, which have been found to rise
+pub record RuleRight (storing : Bool) (stores : ℕ) (loads : Pairs) : Type 0 where
+  pub few : loads .count ≤ 16
+  pub few-stores : stores ≤ 16
+  pub rising : storing ≡ true → Rising 0 (listOf loads)
 
 -- what checking pairs gives: their first fault and, where there is none, the marks after them
-pub record PairsChecked (rule : ℕ → ℕ → ℕ → Bool) (seen : List Bool) (ps : List Pair) (r : Checked) : Type 0 where
-  pub answer : r .answer ≡ pairsFault rule 0 0 seen ps
-  pub marks : r .answer ≡ 0 → r .seen ≡ seeing ps seen
+pub record PairsChecked (rule : ℕ → ℕ → ℕ → Bool) (seen : List Bool) (ps : List Pair) (after : List Bool) (r : ℕ) : Type 0 where
+  pub answer : r ≡ pairsFault rule 0 0 seen ps
+  pub marks : r ≡ 0 → after ≡ seeing ps seen
 
--- the ports that a record of marks says were seen
-abbrev pub seenOf : Ports → Seen
-seenOf p = record { loads = p .loads; stores = p .stores }
+-- the ports that the marks say were seen
+abbrev pub seenIn : List Bool → List Bool → Seen
+seenIn loads stores = record { loads = loads; stores = stores }
 
-pub record GroupChecked (seen : Seen) (g : GroupPairs) (r : Passed) : Type 0 where
-  pub answer : r .answer ≡ groupFault seen g
-  pub marks : r .answer ≡ 0 → seenOf (r .seen) ≡ seenAfter g seen
+-- the same of a group
+pub record GroupChecked (seen : Seen) (g : GroupPairs) (after : Seen) (r : ℕ) : Type 0 where
+  pub answer : r ≡ groupFault seen g
+  pub marks : r ≡ 0 → after ≡ seenAfter g seen
 
 -- ---- reading a table
 
@@ -87,6 +75,10 @@ twoAnswer s (bad k) = TwoRead.NoTwo k
 abbrev pub twoRefusal : TwoRead → ℕ
 twoRefusal (TwoRead.Two x y next) = 0
 twoRefusal (TwoRead.NoTwo k) = k
+
+-- the ports that a record of marks says were seen
+abbrev pub seenOf : Ports → Seen
+seenOf p = seenIn (p .loads) (p .stores)
 
 -- a refusal: its number, which is not 0
 pub record IsRefusal (k answer : ℕ) : Type 0 where

@@ -5,7 +5,7 @@ ghost use lib.Dec.{ltb};
 ghost use Rattle.table.specs.Basics.{count};
 ghost use Rattle.table.specs.Group.{listOf, pairsOf, beforeStore};
 ghost use Rattle.table.specs.Table.{countsRight, pairFault, tableFault, groupsOf};
-ghost use Rattle.table.specs.Internal.{ruleOf, Rising, RuleRight, PairsChecked, seenOf, GroupChecked};
+ghost use Rattle.table.specs.Internal.{ruleOf, Rising, RuleRight, PairsChecked, seenIn, GroupChecked};
 use crate::Group;
 use crate::Pairs;
 use crate::Table;
@@ -14,31 +14,6 @@ use crate::refusal::BAD_GROUP_COUNT;
 use crate::refusal::BAD_OFFSET;
 use crate::refusal::BAD_PORT;
 use crate::refusal::PORT_SEEN;
-
-// The rule for the offsets of a group's pairs of one kind: a load's goes by the store count, a store's by the loads.
-pub struct Rule {
-    pub storing: bool,
-    pub stores: u8,
-    pub loads: Pairs,
-}
-
-// A first fault, or 0, and the ports seen so far, a mark for each.
-pub struct Checked {
-    pub answer: u8,
-    pub seen: [bool; 32],
-}
-
-// The ports seen so far in a table.
-pub struct Ports {
-    pub loads: [bool; 32],
-    pub stores: [bool; 32],
-}
-
-// A group's first fault, or 0, and the ports seen so far.
-pub struct Passed {
-    pub answer: u8,
-    pub seen: Ports,
-}
 
 // Do more than n loads come before store i? Their offsets never fall, so it is enough to look at load n.
 fn more_before(loads: Pairs, n: u32, i: u32) -> bool
@@ -53,13 +28,19 @@ fn more_before(loads: Pairs, n: u32, i: u32) -> bool
     load.offset as u32 <= i
 }
 
-// Is it the right offset for the ith pair, where the pair before has the offset `low`?
-pub(crate) fn offset_right(rule: Rule, low: u32, i: u32, offset: u32) -> bool
-    requires { ⌜ RuleRight rule ⌝ }
-    ensures { λ r. ⌜ r ≡ ruleOf rule low i offset ⌝ }
+// Is it the right offset for the ith pair, where the pair before has the offset `low`? A store's goes by the loads, a load's by the store count.
+pub(crate) fn offset_right(
+    storing: bool,
+    stores: u8,
+    loads: Pairs,
+    low: u32,
+    i: u32,
+    offset: u32,
+) -> bool
+    requires { ⌜ RuleRight storing stores loads ⌝ }
+    ensures { λ r. ⌜ r ≡ ruleOf storing stores loads low i offset ⌝ }
 {
-    if rule.storing {
-        let loads = rule.loads;
+    if storing {
         if more_before(loads, offset, i) {
             return false;
         }
@@ -71,7 +52,7 @@ pub(crate) fn offset_right(rule: Rule, low: u32, i: u32, offset: u32) -> bool
     if offset < low {
         return false;
     }
-    offset <= rule.stores as u32
+    offset <= stores as u32
 }
 
 // A pair's first fault, or 0. The marks are lent: a copy for each pair would cost more than the test.
@@ -91,36 +72,29 @@ pub(crate) fn pair_fault(right: bool, seen: &[bool; 32], port: u32) -> u8
     0
 }
 
-// The first fault of a group's pairs of one kind.
-fn check_pairs(rule: Rule, pairs: Pairs, seen: [bool; 32]) -> Checked
-    requires { ⌜ RuleRight rule × (pairs .count ≤ 16) ⌝ }
-    ensures { λ r. ⌜ PairsChecked (ruleOf rule) seen (listOf pairs) r ⌝ }
+// The first fault of a group's pairs of one kind, or 0. The marks of the ports seen are lent, and take in the pairs' own.
+fn check_pairs(storing: bool, stores: u8, loads: Pairs, pairs: Pairs, seen: &mut [bool; 32]) -> u8
+    requires { ⌜ RuleRight storing stores loads × (pairs .count ≤ 16) ⌝ }
+    ensures { λ r. ⌜ PairsChecked (ruleOf storing stores loads) (now (seen .entry)) (listOf pairs) (now (seen .exit)) r ⌝ }
 {
     let count = pairs.count as usize;
-    let mut marks = seen;
     let mut low: u32 = 0;
     let mut i: usize = 0;
     while i < count {
         let pair = pairs.places[i];
         let port = pair.port as u32;
         let offset = pair.offset as u32;
-        let right = offset_right(rule, low, i as u32, offset);
-        let answer = pair_fault(right, &marks, port);
+        let right = offset_right(storing, stores, loads, low, i as u32, offset);
+        let answer = pair_fault(right, seen, port);
         if answer != 0 {
-            return Checked {
-                answer,
-                seen: marks,
-            };
+            return answer;
         }
         let at = port as usize;
-        marks[at] = true;
+        seen[at] = true;
         low = offset;
         i += 1;
     }
-    Checked {
-        answer: 0,
-        seen: marks,
-    }
+    0
 }
 
 // A group's counts are each 0 to 16, and not both 0.
@@ -136,55 +110,21 @@ pub(crate) fn counts_right(loads: u32, stores: u32) -> bool
     0 < loads + stores
 }
 
-// A group's first fault: 5 counts, then its loads, then its stores.
-fn check_group(group: Group, seen: Ports) -> Passed
-    ensures { λ r. ⌜ GroupChecked (seenOf seen) (pairsOf group) r ⌝ }
+// A group's first fault, or 0: 5 counts, then its loads, then its stores. The marks of the ports seen are lent.
+fn check_group(group: Group, loads: &mut [bool; 32], stores: &mut [bool; 32]) -> u8
+    ensures { λ r. ⌜ GroupChecked (seenIn (now (loads .entry)) (now (stores .entry))) (pairsOf group) (seenIn (now (loads .exit)) (now (stores .exit))) r ⌝ }
 {
-    let loads = group.loads;
-    let stores = group.stores;
-    let store_count = stores.count;
-    if !counts_right(loads.count as u32, store_count as u32) {
-        return Passed {
-            answer: BAD_COUNTS,
-            seen,
-        };
+    let load_pairs = group.loads;
+    let store_pairs = group.stores;
+    let store_count = store_pairs.count;
+    if !counts_right(load_pairs.count as u32, store_count as u32) {
+        return BAD_COUNTS;
     }
-    let load_marks = seen.loads;
-    let load_rule = Rule {
-        storing: false,
-        stores: store_count,
-        loads,
-    };
-    let first = check_pairs(load_rule, loads, load_marks);
-    if first.answer != 0 {
-        return Passed {
-            answer: first.answer,
-            seen,
-        };
+    let answer = check_pairs(false, store_count, load_pairs, load_pairs, loads);
+    if answer != 0 {
+        return answer;
     }
-    let store_marks = seen.stores;
-    let store_rule = Rule {
-        storing: true,
-        stores: store_count,
-        loads,
-    };
-    let second = check_pairs(store_rule, stores, store_marks);
-    if second.answer != 0 {
-        return Passed {
-            answer: second.answer,
-            seen,
-        };
-    }
-    let new_loads = first.seen;
-    let new_stores = second.seen;
-    let marks = Ports {
-        loads: new_loads,
-        stores: new_stores,
-    };
-    Passed {
-        answer: 0,
-        seen: marks,
-    }
+    check_pairs(true, store_count, load_pairs, store_pairs, stores)
 }
 
 // The first of 4, 5, 8, 6, 7 that a table meets, or 0: the table is right. The record may come from anywhere.
@@ -198,18 +138,15 @@ pub fn table_fault(table: Table) -> u8
     if 16 < count {
         return BAD_GROUP_COUNT;
     }
-    let mut seen = Ports {
-        loads: [false; 32],
-        stores: [false; 32],
-    };
+    let mut loads = [false; 32];
+    let mut stores = [false; 32];
     let mut i: usize = 0;
     while i < count {
         let group = table.groups[i];
-        let passed = check_group(group, seen);
-        if passed.answer != 0 {
-            return passed.answer;
+        let answer = check_group(group, &mut loads, &mut stores);
+        if answer != 0 {
+            return answer;
         }
-        seen = passed.seen;
         i += 1;
     }
     0

@@ -2,9 +2,8 @@
 ghost use mathlib.Core.Path.{_≡_};
 ghost use Prim.Native.Nat.{_+_, _≤_};
 ghost use lib.ListN.{length, drop};
-ghost use Rattle.table.specs.Number.{readNumber, numberUpTo, numberAnswer, numberRefusal, numberBytes, byteCount, significantBits, wrote};
+ghost use Rattle.table.specs.Number.{readNumber, numberAnswer, numberRefusal, numberBytes, byteCount, significantBits, wrote};
 ghost use Rattle.table.specs.Basics.{splice};
-ghost use Rattle.table.specs.Internal.{NumberBelow};
 use crate::NumberRead;
 use crate::Written;
 use crate::refusal::ENDED;
@@ -48,50 +47,42 @@ const LENGTHS: [u8; 33] = [
     5,
 ];
 
-// The number at a place, of one byte and up to `more` after it. A place past the end is the end.
-fn read_up_to(bytes: &[u8], at: usize, more: u32) -> NumberRead
-    requires { ⌜ more ≤ 4 ⌝ }
-    ensures { λ r. ⌜ r ≡ numberAnswer (now (bytes .entry)) (numberUpTo more 15 (drop at (now (bytes .entry)))) ⌝ }
-    ensures { λ r. ⌜ NumberBelow more r ⌝ }
-{
-    if bytes.len() <= at {
-        return NumberRead::Refused(ENDED);
-    }
-    let low = bytes[at] as u32;
-    let next = at + 1;
-    if more == 0 {
-        if low <= 15 {
-            return NumberRead::Number { value: low, next };
-        }
-        return NumberRead::Refused(TOO_LARGE);
-    }
-    if low < 128 {
-        return NumberRead::Number { value: low, next };
-    }
-    let rest = read_up_to(bytes, next, more - 1);
-    match rest {
-        NumberRead::Number { value, next } => NumberRead::Number {
-            value: low - 128 + 128 * value,
-            next,
-        },
-        NumberRead::Refused(number) => NumberRead::Refused(number),
-    }
-}
+// What a fifth byte counts: 128 to the fourth power. There is room for four bits of it, and for none after it.
+const FIFTH: u32 = 268435456;
 
-// Reads the number at a place. Most numbers of a trace take one byte, so that case comes first.
+// Reads the number at a place, byte by byte: each counts 128 times what the one before it does. A place past the end is the end.
 pub fn read_number(bytes: &[u8], at: usize) -> NumberRead
     ensures { λ r. ⌜ r ≡ numberAnswer (now (bytes .entry)) (readNumber (drop at (now (bytes .entry)))) ⌝ }
 {
-    if at < bytes.len() {
-        let low = bytes[at] as u32;
+    let mut value: u32 = 0;
+    let mut scale: u32 = 1;
+    let mut place = at;
+    while scale < FIFTH {
+        if bytes.len() <= place {
+            return NumberRead::Refused(ENDED);
+        }
+        let low = bytes[place] as u32;
+        place += 1;
         if low < 128 {
             return NumberRead::Number {
-                value: low,
-                next: at + 1,
+                value: value + low * scale,
+                next: place,
             };
         }
+        value += (low - 128) * scale;
+        scale *= 128;
     }
-    read_up_to(bytes, at, 4)
+    if bytes.len() <= place {
+        return NumberRead::Refused(ENDED);
+    }
+    let low = bytes[place] as u32;
+    if low <= 15 {
+        return NumberRead::Number {
+            value: value + low * scale,
+            next: place + 1,
+        };
+    }
+    NumberRead::Refused(TOO_LARGE)
 }
 
 // The refusal number of an answer; 0 where a number was read.

@@ -13,8 +13,6 @@ use crate::Pair;
 use crate::Pairs;
 use crate::Table;
 use crate::TableRead;
-use crate::check::Ports;
-use crate::check::Rule;
 use crate::check::counts_right;
 use crate::check::offset_right;
 use crate::check::pair_fault;
@@ -33,6 +31,12 @@ pub enum TwoRead {
         next: usize,
     },
     NoTwo(u8),
+}
+
+// The ports seen so far in a table, a mark for each.
+pub struct Ports {
+    pub loads: [bool; 32],
+    pub stores: [bool; 32],
 }
 
 // The pairs that were read and the ports seen by then; or the refusal number, and the rest means nothing.
@@ -110,9 +114,17 @@ fn no_pairs() -> Pairs
 }
 
 // Reads a group's pairs of one kind: each whole, and then 8, 6, 7.
-fn read_pairs(bytes: &[u8], at: usize, count: u32, rule: Rule, seen: [bool; 32]) -> PairsRead
-    requires { ⌜ (count ≤ 16) × (at ≤ length (now bytes)) × RuleRight rule ⌝ }
-    ensures { λ r. ⌜ PairsResult (now (bytes .entry)) seen (readPairs (ruleOf rule) count 0 0 seen (drop at (now (bytes .entry)))) r ⌝ }
+fn read_pairs(
+    bytes: &[u8],
+    at: usize,
+    count: u32,
+    storing: bool,
+    stores: u8,
+    loads: Pairs,
+    seen: [bool; 32],
+) -> PairsRead
+    requires { ⌜ (count ≤ 16) × (at ≤ length (now bytes)) × RuleRight storing stores loads ⌝ }
+    ensures { λ r. ⌜ PairsResult (now (bytes .entry)) seen (readPairs (ruleOf storing stores loads) count 0 0 seen (drop at (now (bytes .entry)))) r ⌝ }
 {
     let mut pairs = no_pairs();
     let mut marks = seen;
@@ -134,7 +146,7 @@ fn read_pairs(bytes: &[u8], at: usize, count: u32, rule: Rule, seen: [bool; 32])
                 seen: marks,
             };
         };
-        let right = offset_right(rule, low, i, offset);
+        let right = offset_right(storing, stores, loads, low, i, offset);
         let answer = pair_fault(right, &marks, port);
         if answer != 0 {
             return PairsRead {
@@ -197,24 +209,23 @@ fn read_group(bytes: &[u8], at: usize, seen: Ports) -> GroupRead
         return no_group(BAD_COUNTS, seen);
     }
     let none = no_pairs();
-    let load_rule = Rule {
-        storing: false,
-        stores: store_count as u8,
-        loads: none,
-    };
+    let few_stores = store_count as u8;
     let load_marks = seen.loads;
-    let first = read_pairs(bytes, next, load_count, load_rule, load_marks);
+    let first = read_pairs(bytes, next, load_count, false, few_stores, none, load_marks);
     if first.answer != 0 {
         return no_group(first.answer, seen);
     }
     let loads = first.pairs;
-    let store_rule = Rule {
-        storing: true,
-        stores: store_count as u8,
-        loads,
-    };
     let store_marks = seen.stores;
-    let second = read_pairs(bytes, first.next, store_count, store_rule, store_marks);
+    let second = read_pairs(
+        bytes,
+        first.next,
+        store_count,
+        true,
+        few_stores,
+        loads,
+        store_marks,
+    );
     if second.answer != 0 {
         return no_group(second.answer, seen);
     }

@@ -1,6 +1,7 @@
 -- The pairs passed have no fault; what is left to check is the rest, with the marks and the last offset so far.
-use Prim.Native.Nat.{_≤_, _<_, _-_}
-use mathlib.Core.Path.{_≡_, refl, sym, ap, subst, _∙_}
+use Prim.Native.Nat.{ℕ, _≤_, _<_, _-_}
+use mathlib.Core.Path.{_≡_, sym, ap, _∙_}
+use mathlib.Core.Bool.{Bool}
 use native.Mathlib.Omega.{arith}
 use lib.ListN.{length, getD}
 use borrow.Author.Needs.{needs}
@@ -13,38 +14,52 @@ use Rattle.table.proofs.check.check_pairs.Statement.{statement}
 use Rattle.table.proofs.check.check_pairs.Tie as tie
 
 abbrev Inv-loop : tie.InvT-loop
-Inv-loop rule pairs count marks₀ low₀ i₀ marks low i = (i ≤ count) × Checking (ruleOf rule) marks₀ (listOf pairs) i low marks
+Inv-loop storing stores loads seen₀ pairs count low₀ i₀ seen low i = (i ≤ count) × Checking (ruleOf storing stores loads) seen₀ (listOf pairs) i low seen
 
 abbrev μ-loop : tie.MeasureT-loop
-μ-loop rule pairs count marks₀ low₀ i₀ marks low i = count - i
+μ-loop storing stores loads seen₀ pairs count low₀ i₀ seen low i = count - i
 
-whole : (c : tie.Start Inv-loop μ-loop) → c .args .t2 .count ≤ length (c .args .t2 .places)
+whole : (c : tie.Start Inv-loop μ-loop) → c .args .t4 .count ≤ length (c .args .t4 .places)
 whole c =
-    let e : length (c .args .t2 .places) ≡ 16 = search (needs, long) in
+    let e : length (c .args .t4 .places) ≡ 16 = search (needs, long) in
     omega (arith, c .pre .1)
 
-size : (c : tie.Start Inv-loop μ-loop) → length (listOf (c .args .t2)) ≡ c .args .t2 .count
+size : (c : tie.Start Inv-loop μ-loop) → length (listOf (c .args .t4)) ≡ c .args .t4 .count
 size c = held-length _ _ _
 
--- the pair that a turn looks at is the list's
-this : (c : tie.In-loop Inv-loop μ-loop) → getD (listOf (c .before .before .args .t2)) (c .before .loop .i) blankPair ≡ getD (c .before .before .args .t2 .places) (c .before .loop .i) blankPair
-this c = held-at _ _ _ (whole (c .before .before)) _ _ (c .loop-test .taken)
+-- the pair that a turn looks at
+abbrev pairOf : tie.In-loop Inv-loop μ-loop → Pair
+pairOf l = getD (l .before .before .args .t4 .places) (l .before .loop .i) blankPair
 
-inside : (c : tie.In-loop Inv-loop μ-loop) → c .before .loop .i < length (listOf (c .before .before .args .t2))
-inside c = omega (arith, size (c .before .before), c .loop-test .taken)
+-- it is the list's
+this : (l : tie.In-loop Inv-loop μ-loop) → getD (listOf (l .before .before .args .t4)) (l .before .loop .i) blankPair ≡ pairOf l
+this l = held-at _ _ _ (whole (l .before .before)) _ _ (l .loop-test .taken)
 
--- its fault, as the two calls found it
-fault : (c : tie.After-pair-fault Inv-loop μ-loop) → c .pair-fault .result ≡ pairFault (ruleOf (c .before .before .before .before .before .before .before .before .args .rule) (c .before .before .before .before .before .before .before .loop .low) (c .before .before .before .before .before .before .before .loop .i) (getD (c .before .before .before .before .before .before .before .before .args .t2 .places) (c .before .before .before .before .before .before .before .loop .i) blankPair .offset)) (c .before .before .before .before .before .before .before .loop .marks) (getD (c .before .before .before .before .before .before .before .before .args .t2 .places) (c .before .before .before .before .before .before .before .loop .i) blankPair .port)
-fault c = c .pair-fault .ensures ∙ rw (c .before .before .offset-right .ensures)
+inside : (l : tie.In-loop Inv-loop μ-loop) → l .before .loop .i < length (listOf (l .before .before .args .t4))
+inside l = omega (arith, size (l .before .before), l .loop-test .taken)
 
-no-fault : (c : tie.Else1 Inv-loop μ-loop) → pairFault (ruleOf (c .before .before .before .before .before .before .before .before .before .args .rule) (c .before .before .before .before .before .before .before .before .loop .low) (c .before .before .before .before .before .before .before .before .loop .i) (getD (c .before .before .before .before .before .before .before .before .before .args .t2 .places) (c .before .before .before .before .before .before .before .before .loop .i) blankPair .offset)) (c .before .before .before .before .before .before .before .before .loop .marks) (getD (c .before .before .before .before .before .before .before .before .before .args .t2 .places) (c .before .before .before .before .before .before .before .before .loop .i) blankPair .port) ≡ 0
+-- its offset by the rule, and its fault
+abbrev rightOf : tie.In-loop Inv-loop μ-loop → Bool
+rightOf l =
+    let a = l .before .before .args in
+    ruleOf (a .storing) (a .stores) (a .loads) (l .before .loop .low) (l .before .loop .i) (pairOf l .offset)
+
+abbrev faultOf : tie.In-loop Inv-loop μ-loop → Bool → ℕ
+faultOf l right = pairFault right (l .before .loop .seen) (pairOf l .port)
+
+abbrev turn : tie.After-pair-fault Inv-loop μ-loop → tie.In-loop Inv-loop μ-loop
+turn c = c .before .before .before .before .before .before
+
+fault : (c : tie.After-pair-fault Inv-loop μ-loop) → c .pair-fault .result ≡ faultOf (turn c) (rightOf (turn c))
+fault c = c .pair-fault .ensures ∙ ap (faultOf (turn c)) (c .before .before .offset-right .ensures)
+
+no-fault : (c : tie.Else1 Inv-loop μ-loop) → faultOf (turn (c .before)) (rightOf (turn (c .before))) ≡ 0
 no-fault c = sym (fault (c .before)) ∙ c .if1 .left
 
-port-low : (c : tie.Else1 Inv-loop μ-loop) → getD (c .before .before .before .before .before .before .before .before .before .args .t2 .places) (c .before .before .before .before .before .before .before .before .loop .i) blankPair .port ≤ 31
+port-low : (c : tie.Else1 Inv-loop μ-loop) → pairOf (turn (c .before)) .port ≤ 31
 port-low c =
-    let l = c .before .before .before .before .before .before .before .before in
-    let p = getD (l .before .args .t2 .places) (l .loop .i) blankPair in
-    fault-none (ruleOf (l .before .args .rule) (l .loop .low) (l .loop .i) (p .offset)) (l .loop .marks) (p .port) (no-fault c) .1
+    let l = turn (c .before) in
+    fault-none (rightOf l) (l .before .loop .seen) (pairOf l .port) (no-fault c) .1
 
 cast-count : tie.Need-cast-count Inv-loop μ-loop
 cast-count c = search needs
@@ -75,7 +90,7 @@ pair-fault-requires c κs = search needs
 
 returns : tie.Need-returns Inv-loop μ-loop
 returns c =
-    let l = c .before .before .before .before .before .before .before in
+    let l = turn (c .before) in
     record {
       answer = checking-stop (l .before .loop .inv .1) (inside l) (this l) (fault (c .before)) (c .if1 .taken);
       marks = λ z. absurd (c .if1 .taken z);
@@ -84,8 +99,8 @@ returns c =
 cast-at : tie.Need-cast-at Inv-loop μ-loop
 cast-at c = omega (arith, port-low c)
 
-array-write-marks : tie.Need-array-write-marks Inv-loop μ-loop
-array-write-marks c = omega (arith, port-low c)
+element-write-seen : tie.Need-element-write-seen Inv-loop μ-loop
+element-write-seen c = omega (arith, port-low c)
 
 add-i : tie.Need-add-i Inv-loop μ-loop
 add-i c = omega arith
@@ -95,7 +110,7 @@ loop-less c = omega arith
 
 loop-again : tie.Need-loop-again Inv-loop μ-loop
 loop-again c =
-    let l = c .before .before .before .before .before .before .before in
+    let l = turn (c .before) in
     (omega arith, checking-more (l .before .loop .inv .1) (inside l) (this l) (no-fault c))
 
 returns-2 : tie.Need-returns-2 Inv-loop μ-loop
@@ -120,7 +135,7 @@ check-pairs-spec =
     pair-fault-requires
     returns
     cast-at
-    array-write-marks
+    element-write-seen
     add-i
     loop-less
     loop-again

@@ -1,7 +1,7 @@
 -- The groups passed have no fault; what is left to check is the rest, with the ports seen so far.
-use Prim.Native.Nat.{ℕ, _≤_, _<_, _-_}
-use mathlib.Core.Path.{_≡_, refl, sym, _∙_}
-use mathlib.Core.Bool.{true, false}
+use Prim.Native.Nat.{_≤_, _-_}
+use mathlib.Core.Path.{_≡_, sym, _∙_}
+use mathlib.Core.Bool.{true}
 use native.Mathlib.Omega.{arith}
 use lib.ListN.{length, getD}
 use borrow.Author.Needs.{needs}
@@ -9,16 +9,16 @@ use borrow.Author.Tests.{le-leb, lt-leb}
 use Rattle.table.specs.Basics.{within}
 use Rattle.table.specs.Group.{pairsOf}
 use Rattle.table.specs.Table.{blankGroup, groupsOf, noneSeen}
-use Rattle.table.specs.Internal.{seenOf}
+use Rattle.table.specs.Internal.{seenIn}
 use Rattle.table.proofs.CheckLaws.{long, Passing, passing-none, passing-stop, passing-more, passing-end, groups-size, group-at, table-count, table-groups}
 use Rattle.table.proofs.check.table_fault.Statement.{statement}
 use Rattle.table.proofs.check.table_fault.Tie as tie
 
 abbrev Inv-loop : tie.InvT-loop
-Inv-loop table count seen₀ i₀ seen i = (i ≤ count) × Passing noneSeen (groupsOf table) i (seenOf seen)
+Inv-loop table count loads₀ stores₀ i₀ loads stores i = (i ≤ count) × Passing noneSeen (groupsOf table) i (seenIn loads stores)
 
 abbrev μ-loop : tie.MeasureT-loop
-μ-loop table count seen₀ i₀ seen i = count - i
+μ-loop table count loads₀ stores₀ i₀ loads stores i = count - i
 
 whole : (c : tie.Else2 Inv-loop μ-loop) → c .before .before .args .t1 .count ≤ length (c .before .before .args .t1 .groups)
 whole c =
@@ -51,10 +51,10 @@ check-group-requires c κs = search needs
 
 returns-3 : tie.Need-returns-3 Inv-loop μ-loop
 returns-3 c =
-    let l = c .before .before .before .before in
+    let l = c .before .before .before .before .before in
     let e = l .before .before in
     let t = e .before .before .args .t1 in
-    table-groups t (few e) _ (passing-stop (l .before .loop .inv .1) (pairsOf (getD (t .groups) (l .before .loop .i) blankGroup)) (pairsOf blankGroup) (omega (arith, groups-size t, l .loop-test .taken)) (group-at t (whole e) (l .before .loop .i) (l .loop-test .taken)) (c .before .before .check-group .ensures .answer) (c .if3 .taken))
+    table-groups t (few e) _ (passing-stop (l .before .loop .inv .1) (pairsOf (getD (t .groups) (l .before .loop .i) blankGroup)) (pairsOf blankGroup) (omega (arith, groups-size t, l .loop-test .taken)) (group-at t (whole e) (l .before .loop .i) (l .loop-test .taken)) (c .before .check-group .ensures .answer) (c .if3 .taken))
 
 add-i : tie.Need-add-i Inv-loop μ-loop
 add-i c = omega arith
@@ -64,11 +64,11 @@ loop-less c = omega arith
 
 loop-again : tie.Need-loop-again Inv-loop μ-loop
 loop-again c =
-    let k = c .before .before .before in
-    let l = k .before .before in
+    let k = c .before in
+    let l = k .before .before .before .before in
     let e = l .before .before in
     let t = e .before .before .args .t1 in
-    (omega arith, passing-more (l .before .loop .inv .1) (pairsOf (getD (t .groups) (l .before .loop .i) blankGroup)) (pairsOf blankGroup) (omega (arith, groups-size t, l .loop-test .taken)) (group-at t (whole e) (l .before .loop .i) (l .loop-test .taken)) (sym (k .check-group .ensures .answer) ∙ c .before .if3 .left) (k .check-group .ensures .marks (c .before .if3 .left)))
+    (omega arith, passing-more (l .before .loop .inv .1) (pairsOf (getD (t .groups) (l .before .loop .i) blankGroup)) (pairsOf blankGroup) (omega (arith, groups-size t, l .loop-test .taken)) (group-at t (whole e) (l .before .loop .i) (l .loop-test .taken)) (sym (k .check-group .ensures .answer) ∙ c .if3 .left) (k .check-group .ensures .marks (c .if3 .left)))
 
 returns-4 : tie.Need-returns-4 Inv-loop μ-loop
 returns-4 c =

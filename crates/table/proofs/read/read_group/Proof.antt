@@ -1,18 +1,14 @@
 -- Both counts, then the loads, then the stores, whose rule goes by the loads that were read.
-use Prim.Native.Nat.{ℕ, _≤_}
-use mathlib.Core.Path.{_≡_, refl, sym, ap, subst, _∙_}
-use mathlib.Core.Bool.{true, false, false≢true}
+use Prim.Native.Nat.{_≤_}
+use mathlib.Core.Path.{_≡_, sym, ap, _∙_}
+use mathlib.Core.Bool.{true, false≢true}
 use native.Mathlib.Omega.{arith}
 use lib.ListN.{length, drop}
-use mathlib.Core.List.{List}
 use borrow.Author.Tests.{not-true, not-false}
-use Rattle.table.specs.declared.Pair.{Pair}
 use Rattle.table.specs.declared.Pairs.{Pairs}
-use Rattle.table.specs.Group.{listOf}
-use Rattle.table.specs.Table.{loadRule, storeRule, pairsFault, countsRight}
+use Rattle.table.specs.Table.{loadRule, pairsFault, countsRight}
 use Rattle.table.specs.TableBytes.{readPairs}
-use Rattle.table.specs.Number.{got, bad}
-use Rattle.table.specs.Internal.{twoRefusal, seenOf, GroupResult, group-none, group-found}
+use Rattle.table.specs.Internal.{twoRefusal, seenOf, group-none, group-found}
 use Rattle.table.proofs.CheckLaws.{counts-few, rising-checked}
 use Rattle.table.proofs.ReadLaws.{TwoGot, two-answer, two-bad, two-refused, pairs-bad, PairsGot, pairs-got, read-right, group-refused, group-counts-bad, group-loads-bad, group-stores-bad, group-read, store-rule, same-stores, group-made}
 use borrow.Author.Needs.{needs}
@@ -64,8 +60,8 @@ returns-2 c =
 no-pairs-requires : tie.Need-no-pairs-requires
 no-pairs-requires c κs = search needs
 
-cast-t24 : tie.Need-cast-t24
-cast-t24 c = omega (arith, few (c .before) .1)
+cast-few-stores : tie.Need-cast-few-stores
+cast-few-stores c = omega (arith, few (c .before) .1)
 
 read-pairs-requires : tie.Need-read-pairs-requires
 read-pairs-requires c κs =
@@ -90,10 +86,6 @@ loads-right c = read-right _ _ _ _ _ _ (loads c .is)
 
 loads-few : (c : tie.Else2) → length (loads c .pairs) ≤ 16
 loads-few c = omega (arith, loads-right c .1, few (c .before .before .before .before .before) .0)
-
-cast-t24-2 : tie.Need-cast-t24-2
-cast-t24-2 c =
-    omega (arith, few (c .before .before .before .before .before .before) .1)
 
 read-pairs-requires-2 : tie.Need-read-pairs-requires-2
 read-pairs-requires-2 c κs =
@@ -140,11 +132,10 @@ read-group-spec =
     no-group-requires-2
     returns-2
     no-pairs-requires
-    cast-t24
+    cast-few-stores
     read-pairs-requires
     no-group-requires-3
     returns-3
-    cast-t24-2
     read-pairs-requires-2
     no-group-requires-4
     returns-4

@@ -1,9 +1,8 @@
 -- i pairs have been read into the array; what is left to read is the rest, with the marks and the last offset so far.
-use Prim.Native.Nat.{ℕ, _≤_, _<_, _-_}
+use Prim.Native.Nat.{ℕ, _≤_, _-_}
 use mathlib.Core.Path.{_≡_, refl, sym, ap, _∙_}
-use mathlib.Core.Bool.{true}
+use mathlib.Core.Bool.{Bool}
 use native.Mathlib.Omega.{arith}
-use lib.ListN.{length, getD}
 use borrow.Author.Needs.{needs}
 use Rattle.table.specs.declared.Pairs.{Pairs}
 use Rattle.table.specs.Table.{pairFault}
@@ -14,10 +13,10 @@ use Rattle.table.proofs.read.read_pairs.Statement.{statement}
 use Rattle.table.proofs.read.read_pairs.Tie as tie
 
 abbrev Inv-loop : tie.InvT-loop
-Inv-loop bytes at count rule pairs₀ marks₀ low₀ place₀ i₀ pairs marks low place i = (i ≤ count) × Reading (ruleOf rule) count marks₀ bytes at i low marks place (pairs .places)
+Inv-loop bytes at count storing stores loads pairs₀ marks₀ low₀ place₀ i₀ pairs marks low place i = (i ≤ count) × Reading (ruleOf storing stores loads) count marks₀ bytes at i low marks place (pairs .places)
 
 abbrev μ-loop : tie.MeasureT-loop
-μ-loop bytes at count rule pairs₀ marks₀ low₀ place₀ i₀ pairs marks low place i = count - i
+μ-loop bytes at count storing stores loads pairs₀ marks₀ low₀ place₀ i₀ pairs marks low place i = count - i
 
 no-pairs-requires : tie.Need-no-pairs-requires Inv-loop μ-loop
 no-pairs-requires c κs = search needs
@@ -53,30 +52,44 @@ pair-fault-requires c κs = search needs
 two : (c : tie.After-read Inv-loop μ-loop) → TwoGot (c .before .before .before .before .before .before .before .args .bytes .now) (c .before .before .before .before .loop .place) (c .read .given .0 .0) (c .read .given .0 .1 .0) (c .read .given .0 .1 .1 .0)
 two c = two-answer _ _ (sym (c .read .given .1) ∙ c .before .before .read-two .ensures)
 
-fault : (c : tie.After-pair-fault Inv-loop μ-loop) → c .pair-fault .result ≡ pairFault (ruleOf (c .before .before .before .before .before .before .before .before .before .before .before .args .rule) (c .before .before .before .before .before .before .before .before .loop .low) (c .before .before .before .before .before .before .before .before .loop .i) (c .before .before .before .before .read .given .0 .0)) (c .before .before .before .before .before .before .before .before .loop .marks) (c .before .before .before .before .read .given .0 .1 .0)
-fault c = c .pair-fault .ensures ∙ rw (c .before .before .offset-right .ensures)
+-- the pair's offset by the rule, and its fault
+abbrev rightOf : tie.After-read Inv-loop μ-loop → Bool
+rightOf g =
+    let l = g .before .before .before .before in
+    let a = l .before .before .before .args in
+    ruleOf (a .storing) (a .stores) (a .loads) (l .loop .low) (l .loop .i) (g .read .given .0 .0)
+
+abbrev faultOf : tie.After-read Inv-loop μ-loop → Bool → ℕ
+faultOf g right = pairFault right (g .before .before .before .before .loop .marks) (g .read .given .0 .1 .0)
+
+abbrev turn : tie.After-pair-fault Inv-loop μ-loop → tie.After-read Inv-loop μ-loop
+turn c = c .before .before .before .before
+
+fault : (c : tie.After-pair-fault Inv-loop μ-loop) → c .pair-fault .result ≡ faultOf (turn c) (rightOf (turn c))
+fault c = c .pair-fault .ensures ∙ ap (faultOf (turn c)) (c .before .before .offset-right .ensures)
 
 returns-2 : tie.Need-returns-2 Inv-loop μ-loop
 returns-2 c =
-    let g = c .before .before .before .before .before in
+    let g = turn (c .before) in
     let l = g .before .before .before in
     pairs-refused (reading-fault (l .before .loop .inv .1) (l .loop-test .taken) (two g) (fault (c .before)) (c .if1 .taken)) refl (c .if1 .taken)
 
-no-fault : (c : tie.Else1 Inv-loop μ-loop) → pairFault (ruleOf (c .before .before .before .before .before .before .before .before .before .before .before .before .args .rule) (c .before .before .before .before .before .before .before .before .before .loop .low) (c .before .before .before .before .before .before .before .before .before .loop .i) (c .before .before .before .before .before .read .given .0 .0)) (c .before .before .before .before .before .before .before .before .before .loop .marks) (c .before .before .before .before .before .read .given .0 .1 .0) ≡ 0
+no-fault : (c : tie.Else1 Inv-loop μ-loop) → faultOf (turn (c .before)) (rightOf (turn (c .before))) ≡ 0
 no-fault c = sym (fault (c .before)) ∙ c .if1 .left
 
-small : (c : tie.Else1 Inv-loop μ-loop) → (c .before .before .before .before .before .read .given .0 .0 ≤ 16) × (c .before .before .before .before .before .read .given .0 .1 .0 ≤ 31)
+small : (c : tie.Else1 Inv-loop μ-loop) → (turn (c .before) .read .given .0 .0 ≤ 16) × (turn (c .before) .read .given .0 .1 .0 ≤ 31)
 small c =
-    let g = c .before .before .before .before .before in
+    let g = turn (c .before) in
     let l = g .before .before .before .before in
-    let f = fault-none (ruleOf (l .before .before .before .args .rule) (l .loop .low) (l .loop .i) (g .read .given .0 .0)) (l .loop .marks) (g .read .given .0 .1 .0) (no-fault c) in
-    (rule-small (l .before .before .before .args .rule) (l .loop .low) (l .loop .i) (g .read .given .0 .0) (l .before .before .before .pre .2) (f .0), f .1)
+    let s = l .before .before .before in
+    let f = fault-none (rightOf g) (l .loop .marks) (g .read .given .0 .1 .0) (no-fault c) in
+    (rule-small (s .args .storing) (s .args .stores) (s .args .loads) (l .loop .low) (l .loop .i) (g .read .given .0 .0) (s .pre .2) (f .0), f .1)
 
-cast-t26 : tie.Need-cast-t26 Inv-loop μ-loop
-cast-t26 c = omega (arith, small c .0)
+cast-t28 : tie.Need-cast-t28 Inv-loop μ-loop
+cast-t28 c = omega (arith, small c .0)
 
-cast-t27 : tie.Need-cast-t27 Inv-loop μ-loop
-cast-t27 c = omega (arith, small c .1)
+cast-t29 : tie.Need-cast-t29 Inv-loop μ-loop
+cast-t29 c = omega (arith, small c .1)
 
 cast-pair : tie.Need-cast-pair Inv-loop μ-loop
 cast-pair c = omega arith
@@ -101,7 +114,7 @@ loop-less c = omega arith
 
 loop-again : tie.Need-loop-again Inv-loop μ-loop
 loop-again c =
-    let g = c .before .before .before .before .before in
+    let g = turn (c .before) in
     let l = g .before .before .before in
     (omega arith, reading-more (l .before .loop .inv .1) (l .loop-test .taken) (two g) (l .before .before .before .before .pre .0) (no-fault c))
 
@@ -137,8 +150,8 @@ read-pairs-spec =
     offset-right-requires
     pair-fault-requires
     returns-2
-    cast-t26
-    cast-t27
+    cast-t28
+    cast-t29
     cast-pair
     mul-pair
     element-set-from-pair

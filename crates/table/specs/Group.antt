@@ -1,12 +1,13 @@
 -- A group's accesses and their program order. Document 01, "Bytes and tables".
-use Prim.Native.Nat.{ℕ, zero, suc}
+use Prim.Native.Nat.{ℕ, zero, suc, _+_, _≤_}
 use mathlib.Core.Bool.{Bool}
 use mathlib.Core.List.{List, [], _∷_, _++_, map}
 use lib.Dec.{leb}
+use lib.ListN.{take, drop}
 use Rattle.table.specs.declared.Pair.{Pair}
 use Rattle.table.specs.declared.Pairs.{Pairs}
 use Rattle.table.specs.declared.Group.{Group}
-use Rattle.table.specs.Basics.{held, takeWhile, dropWhile}
+use Rattle.table.specs.Basics.{takeWhile, dropWhile}
 
 -- A group as it is meant: its loads and its stores, as many as its counts say.
 pub record GroupPairs : Type 0 where
@@ -16,8 +17,16 @@ pub record GroupPairs : Type 0 where
 abbrev pub blankPair : Pair
 blankPair = record { offset = 0; port = 0 }
 
+-- so many places from one on, as far as there are places
+abbrev pub part : ℕ → ℕ → List Pair → List Pair
+part first n places = take n (drop first places)
+
 abbrev pub listOf : Pairs → List Pair
-listOf ps = held blankPair (ps .count) (ps .places)
+listOf ps = part (ps .first) (ps .count) (ps .places)
+
+-- the accesses end where the places end, or before
+abbrev pub Inside : Pairs → Type 0
+Inside ps = ps .first + ps .count ≤ 32
 
 abbrev pub pairsOf : Group → GroupPairs
 pairsOf g = record { loads = listOf (g .loads); stores = listOf (g .stores) }

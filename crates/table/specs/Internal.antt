@@ -1,9 +1,9 @@
 -- What the crate's own functions promise each other: nothing here is promised to a caller from outside.
-use Prim.Native.Nat.{ℕ, _≤_, _<_}
+use Prim.Native.Nat.{ℕ, _+_, _≤_, _<_}
 use mathlib.Core.Path.{_≡_}
 use mathlib.Core.Bool.{Bool, true}
-use mathlib.Core.List.{List, [], _∷_}
-use lib.ListN.{length, getD, take, drop}
+use mathlib.Core.List.{List, [], _∷_, _++_}
+use lib.ListN.{length, getD, set, take, drop}
 use Rattle.table.specs.declared.Pair.{Pair}
 use Rattle.table.specs.declared.Pairs.{Pairs}
 use Rattle.table.specs.declared.Group.{Group}
@@ -14,10 +14,10 @@ use Rattle.table.specs.declared.read.PairsRead.{PairsRead}
 use Rattle.table.specs.declared.read.GroupRead.{GroupRead}
 use Rattle.table.specs.declared.read.GroupsRead.{GroupsRead}
 use Rattle.table.specs.Number.{Got, got, bad, andThen, readNumber, placeOf}
-use Rattle.table.specs.TableBytes.{packPairs, packGroup, pack}
+use Rattle.table.specs.TableBytes.{filled, pack}
 use Rattle.table.specs.Basics.{pick}
-use Rattle.table.specs.Group.{GroupPairs, listOf}
-use Rattle.table.specs.Table.{blankGroup, loadRule, storeRule, pairsFault, seeing, Seen, seenAfter, groupFault}
+use Rattle.table.specs.Group.{GroupPairs, part, listOf, Inside}
+use Rattle.table.specs.Table.{groupsOf, loadRule, storeRule, pairsFault, seeing, Seen, seenAfter, groupFault}
 use Rattle.table.specs.declared.trace.Numbers.{Numbers}
 
 -- the numbers that are written together
@@ -37,6 +37,7 @@ Rising low (p ∷ ps) = (low ≤ p .offset) × Rising (p .offset) ps
 
 -- what the rule needs: a store's looks into the loads, which have been found to rise
 pub record RuleRight (storing : Bool) (stores : ℕ) (loads : Pairs) : Type 0 where
+  pub inside : Inside loads
   pub few : loads .count ≤ 16
   pub few-stores : stores ≤ 16
   pub rising : storing ≡ true → Rising 0 (listOf loads)
@@ -85,6 +86,13 @@ pub record IsRefusal (k answer : ℕ) : Type 0 where
   pub is : answer ≡ k
   pub some : k ≡ 0 → ⊥
 
+-- the record of pairs that were read
+abbrev pub packPairs : List Pair → Pairs
+packPairs ps = record { first = 0; count = length ps; places = filled ps }
+
+abbrev pub packGroup : GroupPairs → Group
+packGroup g = record { loads = packPairs (g .loads); stores = packPairs (g .stores) }
+
 -- what reading pairs gives, by what their bytes say
 pub record PairsFound (s : List ℕ) (seen : List Bool) (ps : List Pair) (rest : List ℕ) (r : PairsRead) : Type 0 where
   pub answer : r .answer ≡ 0
@@ -118,13 +126,41 @@ pub data GroupsResult (s : List ℕ) : Got (List GroupPairs) → GroupsRead → 
   groups-found : {gs : List GroupPairs} {rest : List ℕ} {r : GroupsRead} → GroupsFound s gs rest r → GroupsResult s (got gs rest) r
   groups-none : {k : ℕ} {r : GroupsRead} → IsRefusal k (r .answer) → GroupsResult s (bad k) r
 
+-- there is room for a group behind those that a table has, whose loads and stores are so many
+pub record Growing (t : Table) (loads stores : ℕ) (g : Group) : Type 0 where
+  pub groups : t .count < 16
+  pub loads-first : g .loads .first ≡ 0
+  pub stores-first : g .stores .first ≡ 0
+  pub loads-room : loads + g .loads .count ≤ 32
+  pub stores-room : stores + g .stores .count ≤ 32
+
+abbrev pub putIn : List Pair → ℕ → Pairs → List Pair
+putIn places from ps = take from places ++ listOf ps ++ drop (from + ps .count) places
+
+pub record Grown (t : Table) (loads stores : ℕ) (g : Group) (r : Table) : Type 0 where
+  pub count : r .count ≡ t .count + 1
+  pub groups : r .groups ≡ set (t .groups) (t .count) (record { load = loads; loads = g .loads .count; store = stores; stores = g .stores .count })
+  pub loads-are : r .loads ≡ putIn (t .loads) loads (g .loads)
+  pub stores-are : r .stores ≡ putIn (t .stores) stores (g .stores)
+
+-- ---- a group of a table
+
+pub record PairsAt (places : List Pair) (first n : ℕ) (r : Pairs) : Type 0 where
+  pub is : listOf r ≡ part first n places
+  pub inside : Inside r
+
 -- ---- writing a table
 
 -- counts that stay within the arrays, as a right table's do
 pub record GroupFits (g : Group) : Type 0 where
+  pub loads-inside : Inside (g .loads)
+  pub stores-inside : Inside (g .stores)
   pub loads : g .loads .count ≤ 16
   pub stores : g .stores .count ≤ 16
 
+abbrev pub noGroup : GroupPairs
+noGroup = record { loads = []; stores = [] }
+
 pub record TableFits (t : Table) : Type 0 where
   pub groups : t .count ≤ 16
-  pub each : (i : ℕ) → i < t .count → GroupFits (getD (t .groups) i blankGroup)
+  pub each : (i : ℕ) → i < t .count → (length (getD (groupsOf t) i noGroup .loads) ≤ 16) × (length (getD (groupsOf t) i noGroup .stores) ≤ 16)

@@ -1,26 +1,34 @@
 -- When a table is right. Document 01, "Bytes and tables", and the numbers 4 to 8 in the order of checking.
 use Prim.Native.Nat.{ℕ, suc, _+_}
+use mathlib.Core.Path.{_≡_}
 use mathlib.Core.Bool.{Bool, true, false, not, _&&_}
 use mathlib.Core.List.{List, [], _∷_, map}
 use lib.Dec.{leb, eqb}
 use lib.ListN.{length, getD, set, replicate}
 use Rattle.table.specs.declared.Pair.{Pair}
-use Rattle.table.specs.declared.Pairs.{Pairs}
 use Rattle.table.specs.declared.Group.{Group}
+use Rattle.table.specs.declared.Span.{Span}
 use Rattle.table.specs.declared.Table.{Table}
 use Rattle.table.specs.Basics.{held, count, within, check, orElse}
 use Rattle.table.specs.Refusal.{badGroupCount, badCounts, badOffset, badPort, portSeen}
-use Rattle.table.specs.Group.{GroupPairs, pairsOf, beforeStore}
+use Rattle.table.specs.Group.{GroupPairs, part, pairsOf, Inside, beforeStore}
 
-abbrev pub blankPairs : Pairs
-blankPairs = record { count = 0; places = [] }
+abbrev pub blankSpan : Span
+blankSpan = record { load = 0; loads = 0; store = 0; stores = 0 }
 
-abbrev pub blankGroup : Group
-blankGroup = record { loads = blankPairs; stores = blankPairs }
+-- A group of a table: its accesses stand among the table's loads and stores. It ends where the places end.
+abbrev pub groupIn : List Pair → List Pair → Span → GroupPairs
+groupIn loads stores g = record { loads = part (g .load) (g .loads) loads; stores = part (g .store) (g .stores) stores }
 
 -- A table as it is meant: its groups, as many as its count says.
 abbrev pub groupsOf : Table → List GroupPairs
-groupsOf t = map pairsOf (held blankGroup (t .count) (t .groups))
+groupsOf t = map (groupIn (t .loads) (t .stores)) (held blankSpan (t .count) (t .groups))
+
+-- what the group at a place is handed over as
+pub record GroupAt (t : Table) (i : ℕ) (g : Group) : Type 0 where
+  pub is : pairsOf g ≡ groupIn (t .loads) (t .stores) (getD (t .groups) i blankSpan)
+  pub loads : Inside (g .loads)
+  pub stores : Inside (g .stores)
 
 -- Offsets. A rule says which offset is right for the ith pair of its kind in the group (from 0), where the pair before it
 -- has the offset `low` (0 for the first). "Load offsets never fall", and none is above the store count.

@@ -1,13 +1,12 @@
 -- A table's bytes. "A table is: fields per access (always 2), number of groups (1 to 16), then the groups. A group is its
 -- number of loads, its number of stores, a pair for each load, then a pair for each store. A pair is offset, port."
-use Prim.Native.Nat.{ℕ, zero, suc, _-_}
+use Prim.Native.Nat.{ℕ, zero, suc, _+_, _-_}
 use mathlib.Core.Bool.{Bool, true}
-use mathlib.Core.List.{List, [], _∷_, _++_, map}
+use mathlib.Core.List.{List, [], _∷_, _++_}
 use lib.Dec.{eqb, leb}
 use lib.ListN.{length, set, replicate}
 use Rattle.table.specs.declared.Pair.{Pair}
-use Rattle.table.specs.declared.Pairs.{Pairs}
-use Rattle.table.specs.declared.Group.{Group}
+use Rattle.table.specs.declared.Span.{Span}
 use Rattle.table.specs.declared.Table.{Table}
 use Rattle.table.specs.declared.TableRead.{TableRead}
 use Rattle.table.specs.declared.Written.the-variants.{Unwritten}
@@ -15,7 +14,7 @@ use Rattle.table.specs.Basics.{pick, flat, within}
 use Rattle.table.specs.Refusal.{badFields, badGroupCount, badCounts, leftOver}
 use Rattle.table.specs.Number.{Got, got, bad, andThen, require, readNumber, bytesOf, Wrote, wrote}
 use Rattle.table.specs.Group.{GroupPairs, blankPair}
-use Rattle.table.specs.Table.{loadRule, storeRule, pairFault, countsRight, Seen, noneSeen, seenAfter, tableFault}
+use Rattle.table.specs.Table.{blankSpan, loadRule, storeRule, pairFault, countsRight, Seen, noneSeen, seenAfter, tableFault}
 
 -- the refusal, where the fault is not 0, else what follows
 abbrev pub unless : {A : Type 0} → ℕ → Got A → Got A
@@ -62,18 +61,25 @@ readTable s =
     (andThen (readGroups count noneSeen s₂) λ gs s₃.
     require (eqb (length s₃) 0) leftOver (got gs s₃)))
 
--- The record of a table: places beyond the counts, which mean nothing, are blank.
-abbrev pub packPairs : List Pair → Pairs
-packPairs ps = record { count = length ps; places = ps ++ replicate (16 - length ps) blankPair }
+-- The record of a table: each group's accesses stand behind those of the groups before it. Places that no group has, which
+-- mean nothing, are blank.
+abbrev pub filled : List Pair → List Pair
+filled ps = ps ++ replicate (32 - length ps) blankPair
 
-abbrev pub packGroup : GroupPairs → Group
-packGroup g = record { loads = packPairs (g .loads); stores = packPairs (g .stores) }
+-- where the accesses of groups stand, from these places on
+abbrev pub spans : ℕ → ℕ → List GroupPairs → List Span
+spans load store [] = []
+spans load store (g ∷ gs) =
+    record { load = load; loads = length (g .loads); store = store; stores = length (g .stores) } ∷ spans (load + length (g .loads)) (store + length (g .stores)) gs
 
-abbrev pub emptyGroup : Group
-emptyGroup = record { loads = packPairs []; stores = packPairs [] }
+abbrev pub loadsIn : List GroupPairs → List Pair
+loadsIn gs = flat (λ (g : GroupPairs). g .loads) gs
+
+abbrev pub storesIn : List GroupPairs → List Pair
+storesIn gs = flat (λ (g : GroupPairs). g .stores) gs
 
 abbrev pub pack : List GroupPairs → Table
-pack gs = record { count = length gs; groups = map packGroup gs ++ replicate (16 - length gs) emptyGroup }
+pack gs = record { count = length gs; groups = spans 0 0 gs ++ replicate (16 - length gs) blankSpan; loads = filled (loadsIn gs); stores = filled (storesIn gs) }
 
 -- the answer of a call that reads a table; a refused one holds the table of no groups, which means nothing
 abbrev pub tableAnswer : Got (List GroupPairs) → TableRead

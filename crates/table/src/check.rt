@@ -3,12 +3,13 @@ ghost use mathlib.Core.Path.{_≡_};
 ghost use Prim.Native.Nat.{_+_, _≤_};
 ghost use lib.Dec.{ltb};
 ghost use Rattle.table.specs.Basics.{count};
-ghost use Rattle.table.specs.Group.{listOf, pairsOf, beforeStore};
+ghost use Rattle.table.specs.Group.{listOf, pairsOf, beforeStore, Inside};
 ghost use Rattle.table.specs.Table.{countsRight, pairFault, tableFault, groupsOf};
 ghost use Rattle.table.specs.Internal.{ruleOf, Rising, RuleRight, PairsChecked, seenIn, GroupChecked};
 use crate::Group;
 use crate::Pairs;
 use crate::Table;
+use crate::parts::group_at;
 use crate::refusal::BAD_COUNTS;
 use crate::refusal::BAD_GROUP_COUNT;
 use crate::refusal::BAD_OFFSET;
@@ -17,13 +18,13 @@ use crate::refusal::PORT_SEEN;
 
 // Do more than n loads come before store i? Their offsets never fall, so it is enough to look at load n.
 fn more_before(loads: Pairs, n: u32, i: u32) -> bool
-    requires { ⌜ (loads .count ≤ 16) × Rising 0 (listOf loads) ⌝ }
+    requires { ⌜ Inside loads × Rising 0 (listOf loads) ⌝ }
     ensures { λ r. ⌜ r ≡ ltb n (count (beforeStore i) (listOf loads)) ⌝ }
 {
     if loads.count as u32 <= n {
         return false;
     }
-    let at = n as usize;
+    let at = loads.first as usize + n as usize;
     let load = loads.places[at];
     load.offset as u32 <= i
 }
@@ -74,14 +75,15 @@ pub(crate) fn pair_fault(right: bool, seen: &[bool; 32], port: u32) -> u8
 
 // The first fault of a group's pairs of one kind, or 0. The marks of the ports seen are lent, and take in the pairs' own.
 fn check_pairs(storing: bool, stores: u8, loads: Pairs, pairs: Pairs, seen: &mut [bool; 32]) -> u8
-    requires { ⌜ RuleRight storing stores loads × (pairs .count ≤ 16) ⌝ }
+    requires { ⌜ RuleRight storing stores loads × Inside pairs ⌝ }
     ensures { λ r. ⌜ PairsChecked (ruleOf storing stores loads) (now (seen .entry)) (listOf pairs) (now (seen .exit)) r ⌝ }
 {
+    let first = pairs.first as usize;
     let count = pairs.count as usize;
     let mut low: u32 = 0;
     let mut i: usize = 0;
     while i < count {
-        let pair = pairs.places[i];
+        let pair = pairs.places[first + i];
         let port = pair.port as u32;
         let offset = pair.offset as u32;
         let right = offset_right(storing, stores, loads, low, i as u32, offset);
@@ -112,6 +114,7 @@ pub(crate) fn counts_right(loads: u32, stores: u32) -> bool
 
 // A group's first fault, or 0: 5 counts, then its loads, then its stores. The marks of the ports seen are lent.
 fn check_group(group: Group, loads: &mut [bool; 32], stores: &mut [bool; 32]) -> u8
+    requires { ⌜ Inside (group .loads) × Inside (group .stores) ⌝ }
     ensures { λ r. ⌜ GroupChecked (seenIn (now (loads .entry)) (now (stores .entry))) (pairsOf group) (seenIn (now (loads .exit)) (now (stores .exit))) r ⌝ }
 {
     let load_pairs = group.loads;
@@ -142,7 +145,7 @@ pub fn table_fault(table: Table) -> u8
     let mut stores = [false; 32];
     let mut i: usize = 0;
     while i < count {
-        let group = table.groups[i];
+        let group = group_at(table, i);
         let answer = check_group(group, &mut loads, &mut stores);
         if answer != 0 {
             return answer;

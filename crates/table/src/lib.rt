@@ -3,6 +3,7 @@
 
 pub mod check;
 pub mod number;
+pub mod parts;
 pub mod read;
 pub mod refusal;
 pub mod trace;
@@ -14,10 +15,11 @@ pub struct Pair {
     pub port: u8,
 }
 
-// The accesses of one kind in a group, in program order. Places beyond the count mean nothing.
+// The accesses of one kind in a group, in program order: so many, from the first one's place on.
 pub struct Pairs {
+    pub first: u8,
     pub count: u8,
-    pub places: [Pair; 16],
+    pub places: [Pair; 32],
 }
 
 // A group: its loads and its stores.
@@ -26,10 +28,21 @@ pub struct Group {
     pub stores: Pairs,
 }
 
-// A group table. Places beyond the count mean nothing.
+// Where a group's loads and its stores stand in a table: the first one's place, and how many.
+pub struct Span {
+    pub load: u8,
+    pub loads: u8,
+    pub store: u8,
+    pub stores: u8,
+}
+
+// A group table: where each group's accesses stand, and the accesses of all groups, loads and stores apart. A port stands
+// once in a table, so 32 places of each kind are enough. Places beyond the count, or that no group has, mean nothing.
 pub struct Table {
     pub count: u8,
-    pub groups: [Group; 16],
+    pub groups: [Span; 16],
+    pub loads: [Pair; 32],
+    pub stores: [Pair; 32],
 }
 
 // What reading a number answers: its value and the place after it, or the refusal number.

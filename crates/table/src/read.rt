@@ -1,9 +1,9 @@
 // Reading tables, number by number.
 ghost use mathlib.Core.Path.{_≡_};
-ghost use Prim.Native.Nat.{_≤_};
+ghost use Prim.Native.Nat.{_+_, _≤_};
 ghost use lib.ListN.{length, drop};
-ghost use Rattle.table.specs.TableBytes.{readPairs, readGroup, readGroups, readTable, tableAnswer, packPairs, pack};
-ghost use Rattle.table.specs.Internal.{readTwo, twoAnswer, twoRefusal, ruleOf, RuleRight, PairsResult, seenOf, GroupResult, GroupsResult};
+ghost use Rattle.table.specs.TableBytes.{readPairs, readGroup, readGroups, readTable, tableAnswer, pack};
+ghost use Rattle.table.specs.Internal.{readTwo, twoAnswer, twoRefusal, ruleOf, RuleRight, packPairs, PairsResult, seenOf, GroupResult, putIn, Growing, Grown, GroupsResult};
 ghost use mathlib.Core.List.{[]};
 ghost use Rattle.table.specs.Table.{noneSeen};
 ghost use Rattle.table.specs.Number.{bad};
@@ -11,6 +11,7 @@ use crate::Group;
 use crate::NumberRead;
 use crate::Pair;
 use crate::Pairs;
+use crate::Span;
 use crate::Table;
 use crate::TableRead;
 use crate::check::counts_right;
@@ -108,8 +109,9 @@ fn no_pairs() -> Pairs
 {
     let blank = Pair { offset: 0, port: 0 };
     Pairs {
+        first: 0,
         count: 0,
-        places: [blank; 16],
+        places: [blank; 32],
     }
 }
 
@@ -249,15 +251,55 @@ fn read_group(bytes: &[u8], at: usize, seen: Ports) -> GroupRead
 pub fn no_table() -> Table
     ensures { λ r. ⌜ r ≡ pack [] ⌝ }
 {
-    let none = no_pairs();
-    let group = Group {
-        loads: none,
-        stores: none,
+    let nowhere = Span {
+        load: 0,
+        loads: 0,
+        store: 0,
+        stores: 0,
     };
+    let blank = Pair { offset: 0, port: 0 };
     Table {
         count: 0,
-        groups: [group; 16],
+        groups: [nowhere; 16],
+        loads: [blank; 32],
+        stores: [blank; 32],
     }
+}
+
+// The places with a group's accesses put in from a place on.
+fn with_pairs(mut places: [Pair; 32], from: usize, pairs: Pairs) -> [Pair; 32]
+    requires { ⌜ (pairs .first ≡ 0) × (from + pairs .count ≤ 32) ⌝ }
+    ensures { λ r. ⌜ r ≡ putIn places from pairs ⌝ }
+{
+    let count = pairs.count as usize;
+    let mut i: usize = 0;
+    while i < count {
+        places[from + i] = pairs.places[i];
+        i += 1;
+    }
+    places
+}
+
+// A table with a group behind those that it has, whose loads and stores are so many.
+fn with_group(mut table: Table, loads: u8, stores: u8, group: Group) -> Table
+    requires { ⌜ Growing table loads stores group ⌝ }
+    ensures { λ r. ⌜ Grown table loads stores group r ⌝ }
+{
+    let new_loads = group.loads;
+    let new_stores = group.stores;
+    let at = table.count as usize;
+    table.groups[at] = Span {
+        load: loads,
+        loads: new_loads.count,
+        store: stores,
+        stores: new_stores.count,
+    };
+    let load_places = table.loads;
+    let store_places = table.stores;
+    table.loads = with_pairs(load_places, loads as usize, new_loads);
+    table.stores = with_pairs(store_places, stores as usize, new_stores);
+    table.count += 1;
+    table
 }
 
 // Reads so many groups.
@@ -266,6 +308,8 @@ fn read_groups(bytes: &[u8], at: usize, count: u32) -> GroupsRead
     ensures { λ r. ⌜ GroupsResult (now (bytes .entry)) (readGroups count noneSeen (drop at (now (bytes .entry)))) r ⌝ }
 {
     let mut table = no_table();
+    let mut loads: u8 = 0;
+    let mut stores: u8 = 0;
     let mut seen = Ports {
         loads: [false; 32],
         stores: [false; 32],
@@ -282,12 +326,15 @@ fn read_groups(bytes: &[u8], at: usize, count: u32) -> GroupsRead
             };
         }
         let group = read.group;
-        table.groups[i as usize] = group;
+        table = with_group(table, loads, stores, group);
+        let new_loads = group.loads;
+        let new_stores = group.stores;
+        loads += new_loads.count;
+        stores += new_stores.count;
         seen = read.seen;
         place = read.next;
         i += 1;
     }
-    table.count = count as u8;
     GroupsRead {
         answer: 0,
         next: place,

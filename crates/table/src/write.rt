@@ -4,7 +4,7 @@ ghost use Prim.Native.Nat.{_+_, _≤_};
 ghost use lib.ListN.{length};
 ghost use Rattle.table.specs.Basics.{flat, splice};
 ghost use Rattle.table.specs.Number.{bytesOf};
-ghost use Rattle.table.specs.Group.{listOf, pairsOf};
+ghost use Rattle.table.specs.Group.{listOf, pairsOf, Inside};
 ghost use Rattle.table.specs.Table.{groupsOf};
 ghost use Rattle.table.specs.TableBytes.{pairNumbers, groupNumbers, tableNumbers, wroteTable};
 ghost use Rattle.table.specs.Internal.{GroupFits, TableFits};
@@ -15,18 +15,20 @@ use crate::Written;
 use crate::check::table_fault;
 use crate::number::number_length;
 use crate::number::put_number;
+use crate::parts::group_at;
 use crate::refusal::TOO_SHORT;
 
 // How many bytes a group's pairs of one kind take.
 fn pairs_length(pairs: Pairs) -> usize
-    requires { ⌜ pairs .count ≤ 16 ⌝ }
+    requires { ⌜ Inside pairs × (pairs .count ≤ 16) ⌝ }
     ensures { λ r. ⌜ (r ≡ length (bytesOf (flat pairNumbers (listOf pairs)))) × (r ≤ 160) ⌝ }
 {
+    let first = pairs.first as usize;
     let count = pairs.count as usize;
     let mut total: usize = 0;
     let mut i: usize = 0;
     while i < count {
-        let pair = pairs.places[i];
+        let pair = pairs.places[first + i];
         total += number_length(pair.offset as u32) + number_length(pair.port as u32);
         i += 1;
     }
@@ -53,7 +55,7 @@ fn table_length(table: Table) -> usize
     let mut total: usize = 0;
     let mut i: usize = 0;
     while i < count {
-        let group = table.groups[i];
+        let group = group_at(table, i);
         total += group_length(group);
         i += 1;
     }
@@ -62,14 +64,15 @@ fn table_length(table: Table) -> usize
 
 // Puts a group's pairs of one kind at a place where they fit, and says where they end.
 fn put_pairs(pairs: Pairs, out: &mut [u8], at: usize) -> usize
-    requires { ⌜ (pairs .count ≤ 16) × (at + length (bytesOf (flat pairNumbers (listOf pairs))) ≤ length (now out)) ⌝ }
+    requires { ⌜ Inside pairs × (at + length (bytesOf (flat pairNumbers (listOf pairs))) ≤ length (now out)) ⌝ }
     ensures { λ r. ⌜ (r ≡ at + length (bytesOf (flat pairNumbers (listOf pairs)))) × (now (out .exit) ≡ splice (now (out .entry)) at (bytesOf (flat pairNumbers (listOf pairs)))) ⌝ }
 {
+    let first = pairs.first as usize;
     let count = pairs.count as usize;
     let mut place = at;
     let mut i: usize = 0;
     while i < count {
-        let pair = pairs.places[i];
+        let pair = pairs.places[first + i];
         place = put_number(out, place, pair.offset as u32);
         place = put_number(out, place, pair.port as u32);
         i += 1;
@@ -100,7 +103,7 @@ fn put_table(table: Table, out: &mut [u8])
     let mut place = put_number(out, after_fields, table.count as u32);
     let mut i: usize = 0;
     while i < count {
-        let group = table.groups[i];
+        let group = group_at(table, i);
         place = put_group(group, out, place);
         i += 1;
     }

@@ -6,7 +6,7 @@ use mathlib.Core.List.{_++_, map}
 use lib.ListN.{length, getD}
 use Rattle.table.specs.declared.Pair.{Pair}
 use Rattle.table.specs.declared.Pairs.{Pairs}
-use Rattle.table.specs.Group.{GroupPairs, blankPair, listOf}
+use Rattle.table.specs.Group.{GroupPairs, blankPair, listOf, Inside}
 use Rattle.queue.specs.declared.Loads.{Loads}
 use Rattle.queue.specs.declared.Stores.{Stores}
 use Rattle.queue.specs.Contents.{Load, Store, Contents, after}
@@ -22,6 +22,7 @@ storeAfter loads p = newStore (p .port) (loads + p .offset)
 
 -- so many entries are held, and there is place for the pairs; what a new entry remembers fits its byte
 pub record PairsFit (held : ℕ) (ps : Pairs) : Type 0 where
+  pub inside : Inside ps
   pub few : ps .count ≤ 16
   pub room : held + ps .count ≤ 64
   pub offsets : (i : ℕ) → i < ps .count → getD (listOf ps) i blankPair .offset ≤ 16

@@ -2,7 +2,7 @@
 ghost use mathlib.Core.Path.{_≡_};
 ghost use Prim.Native.Nat.{_+_, _≤_};
 ghost use lib.Dec.{leb};
-ghost use Rattle.table.specs.Group.{pairsOf};
+ghost use Rattle.table.specs.Group.{pairsOf, Inside};
 ghost use Rattle.queue.specs.Contents.{contentsOf};
 ghost use Rattle.queue.specs.Activate.{room, activate};
 ghost use Rattle.queue.specs.Outcome.{Moves};
@@ -20,6 +20,7 @@ use crate::refusal::UNSOUND;
 use crate::sound::parts_sound;
 use table::Group;
 use table::Pairs;
+use table::parts::group_at;
 
 // Enough free places on a side: a finished entry that an older one holds back is not free.
 fn side_has_room(count: u8, more: u8, depth: u8) -> bool
@@ -35,9 +36,10 @@ fn append_loads(mut loads: Loads, pairs: Pairs, stores: u8) -> Loads
 {
     let held = loads.count as usize;
     let more = pairs.count as usize;
+    let first = pairs.first as usize;
     let mut j: usize = 0;
     while j < more {
-        let pair = pairs.places[j];
+        let pair = pairs.places[first + j];
         loads.entries[held + j] = LoadEntry {
             port: pair.port,
             before: stores + pair.offset,
@@ -61,9 +63,10 @@ fn append_stores(mut stores: Stores, pairs: Pairs, loads: u8) -> Stores
 {
     let held = stores.count as usize;
     let more = pairs.count as usize;
+    let first = pairs.first as usize;
     let mut j: usize = 0;
     while j < more {
-        let pair = pairs.places[j];
+        let pair = pairs.places[first + j];
         stores.entries[held + j] = StoreEntry {
             port: pair.port,
             before: loads + pair.offset,
@@ -82,6 +85,7 @@ fn append_stores(mut stores: Stores, pairs: Pairs, loads: u8) -> Stores
 
 impl Queue {
     fn has_room(self, group: Group) -> bool
+        requires { ⌜ Inside (group .loads) × Inside (group .stores) ⌝ }
         ensures { λ r. ⌜ r ≡ room (contentsOf self) (pairsOf group) ⌝ }
     {
         let loads = self.loads;
@@ -128,7 +132,7 @@ impl Queue {
             return self.refused(NO_GROUP);
         }
         let at = group as usize;
-        let chosen = table.groups[at];
+        let chosen = group_at(table, at);
         if !self.has_room(chosen) {
             return self.refused(NO_PLACE);
         }

@@ -2,7 +2,7 @@
 ghost use mathlib.Core.Path.{_≡_};
 ghost use Prim.Native.Nat.{_≤_};
 ghost use Rattle.table.specs.Basics.{all};
-ghost use Rattle.table.specs.Group.{pairsOf};
+ghost use Rattle.table.specs.Group.{pairsOf, Inside};
 ghost use Rattle.table.specs.Table.{groupsOf};
 ghost use Rattle.queue.specs.Open.{groupFits, openQueue};
 ghost use Rattle.queue.specs.NoQueue.{freshLoads, freshStores, freshQueue, noQueue};
@@ -22,6 +22,7 @@ use crate::sound::memory_right;
 use table::Group;
 use table::Table;
 use table::check::table_fault;
+use table::parts::group_at;
 use table::read::no_table;
 
 fn no_loads(depth: u8, first: u32) -> Loads
@@ -89,6 +90,7 @@ fn refused(answer: u8) -> Opened
 
 // The group has no more loads and stores than their depths.
 fn group_fits(group: Group, load_depth: u32, store_depth: u32) -> bool
+    requires { ⌜ Inside (group .loads) × Inside (group .stores) ⌝ }
     ensures { λ r. ⌜ r ≡ groupFits «load_depth» «store_depth» (pairsOf group) ⌝ }
 {
     let loads = group.loads;
@@ -106,7 +108,7 @@ fn groups_fit(table: Table, load_depth: u32, store_depth: u32) -> bool
     let count = table.count as usize;
     let mut i: usize = 0;
     while i < count {
-        let group = table.groups[i];
+        let group = group_at(table, i);
         if !group_fits(group, load_depth, store_depth) {
             return false;
         }

@@ -2,21 +2,23 @@
 ghost use mathlib.Core.Path.{_≡_};
 ghost use Prim.Native.Nat.{_≤_};
 ghost use Rattle.table.specs.Basics.{any};
-ghost use Rattle.table.specs.Group.{listOf};
+ghost use Rattle.table.specs.Group.{listOf, Inside};
 ghost use Rattle.table.specs.Table.{groupsOf, tableFault};
 ghost use Rattle.queue.specs.Arguments.{isPort, isLoadPort, isStorePort};
 use table::Pairs;
 use table::Table;
+use table::parts::group_at;
 
 // Is the port one of a group's?
 fn names_port(pairs: Pairs, port: u32) -> bool
-    requires { ⌜ pairs .count ≤ 16 ⌝ }
+    requires { ⌜ Inside pairs ⌝ }
     ensures { λ r. ⌜ r ≡ any (isPort port) (listOf pairs) ⌝ }
 {
+    let first = pairs.first as usize;
     let count = pairs.count as usize;
     let mut i: usize = 0;
     while i < count {
-        let pair = pairs.places[i];
+        let pair = pairs.places[first + i];
         if pair.port as u32 == port {
             return true;
         }
@@ -33,7 +35,7 @@ pub(crate) fn has_load_port(table: Table, port: u32) -> bool
     let count = table.count as usize;
     let mut i: usize = 0;
     while i < count {
-        let group = table.groups[i];
+        let group = group_at(table, i);
         let loads = group.loads;
         if names_port(loads, port) {
             return true;
@@ -51,7 +53,7 @@ pub(crate) fn has_store_port(table: Table, port: u32) -> bool
     let count = table.count as usize;
     let mut i: usize = 0;
     while i < count {
-        let group = table.groups[i];
+        let group = group_at(table, i);
         let stores = group.stores;
         if names_port(stores, port) {
             return true;

@@ -63,7 +63,7 @@ pub(crate) const PUT_TABLE: usize = 30;
 pub(crate) const TABLE: usize = 31;
 
 // The numbers that each takes before `table`, eight letters for each: `.` none, `w` any, `o` any or none, `f` to 1, `g` to 15,
-// `p` to 63, `r` to 80, `b` to 255, `h` to 65535.
+// `q` to 31, `p` to 63, `r` to 80, `b` to 255, `h` to 65535.
 const SHAPES: [u8; 248] = *b"\
 w.......\
 ww......\
@@ -92,9 +92,9 @@ h.......\
 pbbfhfwf\
 pbbfhfwf\
 b.......\
-gbb.....\
-ggbb....\
-ggbb....\
+gbbbb...\
+qbb.....\
+qbb.....\
 ........";
 
 fn is(word: &[u8], name: &[u8]) -> bool {
@@ -139,6 +139,7 @@ fn most(letter: u8) -> u32 {
     match letter {
         b'f' => 1,
         b'g' => 15,
+        b'q' => 31,
         b'p' => 63,
         b'r' => 80,
         b'b' => 255,

@@ -7,9 +7,8 @@ use queue::Loads;
 use queue::Queue;
 use queue::StoreEntry;
 use queue::Stores;
-use table::Group;
 use table::Pair;
-use table::Pairs;
+use table::Span;
 use table::Table;
 
 fn byte(value: u32) -> u8 {
@@ -108,44 +107,48 @@ fn with_store(mut queue: Queue, place: u32, entry: StoreEntry) -> Queue {
     queue
 }
 
-fn with_pair(mut pairs: Pairs, numbers: [u32; 8]) -> Pairs {
-    let place = (numbers[1] % 16) as usize;
-    pairs.places[place] = Pair {
-        offset: byte(numbers[2]),
-        port: byte(numbers[3]),
-    };
-    pairs
+// Of the numbers: group, first load's place, loads, first store's place, stores.
+fn span_of(numbers: [u32; 8]) -> Span {
+    Span {
+        load: byte(numbers[1]),
+        loads: byte(numbers[2]),
+        store: byte(numbers[3]),
+        stores: byte(numbers[4]),
+    }
 }
 
-fn group_with(mut group: Group, command: usize, numbers: [u32; 8]) -> Group {
-    let mut loads = group.loads;
-    let mut stores = group.stores;
-    match command {
-        command::SET_LOAD_PAIR => {
-            group.loads = with_pair(loads, numbers);
-            group
-        }
-        command::SET_STORE_PAIR => {
-            group.stores = with_pair(stores, numbers);
-            group
-        }
-        _ => {
-            loads.count = byte(numbers[1]);
-            stores.count = byte(numbers[2]);
-            Group { loads, stores }
-        }
-    }
+// Of the numbers: place, offset, port.
+fn with_pair(mut places: [Pair; 32], numbers: [u32; 8]) -> [Pair; 32] {
+    let place = (numbers[0] % 32) as usize;
+    places[place] = Pair {
+        offset: byte(numbers[1]),
+        port: byte(numbers[2]),
+    };
+    places
 }
 
 fn table_with(mut table: Table, command: usize, numbers: [u32; 8]) -> Table {
-    if command == command::SET_GROUPS {
-        table.count = byte(numbers[0]);
-        return table;
+    let loads = table.loads;
+    let stores = table.stores;
+    let group = (numbers[0] % 16) as usize;
+    match command {
+        command::SET_GROUPS => {
+            table.count = byte(numbers[0]);
+            table
+        }
+        command::SET_LOAD_PAIR => {
+            table.loads = with_pair(loads, numbers);
+            table
+        }
+        command::SET_STORE_PAIR => {
+            table.stores = with_pair(stores, numbers);
+            table
+        }
+        _ => {
+            table.groups[group] = span_of(numbers);
+            table
+        }
     }
-    let place = (numbers[0] % 16) as usize;
-    let group = table.groups[place];
-    table.groups[place] = group_with(group, command, numbers);
-    table
 }
 
 fn queue_with(mut queue: Queue, table: Table, command: usize, numbers: [u32; 8]) -> Queue {

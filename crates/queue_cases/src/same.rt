@@ -5,18 +5,41 @@ use queue::Loads;
 use queue::Queue;
 use queue::StoreEntry;
 use queue::Stores;
-use table::Group;
-use table::Pairs;
+use table::Pair;
+use table::Span;
 use table::Table;
 
-fn same_pairs(a: Pairs, b: Pairs) -> bool {
-    if a.count != b.count {
+fn same_span(a: Span, b: Span) -> bool {
+    if a.load != b.load {
         return false;
     }
+    if a.loads != b.loads {
+        return false;
+    }
+    if a.store != b.store {
+        return false;
+    }
+    a.stores == b.stores
+}
+
+fn same_spans(a: [Span; 16], b: [Span; 16]) -> bool {
     let mut i: usize = 0;
     while i < 16 {
-        let x = a.places[i];
-        let y = b.places[i];
+        let x = a[i];
+        let y = b[i];
+        if !same_span(x, y) {
+            return false;
+        }
+        i += 1;
+    }
+    true
+}
+
+fn same_pairs(a: [Pair; 32], b: [Pair; 32]) -> bool {
+    let mut i: usize = 0;
+    while i < 32 {
+        let x = a[i];
+        let y = b[i];
         if x.offset != y.offset {
             return false;
         }
@@ -28,7 +51,15 @@ fn same_pairs(a: Pairs, b: Pairs) -> bool {
     true
 }
 
-fn same_group(a: Group, b: Group) -> bool {
+fn same_table(a: Table, b: Table) -> bool {
+    if a.count != b.count {
+        return false;
+    }
+    let a_groups = a.groups;
+    let b_groups = b.groups;
+    if !same_spans(a_groups, b_groups) {
+        return false;
+    }
     let a_loads = a.loads;
     let b_loads = b.loads;
     if !same_pairs(a_loads, b_loads) {
@@ -37,22 +68,6 @@ fn same_group(a: Group, b: Group) -> bool {
     let a_stores = a.stores;
     let b_stores = b.stores;
     same_pairs(a_stores, b_stores)
-}
-
-fn same_table(a: Table, b: Table) -> bool {
-    if a.count != b.count {
-        return false;
-    }
-    let mut i: usize = 0;
-    while i < 16 {
-        let x = a.groups[i];
-        let y = b.groups[i];
-        if !same_group(x, y) {
-            return false;
-        }
-        i += 1;
-    }
-    true
 }
 
 fn same_load(a: LoadEntry, b: LoadEntry) -> bool {

@@ -38,7 +38,7 @@ pub(crate) const WRITE_TABLE: usize = 16;
 pub(crate) const BYTES: usize = 17;
 
 // The numbers that each takes before `bytes`, eight letters for each: `.` none, `a` any, `w` to 4294967295, `k` to 6, `g` to 15,
-// `l` to 128, `b` to 255.
+// `q` to 31, `l` to 128, `b` to 255.
 const SHAPES: [u8; 136] = *b"\
 a.......\
 a.......\
@@ -50,9 +50,9 @@ w.......\
 l.......\
 ........\
 b.......\
-gbb.....\
-ggbb....\
-ggbb....\
+gbbbb...\
+qbb.....\
+qbb.....\
 lw......\
 lwwww...\
 lkww....\
@@ -100,6 +100,7 @@ fn most(letter: u8) -> u64 {
     match letter {
         b'k' => 6,
         b'g' => 15,
+        b'q' => 31,
         b'l' => 128,
         b'b' => 255,
         b'w' => 4294967295,

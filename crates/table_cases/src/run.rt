@@ -4,6 +4,7 @@ use crate::script::Bytes;
 use crate::show;
 use table::Table;
 use table::TableRead;
+use table::parts::group_at;
 
 // The bytes to read are the first `count`. A buffer that is written to has `length` bytes, each EE.
 pub struct Run {
@@ -89,7 +90,7 @@ pub(crate) fn look(mut run: Run, command: usize, number: u64) -> Run {
     match command {
         command::READ_TABLE => read_table(run),
         command::ORDER => {
-            show::order(table.groups[0]);
+            show::order(group_at(table, 0));
             run
         }
         command::CHECK => {

@@ -6,9 +6,11 @@ use table::EventRead;
 use table::Group;
 use table::HeaderRead;
 use table::NumberRead;
+use table::Pair;
 use table::Pairs;
 use table::Table;
 use table::Written;
+use table::parts::group_at;
 
 pub(crate) fn words(text: &[u8]) {
     io::write_all(STDOUT_FILENO, text);
@@ -68,15 +70,19 @@ pub(crate) fn written(answer: Written) {
     }
 }
 
+// The ith of the pairs. They stand within the places (`group_at`), so the remainder changes nothing.
+fn access(pairs: Pairs, i: u8) -> Pair {
+    let place = pairs.first as usize + i as usize;
+    pairs.places[place % 32]
+}
+
 // Pairs of one kind, each as offset/port.
 fn accesses(pairs: Pairs) {
-    let mut i: usize = 0;
-    while i < 16 {
-        if i < pairs.count as usize {
-            let pair = pairs.places[i];
-            number(b" ", pair.offset as u64);
-            number(b"/", pair.port as u64);
-        }
+    let mut i: u8 = 0;
+    while i < pairs.count {
+        let pair = access(pairs, i);
+        number(b" ", pair.offset as u64);
+        number(b"/", pair.port as u64);
         i += 1;
     }
 }
@@ -95,21 +101,19 @@ pub(crate) fn groups(table: Table) {
     let mut i: usize = 0;
     while i < 16 {
         if i < table.count as usize {
-            one_group(table.groups[i]);
+            one_group(group_at(table, i));
         }
         i += 1;
     }
 }
 
 // The loads of one offset.
-fn loads_at(loads: Pairs, offset: usize) {
-    let mut i: usize = 0;
-    while i < 16 {
-        let load = loads.places[i];
-        if i < loads.count as usize {
-            if load.offset as usize == offset {
-                number(b", load ", load.port as u64);
-            }
+fn loads_at(loads: Pairs, offset: u8) {
+    let mut i: u8 = 0;
+    while i < loads.count {
+        let load = access(loads, i);
+        if load.offset == offset {
+            number(b", load ", load.port as u64);
         }
         i += 1;
     }
@@ -119,11 +123,11 @@ fn loads_at(loads: Pairs, offset: usize) {
 pub(crate) fn order(group: Group) {
     let loads = group.loads;
     let stores = group.stores;
-    let mut j: usize = 0;
+    let mut j: u8 = 0;
     while j < 16 {
         loads_at(loads, j);
-        if j < stores.count as usize {
-            let store = stores.places[j];
+        if j < stores.count {
+            let store = access(stores, j);
             number(b", store ", store.port as u64);
         }
         j += 1;

@@ -2,9 +2,8 @@
 // (`command::takes`), so no remainder below changes a number.
 use crate::command;
 use crate::run::Run;
-use table::Group;
 use table::Pair;
-use table::Pairs;
+use table::Span;
 use table::Table;
 
 fn byte(value: u64) -> u8 {
@@ -17,61 +16,63 @@ fn filled() -> Table {
         offset: 255,
         port: 255,
     };
-    let pairs = Pairs {
-        count: 255,
-        places: [pair; 16],
-    };
-    let group = Group {
-        loads: pairs,
-        stores: pairs,
+    let span = Span {
+        load: 255,
+        loads: 255,
+        store: 255,
+        stores: 255,
     };
     Table {
         count: 1,
-        groups: [group; 16],
+        groups: [span; 16],
+        loads: [pair; 32],
+        stores: [pair; 32],
     }
 }
 
-fn with_pair(mut pairs: Pairs, numbers: [u64; 8]) -> Pairs {
-    let place = (numbers[1] % 16) as usize;
-    pairs.places[place] = Pair {
-        offset: byte(numbers[2]),
-        port: byte(numbers[3]),
+// Of the numbers: group, first load's place, loads, first store's place, stores.
+fn span_of(numbers: [u64; 8]) -> Span {
+    Span {
+        load: byte(numbers[1]),
+        loads: byte(numbers[2]),
+        store: byte(numbers[3]),
+        stores: byte(numbers[4]),
+    }
+}
+
+// Of the numbers: place, offset, port.
+fn with_pair(mut places: [Pair; 32], numbers: [u64; 8]) -> [Pair; 32] {
+    let place = (numbers[0] % 32) as usize;
+    places[place] = Pair {
+        offset: byte(numbers[1]),
+        port: byte(numbers[2]),
     };
-    pairs
-}
-
-fn group_with(mut group: Group, command: usize, numbers: [u64; 8]) -> Group {
-    let mut loads = group.loads;
-    let mut stores = group.stores;
-    match command {
-        command::SET_LOAD_PAIR => {
-            group.loads = with_pair(loads, numbers);
-            group
-        }
-        command::SET_STORE_PAIR => {
-            group.stores = with_pair(stores, numbers);
-            group
-        }
-        _ => {
-            loads.count = byte(numbers[1]);
-            stores.count = byte(numbers[2]);
-            Group { loads, stores }
-        }
-    }
+    places
 }
 
 fn table_with(mut table: Table, command: usize, numbers: [u64; 8]) -> Table {
-    if command == command::FILL {
-        return filled();
+    let loads = table.loads;
+    let stores = table.stores;
+    let group = (numbers[0] % 16) as usize;
+    match command {
+        command::FILL => filled(),
+        command::SET_GROUPS => {
+            table.count = byte(numbers[0]);
+            table
+        }
+        command::SET_LOAD_PAIR => {
+            table.loads = with_pair(loads, numbers);
+            table
+        }
+        command::SET_STORE_PAIR => {
+            table.stores = with_pair(stores, numbers);
+            table
+        }
+        _ => {
+            table.groups[group] = span_of(numbers);
+            table
+        }
     }
-    if command == command::SET_GROUPS {
-        table.count = byte(numbers[0]);
-        return table;
-    }
-    let place = (numbers[0] % 16) as usize;
-    let group = table.groups[place];
-    table.groups[place] = group_with(group, command, numbers);
-    table
 }
 
 pub(crate) fn set(mut run: Run, command: usize, numbers: [u64; 8]) -> Run {

@@ -98,11 +98,9 @@ fn one_group(group: Group) {
 // A table: its count, and its groups.
 pub(crate) fn groups(table: Table) {
     number(b" groups ", table.count as u64);
-    let mut i: usize = 0;
-    while i < 16 {
-        if i < table.count as usize {
-            one_group(group_at(table, i));
-        }
+    let mut i: u8 = 0;
+    while i < table.count {
+        one_group(group_at(table, i as usize));
         i += 1;
     }
 }

@@ -4,22 +4,16 @@ use Rattle.table_cases.proofs.show.accesses.Statement.{statement}
 use Rattle.table_cases.proofs.show.accesses.Tie as tie
 
 abbrev Inv-loop : tie.InvT-loop
-Inv-loop pairs i₀ t5 t6 i = i ≤ 16
+Inv-loop pairs i₀ t4 t5 i = i ≤ pairs .count
 
 abbrev μ-loop : tie.MeasureT-loop
-μ-loop pairs i₀ t5 t6 i = 16 - i
+μ-loop pairs i₀ t4 t5 i = pairs .count - i
 
 loop-holds : tie.Need-loop-holds Inv-loop μ-loop
 loop-holds c = search needs
 
-cast-if1 : tie.Need-cast-if1 Inv-loop μ-loop
-cast-if1 c = search needs
-
-mul-pair : tie.Need-mul-pair Inv-loop μ-loop
-mul-pair c = search needs
-
-element-copy-out-pair : tie.Need-element-copy-out-pair Inv-loop μ-loop
-element-copy-out-pair c = search needs
+access-requires : tie.Need-access-requires Inv-loop μ-loop
+access-requires c κs = search needs
 
 slice-aggregate-number : tie.Need-slice-aggregate-number Inv-loop μ-loop
 slice-aggregate-number c = search needs
@@ -58,9 +52,7 @@ accesses-spec =
     Inv-loop
     μ-loop
     loop-holds
-    cast-if1
-    mul-pair
-    element-copy-out-pair
+    access-requires
     slice-aggregate-number
     cast-number
     number-requires

@@ -4,10 +4,10 @@ use Rattle.table_cases.proofs.show.groups.Statement.{statement}
 use Rattle.table_cases.proofs.show.groups.Tie as tie
 
 abbrev Inv-loop : tie.InvT-loop
-Inv-loop table i₀ i = i ≤ 16
+Inv-loop table i₀ i = i ≤ table .count
 
 abbrev μ-loop : tie.MeasureT-loop
-μ-loop table i₀ i = 16 - i
+μ-loop table i₀ i = table .count - i
 
 slice-aggregate-number : tie.Need-slice-aggregate-number Inv-loop μ-loop
 slice-aggregate-number c = search needs
@@ -21,14 +21,11 @@ number-requires c κs = search needs
 loop-holds : tie.Need-loop-holds Inv-loop μ-loop
 loop-holds c = search needs
 
-cast-if1 : tie.Need-cast-if1 Inv-loop μ-loop
-cast-if1 c = search needs
+cast-group-at : tie.Need-cast-group-at Inv-loop μ-loop
+cast-group-at c = search needs
 
-mul-one-group : tie.Need-mul-one-group Inv-loop μ-loop
-mul-one-group c = search needs
-
-element-copy-out-one-group : tie.Need-element-copy-out-one-group Inv-loop μ-loop
-element-copy-out-one-group c = search needs
+group-at-requires : tie.Need-group-at-requires Inv-loop μ-loop
+group-at-requires c κs = search needs
 
 one-group-requires : tie.Need-one-group-requires Inv-loop μ-loop
 one-group-requires c κs = search needs
@@ -55,9 +52,8 @@ groups-spec =
     cast-number
     number-requires
     loop-holds
-    cast-if1
-    mul-one-group
-    element-copy-out-one-group
+    cast-group-at
+    group-at-requires
     one-group-requires
     add-i
     loop-less

@@ -4,25 +4,16 @@ use Rattle.table_cases.proofs.show.loads_at.Statement.{statement}
 use Rattle.table_cases.proofs.show.loads_at.Tie as tie
 
 abbrev Inv-loop : tie.InvT-loop
-Inv-loop offset loads i₀ t6 i = i ≤ 16
+Inv-loop loads offset i₀ t5 i = i ≤ loads .count
 
 abbrev μ-loop : tie.MeasureT-loop
-μ-loop offset loads i₀ t6 i = 16 - i
+μ-loop loads offset i₀ t5 i = loads .count - i
 
 loop-holds : tie.Need-loop-holds Inv-loop μ-loop
 loop-holds c = search needs
 
-mul-load : tie.Need-mul-load Inv-loop μ-loop
-mul-load c = search needs
-
-element-copy-out-load : tie.Need-element-copy-out-load Inv-loop μ-loop
-element-copy-out-load c = search needs
-
-cast-if1 : tie.Need-cast-if1 Inv-loop μ-loop
-cast-if1 c = search needs
-
-cast-if2 : tie.Need-cast-if2 Inv-loop μ-loop
-cast-if2 c = search needs
+access-requires : tie.Need-access-requires Inv-loop μ-loop
+access-requires c κs = search needs
 
 slice-aggregate-number : tie.Need-slice-aggregate-number Inv-loop μ-loop
 slice-aggregate-number c = search needs
@@ -52,10 +43,7 @@ loads-at-spec =
     Inv-loop
     μ-loop
     loop-holds
-    mul-load
-    element-copy-out-load
-    cast-if1
-    cast-if2
+    access-requires
     slice-aggregate-number
     cast-number
     number-requires

@@ -15,14 +15,8 @@ loop-holds c = search needs
 loads-at-requires : tie.Need-loads-at-requires Inv-loop μ-loop
 loads-at-requires c κs = search needs
 
-cast-if1 : tie.Need-cast-if1 Inv-loop μ-loop
-cast-if1 c = search needs
-
-mul-store : tie.Need-mul-store Inv-loop μ-loop
-mul-store c = search needs
-
-element-copy-out-store : tie.Need-element-copy-out-store Inv-loop μ-loop
-element-copy-out-store c = search needs
+access-requires : tie.Need-access-requires Inv-loop μ-loop
+access-requires c κs = search needs
 
 slice-aggregate-number : tie.Need-slice-aggregate-number Inv-loop μ-loop
 slice-aggregate-number c = search needs
@@ -56,9 +50,7 @@ order-spec =
     μ-loop
     loop-holds
     loads-at-requires
-    cast-if1
-    mul-store
-    element-copy-out-store
+    access-requires
     slice-aggregate-number
     cast-number
     number-requires

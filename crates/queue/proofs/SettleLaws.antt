@@ -6,13 +6,13 @@ use native.Mathlib.Omega.{arith}
 use mathlib.Core.Path.{_≡_, refl, sym, ap, _∙_}
 use mathlib.Core.Bool.{Bool, true, false}
 use mathlib.Core.List.{List, [], _∷_, _++_, map, map-map}
-use lib.ListN.{length, getD, take, drop, set, length-map, length-append, length-take, length-drop, List·getD-map}
-use lib.Seq.{drop-cons, getD-drop, getD-append-add, length-take-le, take-at, take-nil}
+use lib.ListN.{length, getD, take, drop, set, length-map, length-append, length-drop}
+use lib.Seq.{getD-drop, getD-append-add, length-take-le, take-at, take-nil}
+use Rattle.table.specs.declared.Table.{Table}
 use Rattle.table.specs.Basics.{pick, takeWhile, dropWhile}
 use Rattle.queue.specs.declared.Loads.{Loads}
 use Rattle.queue.specs.declared.Stores.{Stores}
-use Rattle.queue.specs.declared.Queue.{Queue}
-use Rattle.queue.specs.Contents.{loadOf, storeOf, blankLoad, blankStore, contentsOf}
+use Rattle.queue.specs.Contents.{contentsOf}
 use Rattle.queue.specs.Write.{leaving, loadFinished, storeFinished, loadAfterLeaving, storeAfterLeaving, settle}
 use Rattle.queue.specs.Internal.{sideOf, loadsOf, storesOf}
 use Rattle.queue.specs.InternalWrite.{LoadsMoved, StoresMoved}
@@ -102,17 +102,16 @@ module _ {A : Type 0} {g : A → A} {k : ℕ} {old : List A} where
         (map-same (λ (x : A). f (g x)) (λ (x : A). h (f x)) same (drop k (take n old)))
 
 -- ---- both sides
-pub loads-leaving : (side : Loads) → leaving loadFinished (loadsOf side) ≤ side .count
-loads-leaving side = omega (arith, leaving-most loadFinished (loadsOf side), side-length loadOf blankLoad (side .count) (side .entries))
+pub side-leaving : {A B : Type 0} (p : B → Bool) (f : A → B) (blank : A) (n : ℕ) (l : List A) → leaving p (sideOf f blank n l) ≤ n
+side-leaving p f blank n l = omega (arith, leaving-most p (sideOf f blank n l), side-length f blank n l)
 
-pub stores-leaving : (side : Stores) → leaving storeFinished (storesOf side) ≤ side .count
-stores-leaving side = omega (arith, leaving-most storeFinished (storesOf side), side-length storeOf blankStore (side .count) (side .entries))
-
-pub settle-sides : (q : Queue) {l s : ℕ} {ls : Loads} {ss : Stores} → l ≡ leaving loadFinished (loadsOf (q .loads)) → s ≡ leaving storeFinished (storesOf (q .stores))
-    → LoadsMoved (q .loads) l s ls → StoresMoved (q .stores) s l ss
-    → contentsOf (record { table = q .table; words = q .words; loads = ls; stores = ss }) ≡ settle (contentsOf q)
+pub settle-sides : (table : Table) (words : ℕ) {loads ls : Loads} {stores ss : Stores} {l s : ℕ}
+    → l ≡ leaving loadFinished (loadsOf loads) → s ≡ leaving storeFinished (storesOf stores)
+    → LoadsMoved loads l s ls → StoresMoved stores s l ss
+    → contentsOf (record { table = table; words = words; loads = ls; stores = ss })
+    ≡ settle (contentsOf (record { table = table; words = words; loads = loads; stores = stores }))
 unfolding contentsOf
-settle-sides q {l} {s} {ls} {ss} el es ml ms =
-    let hl : loadsOf ls ≡ map (loadAfterLeaving (leaving storeFinished (storesOf (q .stores)))) (dropWhile loadFinished (loadsOf (q .loads))) = ml .holds ∙ rw (el, es, drop-leaving) in
-    let hs : storesOf ss ≡ map (storeAfterLeaving (leaving loadFinished (loadsOf (q .loads)))) (dropWhile storeFinished (storesOf (q .stores))) = ms .holds ∙ rw (es, el, drop-leaving) in
+settle-sides table words {loads} {ls} {stores} {ss} {l} {s} el es ml ms =
+    let hl : loadsOf ls ≡ map (loadAfterLeaving (leaving storeFinished (storesOf stores))) (dropWhile loadFinished (loadsOf loads)) = ml .holds ∙ rw (el, es, drop-leaving) in
+    let hs : storesOf ss ≡ map (storeAfterLeaving (leaving loadFinished (loadsOf loads))) (dropWhile storeFinished (storesOf stores)) = ms .holds ∙ rw (es, el, drop-leaving) in
     rw (ml .depth, ml .next, ms .depth, ms .next, hl, hs)

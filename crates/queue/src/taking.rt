@@ -18,6 +18,10 @@ use crate::refusal::NONE_UNTAKEN;
 use crate::refusal::NOT_SERVED;
 use crate::refusal::UNSOUND;
 use crate::sound::parts_sound;
+use crate::writing::finished_loads;
+use crate::writing::finished_stores;
+use crate::writing::move_loads;
+use crate::writing::move_stores;
 
 // Is it an untaken load of the port?
 fn is_untaken(load: LoadEntry, port: u32) -> bool
@@ -47,7 +51,7 @@ fn oldest_untaken(loads: Loads, port: u32) -> usize
 }
 
 impl Queue {
-    // The load at a place is taken, and finished entries leave.
+    // The load at a place is taken, and finished entries leave, as after a write.
     fn taken(mut self, at: usize, value: u32) -> Outcome
         requires { ⌜ (at < self .loads .count) × (self .loads .count ≤ 64) × (self .stores .count ≤ 64) ⌝ }
         ensures { λ r. ⌜ Accepted (Value.Word value) (settle (withLoads (contentsOf self) (updateAt loadTaken at (contentsOf self .loads)))) r ⌝ }
@@ -56,11 +60,15 @@ impl Queue {
         let mut load = loads.entries[at];
         load.taken = true;
         loads.entries[at] = load;
-        self.loads = loads;
+        let stores = self.stores;
+        let loads_gone = finished_loads(loads);
+        let stores_gone = finished_stores(stores);
+        self.loads = move_loads(loads, loads_gone, stores_gone);
+        self.stores = move_stores(stores, stores_gone, loads_gone);
         Outcome {
             answer: 0,
             value: Value::Word(value),
-            queue: self.settled(),
+            queue: self,
         }
     }
 

@@ -114,7 +114,7 @@ pub(crate) fn write_fault(loads: Loads, stores: Stores, at: usize) -> u8
 }
 
 // How many loads at the oldest end are taken. A taken load behind an untaken one keeps its place.
-fn finished_loads(loads: Loads) -> u8
+pub(crate) fn finished_loads(loads: Loads) -> u8
     requires { ⌜ loads .count ≤ 64 ⌝ }
     ensures { λ r. ⌜ r ≡ leaving loadFinished (loadsOf loads) ⌝ }
 {
@@ -131,7 +131,7 @@ fn finished_loads(loads: Loads) -> u8
 }
 
 // How many stores at the oldest end are written.
-fn finished_stores(stores: Stores) -> u8
+pub(crate) fn finished_stores(stores: Stores) -> u8
     requires { ⌜ stores .count ≤ 64 ⌝ }
     ensures { λ r. ⌜ r ≡ leaving storeFinished (storesOf stores) ⌝ }
 {
@@ -155,7 +155,7 @@ fn less(before: u8, left: u8) -> u8
 }
 
 // The load side after its first `gone` entries and `stores` stores have left.
-fn move_loads(mut loads: Loads, gone: u8, stores: u8) -> Loads
+pub(crate) fn move_loads(mut loads: Loads, gone: u8, stores: u8) -> Loads
     requires { ⌜ (gone ≤ loads .count) × (loads .count ≤ 64) ⌝ }
     ensures { λ r. ⌜ LoadsMoved loads gone stores r ⌝ }
 {
@@ -174,7 +174,7 @@ fn move_loads(mut loads: Loads, gone: u8, stores: u8) -> Loads
 }
 
 // The store side, likewise.
-fn move_stores(mut stores: Stores, gone: u8, loads: u8) -> Stores
+pub(crate) fn move_stores(mut stores: Stores, gone: u8, loads: u8) -> Stores
     requires { ⌜ (gone ≤ stores .count) × (stores .count ≤ 64) ⌝ }
     ensures { λ r. ⌜ StoresMoved stores gone loads r ⌝ }
 {
@@ -193,27 +193,8 @@ fn move_stores(mut stores: Stores, gone: u8, loads: u8) -> Stores
 }
 
 impl Queue {
-    // Finished entries leave both sides; each entry that stays forgets those of the other kind that left.
-    pub(crate) fn settled(self) -> Queue
-        requires { ⌜ (self .loads .count ≤ 64) × (self .stores .count ≤ 64) ⌝ }
-        ensures { λ r. ⌜ contentsOf r ≡ settle (contentsOf self) ⌝ }
-    {
-        let loads = self.loads;
-        let stores = self.stores;
-        let loads_gone = finished_loads(loads);
-        let stores_gone = finished_stores(stores);
-        let new_loads = move_loads(loads, loads_gone, stores_gone);
-        let new_stores = move_stores(stores, stores_gone, loads_gone);
-        let table = self.table;
-        Queue {
-            table,
-            words: self.words,
-            loads: new_loads,
-            stores: new_stores,
-        }
-    }
-
-    // The store at a place is written, and finished entries leave.
+    // The store at a place is written, and finished entries leave; one that stays forgets those of the other kind that left.
+    // Each side is moved by itself, so that the record is not copied as a whole.
     fn written(mut self, at: usize) -> Outcome
         requires { ⌜ (at < self .stores .count) × (self .loads .count ≤ 64) × (self .stores .count ≤ 64) ⌝ }
         ensures { λ r. ⌜ Accepted Value.Nothing (settle (withStores (contentsOf self) (updateAt storeDone at (contentsOf self .stores)))) r ⌝ }
@@ -222,11 +203,15 @@ impl Queue {
         let mut store = stores.entries[at];
         store.written = true;
         stores.entries[at] = store;
-        self.stores = stores;
+        let loads = self.loads;
+        let loads_gone = finished_loads(loads);
+        let stores_gone = finished_stores(stores);
+        self.loads = move_loads(loads, loads_gone, stores_gone);
+        self.stores = move_stores(stores, stores_gone, loads_gone);
         Outcome {
             answer: 0,
             value: Value::Nothing,
-            queue: self.settled(),
+            queue: self,
         }
     }
 

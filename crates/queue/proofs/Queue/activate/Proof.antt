@@ -1,6 +1,6 @@
 -- Each test that is left behind is a step of the rule; the test that fails is its refusal.
 use mathlib.Core.Path.{_≡_, refl, sym, _∙_}
-use mathlib.Core.Bool.{true}
+use mathlib.Core.Bool.{true, false}
 use native.Mathlib.Omega.{arith}
 use lib.ListN.{length, getD}
 use borrow.Author.Tests.{not-true, not-false}
@@ -25,6 +25,9 @@ start c = c .before .before .before .before
 
 right : (c : tie.Else1) → sound (contentsOf (start (c .before) .args .self)) ≡ true
 right c = sym (c .before .parts-sound .ensures) ∙ not-false _ (c .if1 .left)
+
+wrong : (c : tie.Then1) → sound (contentsOf (start (c .before) .args .self)) ≡ false
+wrong c = sym (c .before .parts-sound .ensures) ∙ not-true _ (c .if1 .taken)
 
 -- the queue and the group where a group was chosen
 abbrev queue : tie.After-chosen → Queue
@@ -52,9 +55,8 @@ refused-requires c κs = search needs
 
 returns : tie.Need-returns
 returns c =
-    let p = c .before .before in
-    let s = start p in
-    rw (activate-unsound (contentsOf (s .args .self)) (s .args .group) (sym (p .parts-sound .ensures) ∙ not-true _ (c .before .if1 .taken))) (c .refused .ensures)
+    let s = start (c .before .before) in
+    rw (activate-unsound (contentsOf (s .args .self)) (s .args .group) (wrong (c .before))) (c .refused .ensures)
 
 cast-if2 : tie.Need-cast-if2
 cast-if2 c = search needs

@@ -1,10 +1,8 @@
-use mathlib.Core.Path.{_≡_, refl, sym, ap, _∙_}
-use mathlib.Core.Bool.{true}
-use lib.ListN.{length}
+use mathlib.Core.Path.{_≡_, refl, sym, _∙_}
+use mathlib.Core.Bool.{true, false}
 use borrow.Author.Tests.{not-true, not-false}
 use Rattle.queue.specs.Contents.{contentsOf}
 use Rattle.queue.specs.Sound.{sound}
-use Rattle.queue.specs.Ready.{servable}
 use Rattle.queue.proofs.ReadyLaws.{ready-loads-unsound, ready-loads-short, ready-loads-enough, ready-well}
 use borrow.Author.Needs.{needs}
 use Rattle.queue.proofs.Queue.ready_loads_into.Statement.{statement}
@@ -16,6 +14,9 @@ start c = c .before .before .before .before .before
 right : (c : tie.Else1) → sound (contentsOf (start (c .before) .args .self)) ≡ true
 right c = sym (c .before .parts-sound .ensures) ∙ not-false _ (c .if1 .left)
 
+wrong : (c : tie.Then1) → sound (contentsOf (start (c .before) .args .self)) ≡ false
+wrong c = sym (c .before .parts-sound .ensures) ∙ not-true _ (c .if1 .taken)
+
 parts-sound-requires : tie.Need-parts-sound-requires
 parts-sound-requires c κs = search needs
 
@@ -24,9 +25,8 @@ unready-requires c κs = search needs
 
 returns : tie.Need-returns
 returns c =
-    let p = c .before .before in
-    let s = start p in
-    rw (ready-loads-unsound (contentsOf (s .args .self)) (s .args .out .now) (sym (p .parts-sound .ensures) ∙ not-true _ (c .before .if1 .taken))) (record { outcome = c .unready .ensures; run-is = refl })
+    let s = start (c .before .before) in
+    rw (ready-loads-unsound (contentsOf (s .args .self)) (s .args .out .now) (wrong (c .before))) (record { outcome = c .unready .ensures; run-is = refl })
 
 servable-loads-requires : tie.Need-servable-loads-requires
 servable-loads-requires c κs = right c

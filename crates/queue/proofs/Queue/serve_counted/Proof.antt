@@ -1,9 +1,8 @@
-use mathlib.Core.Path.{_≡_, sym, ap, _∙_}
-use mathlib.Core.Bool.{true}
+use mathlib.Core.Path.{_≡_, sym, _∙_}
+use mathlib.Core.Bool.{true, false}
 use borrow.Author.Tests.{not-true, not-false}
 use Rattle.queue.specs.Contents.{contentsOf}
 use Rattle.queue.specs.Sound.{sound}
-use Rattle.queue.specs.InternalServe.{serveAt}
 use Rattle.queue.proofs.ServeLaws.{serve-unsound, serve-memory, serve-place}
 use borrow.Author.Needs.{needs}
 use Rattle.queue.proofs.Queue.serve_counted.Statement.{statement}
@@ -18,14 +17,16 @@ start c = c .before .before .before .before .before
 right : (c : tie.Else1) → sound (contentsOf (start (c .before) .args .self)) ≡ true
 right c = sym (c .before .parts-sound .ensures) ∙ not-false _ (c .if1 .left)
 
+wrong : (c : tie.Then1) → sound (contentsOf (start (c .before) .args .self)) ≡ false
+wrong c = sym (c .before .parts-sound .ensures) ∙ not-true _ (c .if1 .taken)
+
 unserved-requires : tie.Need-unserved-requires
 unserved-requires c κs = search needs
 
 returns : tie.Need-returns
 returns c =
-    let p = c .before .before in
-    let s = start p in
-    rw (serve-unsound (s .args .self) (s .args .memory .now) (s .args .serial) (sym (p .parts-sound .ensures) ∙ not-true _ (c .before .if1 .taken))) (c .unserved .ensures)
+    let s = start (c .before .before) in
+    rw (serve-unsound (s .args .self) (s .args .memory .now) (s .args .serial) (wrong (c .before))) (c .unserved .ensures)
 
 cast-if2 : tie.Need-cast-if2
 cast-if2 c = search needs

@@ -3,7 +3,7 @@ use Prim.Native.Nat.{_≤_}
 use native.Mathlib.Nat.{le-trans}
 use native.Mathlib.Omega.{arith}
 use mathlib.Core.Path.{_≡_, refl, sym, _∙_}
-use mathlib.Core.Bool.{true}
+use mathlib.Core.Bool.{true, false}
 use lib.ListN.{length, getD}
 use borrow.Author.Tests.{not-true, not-false}
 use Rattle.table.specs.Basics.{any}
@@ -24,6 +24,9 @@ start c = c .before .before .before .before
 
 right : (c : tie.Else1) → sound (contentsOf (start (c .before) .args .self)) ≡ true
 right c = sym (c .before .parts-sound .ensures) ∙ not-false _ (c .if1 .left)
+
+wrong : (c : tie.Then1) → sound (contentsOf (start (c .before) .args .self)) ≡ false
+wrong c = sym (c .before .parts-sound .ensures) ∙ not-true _ (c .if1 .taken)
 
 port : (c : tie.Else2) → let s = start (c .before .before .before) in any (isLoadPort (s .args .port)) (groupsOf (s .args .self .table)) ≡ true
 port c = sym (c .before .has-load-port .ensures) ∙ not-false _ (c .if2 .left)
@@ -46,9 +49,8 @@ refused-requires c κs = search needs
 
 returns : tie.Need-returns
 returns c =
-    let p = c .before .before in
-    let s = start p in
-    rw (take-unsound (s .args .self) (s .args .port) (sym (p .parts-sound .ensures) ∙ not-true _ (c .before .if1 .taken))) (c .refused .ensures)
+    let s = start (c .before .before) in
+    rw (take-unsound (s .args .self) (s .args .port) (wrong (c .before))) (c .refused .ensures)
 
 has-load-port-requires : tie.Need-has-load-port-requires
 has-load-port-requires c κs = table-right (start (c .before) .args .self) (right c)

@@ -1,10 +1,12 @@
-use mathlib.Core.Path.{_≡_, refl, sym, ap, _∙_}
+use mathlib.Core.Path.{_≡_, refl, ap, _∙_}
 use native.Mathlib.Omega.{arith}
 use lib.ListN.{length}
 use Rattle.table.proofs.CheckLaws.{long}
-use Rattle.queue.specs.Write.{settle}
+use Rattle.queue.specs.Contents.{loadOf, storeOf, blankLoad, blankStore}
+use Rattle.queue.specs.Write.{loadFinished, storeFinished, settle}
 use Rattle.queue.specs.Take.{loadTaken}
 use Rattle.queue.proofs.ContentsLaws.{load-anew}
+use Rattle.queue.proofs.SettleLaws.{side-leaving, settle-sides}
 use borrow.Author.Needs.{needs}
 use Rattle.queue.proofs.Queue.taken.Statement.{statement}
 use Rattle.queue.proofs.Queue.taken.Tie as tie
@@ -24,18 +26,29 @@ mul-load-2 c = search needs
 element-set-from-load : tie.Need-element-set-from-load
 element-set-from-load c = search needs
 
-settled-requires : tie.Need-settled-requires
-settled-requires c κs = search needs
+finished-loads-requires : tie.Need-finished-loads-requires
+finished-loads-requires c κs = search needs
+
+finished-stores-requires : tie.Need-finished-stores-requires
+finished-stores-requires c κs = search needs
+
+move-loads-requires : tie.Need-move-loads-requires
+move-loads-requires c κs = (rw (c .before .finished-loads .ensures) (side-leaving loadFinished loadOf blankLoad _ _), c .before .before .before .before .before .pre .1)
+
+move-stores-requires : tie.Need-move-stores-requires
+move-stores-requires c κs = (rw (c .before .finished-stores .ensures) (side-leaving storeFinished storeOf blankStore _ _), c .before .before .before .before .before .before .pre .2)
 
 returns : tie.Need-returns
 returns c =
-    let s = c .before .before .before in
+    let f = c .before .before in
+    let s = f .before .before .before .before .before in
     let q = s .args .self in
     let e = loads-long s in
     record {
       answer = refl;
       gives = refl;
-      holds = c .settled .ensures ∙ ap settle (load-anew q loadTaken (s .args .at) _ (omega (arith, s .pre .1)) (s .pre .0) refl);
+      holds = settle-sides (q .table) (q .words) (f .before .finished-loads .ensures) (f .finished-stores .ensures) (c .before .move-loads .ensures) (c .move-stores .ensures)
+          ∙ ap settle (load-anew q loadTaken (s .args .at) _ (omega (arith, s .pre .1)) (s .pre .0) refl);
     }
 
 pub taken-spec : {M : Type 1} → statement M
@@ -46,5 +59,8 @@ taken-spec =
     element-copy-out-load
     mul-load-2
     element-set-from-load
-    settled-requires
+    finished-loads-requires
+    finished-stores-requires
+    move-loads-requires
+    move-stores-requires
     returns)

@@ -1,5 +1,5 @@
-use mathlib.Core.Path.{_≡_, refl, sym, ap, _∙_}
-use mathlib.Core.Bool.{true}
+use mathlib.Core.Path.{_≡_, refl, sym, _∙_}
+use mathlib.Core.Bool.{true, false}
 use borrow.Author.Tests.{not-true, not-false}
 use Rattle.queue.specs.Contents.{contentsOf}
 use Rattle.queue.specs.Sound.{sound}
@@ -17,14 +17,16 @@ start c = c .before .before .before .before .before
 right : (c : tie.Else1) → sound (contentsOf (start (c .before) .args .self)) ≡ true
 right c = sym (c .before .parts-sound .ensures) ∙ not-false _ (c .if1 .left)
 
+wrong : (c : tie.Then1) → sound (contentsOf (start (c .before) .args .self)) ≡ false
+wrong c = sym (c .before .parts-sound .ensures) ∙ not-true _ (c .if1 .taken)
+
 refused-requires : tie.Need-refused-requires
 refused-requires c κs = search needs
 
 returns : tie.Need-returns
 returns c =
-    let p = c .before .before in
-    let s = start p in
-    rw (write-unsound (s .args .self) (s .args .memory .now) (s .args .serial) (sym (p .parts-sound .ensures) ∙ not-true _ (c .before .if1 .taken))) (record { outcome = c .refused .ensures; memory-is = refl })
+    let s = start (c .before .before) in
+    rw (write-unsound (s .args .self) (s .args .memory .now) (s .args .serial) (wrong (c .before))) (record { outcome = c .refused .ensures; memory-is = refl })
 
 cast-if2 : tie.Need-cast-if2
 cast-if2 c = search needs

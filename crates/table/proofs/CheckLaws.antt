@@ -19,7 +19,7 @@ use Rattle.table.specs.Refusal.{badGroupCount, badCounts}
 use Rattle.table.specs.Basics.{pick, held, count, within, check, orElse}
 use Rattle.table.specs.Group.{GroupPairs, blankPair, listOf, Inside, pairsOf, beforeStore}
 use Rattle.table.specs.Table.{blankSpan, groupIn, groupsOf, GroupAt, loadRule, storeRule, pairFault, pairsFault, seeing, countsRight, Seen, noneSeen, seenAfter, groupFault, groupsFault, tableFault}
-use Rattle.table.specs.Internal.{ruleOf, Rising, RuleRight}
+use Rattle.table.specs.Internal.{ruleOf, Rising, RuleRight, GroupInside}
 
 -- ---- what an array and a count hold, where the count is within the array
 module _ {A : Type 0} (blank : A) (n : ℕ) (l : List A) (h : n ≤ length l) where
@@ -43,7 +43,15 @@ module _ (ps : Pairs) (whole : length (ps .places) ≡ 32) (inside : Inside ps) 
   pub view-at : (i : ℕ) → i < ps .count → getD (listOf ps) i blankPair ≡ getD (ps .places) (ps .first + i) blankPair
   view-at i h = getD-take (ps .count) (drop (ps .first) (ps .places)) i blankPair h ∙ getD-drop (ps .first) (ps .places) i blankPair
 
--- they are never more than the count
+-- both lists of a group are as long as their counts
+pub record Sized (g : Group) : Type 0 where
+  pub loads : length (listOf (g .loads)) ≡ g .loads .count
+  pub stores : length (listOf (g .stores)) ≡ g .stores .count
+
+pub sized : {g : Group} → length (g .loads .places) ≡ 32 → length (g .stores .places) ≡ 32 → GroupInside g → Sized g
+sized {g} l s h = record { loads = view-length (g .loads) l (h .0); stores = view-length (g .stores) s (h .1) }
+
+-- a list is never longer than its count
 pub view-most : (ps : Pairs) → length (listOf ps) ≤ ps .count
 view-most ps = rw length-take (omega arith)
 
@@ -191,19 +199,19 @@ counts-few a b e =
     let f = and-left (leb a 16 && leb b 16) _ e in
     (leb-true a 16 (and-left (leb a 16) _ f), leb-true b 16 (and-right (leb a 16) _ f))
 
-module _ (g : Group) (seen : Seen) (loads-size : length (listOf (g .loads)) ≡ g .loads .count) (stores-size : length (listOf (g .stores)) ≡ g .stores .count) where
+module _ (g : Group) (seen : Seen) (z : Sized g) where
   pub group-counts : countsRight (g .loads .count) (g .stores .count) ≡ false → badCounts ≡ groupFault seen (pairsOf g)
   unfolding groupFault
-  group-counts e = rw (loads-size, stores-size, e)
+  group-counts e = rw (z .loads, z .stores, e)
 
   module _ (right : countsRight (g .loads .count) (g .stores .count) ≡ true) where
     pub group-loads : {n : ℕ} → n ≡ pairsFault (loadRule (g .stores .count)) 0 0 (seen .loads) (listOf (g .loads)) → (n ≡ 0 → ⊥) → n ≡ groupFault seen (pairsOf g)
     unfolding groupFault
-    group-loads {n} e z = rw (loads-size, stores-size, right, ← e) (sym (or-else-some n _ z))
+    group-loads {n} e some = rw (z .loads, z .stores, right, ← e) (sym (or-else-some n _ some))
 
     pub group-stores : {n : ℕ} → pairsFault (loadRule (g .stores .count)) 0 0 (seen .loads) (listOf (g .loads)) ≡ 0 → n ≡ pairsFault (storeRule (listOf (g .loads))) 0 0 (seen .stores) (listOf (g .stores)) → n ≡ groupFault seen (pairsOf g)
     unfolding groupFault
-    group-stores d e = rw (loads-size, stores-size, right, d) e
+    group-stores d e = rw (z .loads, z .stores, right, d) e
 
 -- ---- checking groups one by one
 pub record Passing (seen : Seen) (gs : List GroupPairs) (i : ℕ) (now : Seen) : Type 0 where

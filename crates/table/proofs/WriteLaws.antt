@@ -1,10 +1,9 @@
 -- Laws of writing tables.
-use Prim.Native.Nat.{ℕ, zero, suc, _+_, _-_, _*_, _≤_, _<_}
+use Prim.Native.Nat.{ℕ, zero, suc, _+_, _≤_, _<_}
 use mathlib.Core.Path.{_≡_, refl, sym, ap, _∙_}
 use mathlib.Core.Bool.{Bool, true, false}
-use mathlib.Core.List.{List, [], _∷_, _++_, map, append-nil, append-assoc}
+use mathlib.Core.List.{List, [], _∷_, _++_, append-nil, append-assoc}
 use native.Mathlib.Omega.{arith}
-use native.Mathlib.Nat.{add-assoc}
 use native.Mathlib.Numerals.{add-one}
 use borrow.Author.Tests.{ne-eqb}
 use lib.ListN.{length, getD, take, drop, length-append, take-append-drop}
@@ -15,6 +14,7 @@ use Rattle.table.specs.Basics.{flat, check, orElse, splice}
 use Rattle.table.specs.Group.{GroupPairs, listOf, pairsOf}
 use Rattle.table.specs.TableBytes.{pairNumbers, groupNumbers, tableNumbers}
 use Rattle.table.specs.Number.{numberBytes, bytesOf}
+use Rattle.table.proofs.CheckLaws.{Sized}
 use Rattle.table.proofs.SpliceLaws.{bytes-append, Put, put-more}
 
 -- ---- the numbers of elements, one after the other
@@ -61,12 +61,12 @@ check-both true n m z e = (refl, e)
 check-both false n m z e = absurd (z e)
 
 -- a group's numbers and bytes, by its record
-module _ (g : Group) (loads-size : length (listOf (g .loads)) ≡ g .loads .count) (stores-size : length (listOf (g .stores)) ≡ g .stores .count) where
+module _ (g : Group) (z : Sized g) where
   pub group-numbers : groupNumbers (pairsOf g) ≡ g .loads .count ∷ g .stores .count ∷ flat pairNumbers (listOf (g .loads)) ++ flat pairNumbers (listOf (g .stores))
-  group-numbers = rw (loads-size, stores-size)
+  group-numbers = rw (z .loads, z .stores)
 
   pub group-bytes : length (bytesOf (groupNumbers (pairsOf g))) ≡ length (numberBytes (g .loads .count)) + length (numberBytes (g .stores .count)) + length (bytesOf (flat pairNumbers (listOf (g .loads)))) + length (bytesOf (flat pairNumbers (listOf (g .stores))))
-  group-bytes = group-length (pairsOf g) ∙ rw (loads-size, stores-size)
+  group-bytes = group-length (pairsOf g) ∙ rw (z .loads, z .stores)
 
   -- the counts, the loads and the stores, put one after the other
   pub put-group : {d : List ℕ} {place : ℕ} {out : List ℕ} {end : ℕ} {out₂ : List ℕ} {end₂ : ℕ} {out₃ : List ℕ} {end₃ : ℕ} → Put d place (g .loads .count ∷ g .stores .count ∷ []) out end → place + length (bytesOf (groupNumbers (pairsOf g))) ≤ length d → out₂ ≡ splice out end (bytesOf (flat pairNumbers (listOf (g .loads)))) → end₂ ≡ end + length (bytesOf (flat pairNumbers (listOf (g .loads)))) → out₃ ≡ splice out₂ end₂ (bytesOf (flat pairNumbers (listOf (g .stores)))) → end₃ ≡ end₂ + length (bytesOf (flat pairNumbers (listOf (g .stores)))) → Put d place (groupNumbers (pairsOf g)) out₃ end₃

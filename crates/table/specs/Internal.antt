@@ -3,7 +3,7 @@ use Prim.Native.Nat.{ℕ, _+_, _≤_, _<_}
 use mathlib.Core.Path.{_≡_}
 use mathlib.Core.Bool.{Bool, true}
 use mathlib.Core.List.{List, [], _∷_, _++_}
-use lib.ListN.{length, getD, set, take, drop}
+use lib.ListN.{length, set, take, drop}
 use Rattle.table.specs.declared.Pair.{Pair}
 use Rattle.table.specs.declared.Pairs.{Pairs}
 use Rattle.table.specs.declared.Group.{Group}
@@ -17,7 +17,7 @@ use Rattle.table.specs.Number.{Got, got, bad, andThen, readNumber, place
 use Rattle.table.specs.TableBytes.{filled, pack}
 use Rattle.table.specs.Basics.{pick}
 use Rattle.table.specs.Group.{GroupPairs, part, listOf, Inside}
-use Rattle.table.specs.Table.{groupsOf, loadRule, storeRule, pairsFault, seeing, Seen, seenAfter, groupFault}
+use Rattle.table.specs.Table.{loadRule, storeRule, pairsFault, seeing, Seen, seenAfter, groupFault}
 use Rattle.table.specs.declared.trace.Numbers.{Numbers}
 
 -- the numbers that are written together

@@ -1,6 +1,5 @@
 // When a table is right: 4, 5, 8, 6, 7 in the order of checking.
 ghost use mathlib.Core.Path.{_≡_};
-ghost use Prim.Native.Nat.{_+_, _≤_};
 ghost use lib.Dec.{ltb};
 ghost use Rattle.table.specs.Basics.{count};
 ghost use Rattle.table.specs.Group.{listOf, pairsOf, beforeStore, Inside};

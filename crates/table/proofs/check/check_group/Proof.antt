@@ -3,13 +3,11 @@ use Prim.Native.Nat.{_≤_}
 use mathlib.Core.Path.{_≡_, sym, _∙_}
 use mathlib.Core.Bool.{true, false≢true}
 use native.Mathlib.Omega.{arith}
-use lib.ListN.{length}
 use borrow.Author.Tests.{not-true, not-false}
 use Rattle.table.specs.declared.Group.{Group}
-use Rattle.table.specs.Group.{listOf}
 use Rattle.table.specs.Table.{countsRight, Seen}
 use Rattle.table.specs.Internal.{seenIn, GroupInside}
-use Rattle.table.proofs.CheckLaws.{long, view-length, counts-few, rising-checked, group-counts, group-loads, group-stores}
+use Rattle.table.proofs.CheckLaws.{long, Sized, sized, counts-few, rising-checked, group-counts, group-loads, group-stores}
 use borrow.Author.Needs.{needs}
 use Rattle.table.proofs.check.check_group.Statement.{statement}
 use Rattle.table.proofs.check.check_group.Tie as tie
@@ -26,11 +24,8 @@ seenBefore c =
 pre : (c : tie.After-counts-right) → GroupInside (groupIn c)
 pre c = c .before .before .before .before .pre
 
-loads-size : (c : tie.After-counts-right) → length (listOf (groupIn c .loads)) ≡ groupIn c .loads .count
-loads-size c = view-length (groupIn c .loads) (search (needs, long)) (pre c .0)
-
-stores-size : (c : tie.After-counts-right) → length (listOf (groupIn c .stores)) ≡ groupIn c .stores .count
-stores-size c = view-length (groupIn c .stores) (search (needs, long)) (pre c .1)
+sizes : (c : tie.After-counts-right) → Sized (groupIn c)
+sizes c = sized (search (needs, long)) (search (needs, long)) (pre c)
 
 right : (c : tie.Else1) → countsRight (groupIn (c .before) .loads .count) (groupIn (c .before) .stores .count) ≡ true
 right c = sym (c .before .counts-right .ensures) ∙ not-false _ (c .if1 .left)
@@ -50,7 +45,7 @@ counts-right-requires c κs = search needs
 returns : tie.Need-returns
 returns c =
     record {
-      answer = group-counts (groupIn (c .before)) (seenBefore (c .before)) (loads-size (c .before)) (stores-size (c .before)) (sym (c .before .counts-right .ensures) ∙ not-true _ (c .if1 .taken));
+      answer = group-counts (groupIn (c .before)) (seenBefore (c .before)) (sizes (c .before)) (sym (c .before .counts-right .ensures) ∙ not-true _ (c .if1 .taken));
       marks = λ z. absurd (omega arith);
     }
 
@@ -64,7 +59,7 @@ returns-2 : tie.Need-returns-2
 returns-2 c =
     let e = c .before .before .before in
     record {
-      answer = group-loads (groupIn (e .before)) (seenBefore (e .before)) (loads-size (e .before)) (stores-size (e .before)) (right e) (c .before .check-pairs .ensures .answer) (c .if2 .taken);
+      answer = group-loads (groupIn (e .before)) (seenBefore (e .before)) (sizes (e .before)) (right e) (c .before .check-pairs .ensures .answer) (c .if2 .taken);
       marks = λ z. absurd (c .if2 .taken z);
     }
 
@@ -81,7 +76,7 @@ returns-3 c =
     let e = p .before .before in
     let d = c .before .before .if2 .left in
     record {
-      answer = group-stores (groupIn (e .before)) (seenBefore (e .before)) (loads-size (e .before)) (stores-size (e .before)) (right e) (sym (p .check-pairs .ensures .answer) ∙ d) (c .check-pairs2 .ensures .answer);
+      answer = group-stores (groupIn (e .before)) (seenBefore (e .before)) (sizes (e .before)) (right e) (sym (p .check-pairs .ensures .answer) ∙ d) (c .check-pairs2 .ensures .answer);
       marks = λ z. rw (p .check-pairs .ensures .marks d, c .check-pairs2 .ensures .marks z);
     }
 

@@ -1,4 +1,3 @@
-use mathlib.Core.Path.{_≡_}
 use borrow.Author.Needs.{needs}
 use Rattle.table.proofs.parts.group_at.Statement.{statement}
 use Rattle.table.proofs.parts.group_at.Tie as tie

@@ -1,9 +1,8 @@
-use Prim.Native.Nat.{ℕ, _≤_, _<_, _+_, _*_, _-_}
-use mathlib.Core.Path.{_≡_, refl, sym, ap, _∙_}
+use Prim.Native.Nat.{_≤_, _*_, _-_}
+use mathlib.Core.Path.{_≡_}
 use native.Mathlib.Omega.{arith}
-use lib.ListN.{length, getD}
+use lib.ListN.{length}
 use borrow.Author.Needs.{needs}
-use Rattle.table.specs.Number.{numberBytes, bytesOf}
 use Rattle.table.specs.Group.{pairsOf}
 use Rattle.table.specs.Table.{groupsOf}
 use Rattle.table.specs.TableBytes.{groupNumbers}

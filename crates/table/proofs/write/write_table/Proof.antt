@@ -2,9 +2,8 @@
 use Prim.Native.Nat.{_≤_}
 use mathlib.Core.Path.{_≡_, refl, sym, ap, _∙_}
 use native.Mathlib.Omega.{arith}
-use lib.ListN.{length}
 use borrow.Author.Tests.{eq-eqb, ne-eqb}
-use Rattle.table.specs.declared.Written.the-variants.{Bytes, Unwritten}
+use Rattle.table.specs.declared.Written.the-variants.{Bytes}
 use Rattle.table.specs.Table.{groupsOf, tableFault}
 use Rattle.table.specs.TableBytes.{tableBytes, wroteTable}
 use Rattle.table.proofs.CheckLaws.{groups-size}

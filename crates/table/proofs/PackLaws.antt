@@ -7,15 +7,15 @@ use native.Mathlib.Omega.{arith}
 use native.Mathlib.Nat.{add-assoc, add-zero, zero-add, sub-zero}
 use native.Mathlib.Numerals.{unary-clauses}
 use lib.Dec.{leb}
-use lib.ListN.{length, getD, take, drop, set, replicate, length-set, length-append, length-replicate, replicate-append-replicate}
-use lib.Seq.{take-at, drop-at, set-at, append-snoc, take-append-seam, drop-append-seam, drop-append-add, drop-drop}
+use lib.ListN.{length, getD, drop, set, replicate, length-set, length-append}
+use lib.Seq.{take-at, set-at, append-snoc, take-append-seam, drop-append-seam, drop-append-add, drop-drop}
 use Rattle.table.specs.declared.Pair.{Pair}
 use Rattle.table.specs.declared.Group.{Group}
 use Rattle.table.specs.declared.Span.{Span}
 use Rattle.table.specs.declared.Table.{Table}
 use Rattle.table.specs.Basics.{pick, count, flat, check}
 use Rattle.table.specs.Refusal.{badCounts}
-use Rattle.table.specs.Group.{GroupPairs, blankPair, part, listOf}
+use Rattle.table.specs.Group.{GroupPairs, part, listOf}
 use Rattle.table.specs.Table.{blankSpan, groupIn, groupsOf, loadRule, storeRule, pairFault, pairsFault, seeing, countsRight, Seen, noneSeen, seenAfter, groupFault, groupsFault, tableFault}
 use Rattle.table.specs.TableBytes.{filled, spans, loadsIn, storesIn, pack}
 use Rattle.table.specs.Internal.{packPairs, packGroup, putIn, Grown}
@@ -173,7 +173,7 @@ spans-more done g h =
 abbrev tableMade : ℕ → List Span → List Pair → List Pair → Table
 tableMade n groups loads stores = record { count = n; groups = groups; loads = loads; stores = stores }
 
--- where the accesses of the groups before are so many
+-- the record of these groups, whose loads and stores are so many
 pub record Packed (t : Table) (loads stores : ℕ) (done : List GroupPairs) : Type 0 where
   pub table : t ≡ pack done
   pub loads-are : loads ≡ length (loadsIn done)

@@ -1,15 +1,15 @@
 -- Laws of reading tables.
 use Prim.Native.Nat.{ℕ, zero, suc, _+_, _-_, _≤_, _<_}
 use mathlib.Core.Path.{_≡_, refl, sym, ap, ap₂, _∙_}
-use mathlib.Core.Bool.{Bool, true, false, not, _&&_}
+use mathlib.Core.Bool.{Bool, true, false}
 use mathlib.Core.List.{List, [], _∷_, _++_, append-nil, append-assoc}
 use native.Mathlib.Omega.{arith}
 use native.Mathlib.Numerals.{add-one}
 use native.Mathlib.Nat.{sub-zero}
-use lib.Dec.{eqb, leb, ltb}
-use lib.ListN.{length, getD, take, drop, set, replicate, length-set, length-append, length-replicate, take-append-drop}
+use lib.Dec.{leb, ltb}
+use lib.ListN.{length, take, drop, set, replicate, length-set, length-append, take-append-drop}
 use lib.Seq.{length-take-le, take-suc-set, drop-set-lt, drop-drop}
-use borrow.Author.Tests.{eqb-true, eqb-false, ne-eqb}
+use borrow.Author.Tests.{ne-eqb}
 use Rattle.table.specs.declared.Pair.{Pair}
 use Rattle.table.specs.declared.Pairs.{Pairs}
 use Rattle.table.specs.declared.read.TwoRead.{TwoRead}
@@ -23,7 +23,7 @@ use Rattle.table.specs.Number.{Got, got, bad, andThen, require, above, n
 use Rattle.table.specs.Group.{GroupPairs, blankPair, listOf}
 use Rattle.table.specs.Table.{loadRule, storeRule, pairFault, pairsFault, seeing, countsRight, Seen, noneSeen, seenAfter, groupFault}
 use Rattle.table.specs.TableBytes.{unless, pair, before, readPairs, readGroup, readGroups, pack}
-use Rattle.table.specs.Internal.{Two, two, readTwo, twoAnswer, IsRefusal, packPairs, PairsFound, PairsResult, found, none, seenOf, GroupFound, GroupResult, group-found, group-none, Growing, Grown, GroupsFound, GroupsResult, groups-found, groups-none}
+use Rattle.table.specs.Internal.{Two, two, readTwo, twoAnswer, packPairs, PairsFound, PairsResult, found, none, seenOf, GroupFound, GroupResult, group-found, group-none, Growing, Grown, GroupsFound, GroupsResult, groups-found, groups-none}
 use Rattle.table.proofs.NumberLaws.{place-drop, NumberGot, number-got}
 use Rattle.table.proofs.PackLaws.{Marks, marks-none, marks-room, marks-more, list-packed, Packed, packed-none, packed-more}
 
@@ -187,8 +187,8 @@ module _ {rule : ℕ → ℕ → ℕ → Bool} {n : ℕ} {seen : List Bool} {s :
       let z : n - i ≡ 0 = omega arith in
       (w .is ∙ rw (z, append-nil), sym (take-append-drop i places) ∙ rw (w .blank), length-take-le i places (omega (arith, w .long)))
 
-abbrev pub made : ℕ → List Pair → Pairs
-made n places = record { first = 0; count = n; places = places }
+abbrev pub made : ℕ → ℕ → List Pair → Pairs
+made first n places = record { first = first; count = n; places = places }
 
 -- what a caller is told, where the bytes give a refusal and where they give pairs
 pub pairs-refused : {s : List ℕ} {seen : List Bool} {g : Got (List Pair)} {r : PairsRead} {k : ℕ} → g ≡ bad k → r .answer ≡ k → (k ≡ 0 → ⊥) → PairsResult s seen g r
@@ -198,8 +198,8 @@ pub pairs-found : {s : List ℕ} {seen : List Bool} {g : Got (List Pair)} {r : P
 pairs-found e f = rw e (found f)
 
 -- the record that reading has filled is the one that its pairs make
-pub packed : (n i : ℕ) (places : List Pair) → n ≡ i → places ≡ take i places ++ replicate (32 - i) blankPair → length (take i places) ≡ i → made n places ≡ packPairs (take i places)
-packed n i places e f g = ap₂ made (e ∙ sym g) (f ∙ rw g)
+pub packed : (first n i : ℕ) (places : List Pair) → first ≡ 0 → n ≡ i → places ≡ take i places ++ replicate (32 - i) blankPair → length (take i places) ≡ i → made first n places ≡ packPairs (take i places)
+packed first n i places z e f g = ap (λ (k : ℕ). made k n places) z ∙ ap₂ (made 0) (e ∙ sym g) (f ∙ rw g)
 
 -- ---- what the caller of `read_pairs` learns
 pub pairs-bad : {s : List ℕ} {seen : List Bool} {g : Got (List Pair)} {r : PairsRead} → PairsResult s seen g r → (r .answer ≡ 0 → ⊥) → g ≡ bad (r .answer)

@@ -1,12 +1,12 @@
 -- Tables and traces are read back; the statements are specs/RoundTrip.antt.
-use Prim.Native.Nat.{ℕ, zero, suc, _+_, _-_, _≤_, _<_, _^_}
-use mathlib.Core.Path.{_≡_, refl, sym, ap, ap₂, _∙_}
+use Prim.Native.Nat.{ℕ, zero, suc, _+_, _≤_, _<_, _^_}
+use mathlib.Core.Path.{_≡_, refl, sym, ap, _∙_}
 use mathlib.Core.Bool.{Bool, true, false, true≢false, false≢true}
-use mathlib.Core.List.{List, [], _∷_, _++_, map, append-nil, append-assoc}
+use mathlib.Core.List.{List, [], _∷_, _++_, append-nil, append-assoc}
 use native.Mathlib.Omega.{arith}
 use lib.Dec.{leb, eqb}
-use lib.ListN.{length, getD, set, drop, replicate, length-append, length-map}
-use lib.Seq.{drop-append-seam, take-at}
+use lib.ListN.{length, getD, set, drop, length-append}
+use lib.Seq.{drop-append-seam}
 use borrow.Author.Tests.{eq-eqb, le-leb, ne-eqb, leb-true, eqb-true}
 use Rattle.table.specs.declared.Pair.{Pair}
 use Rattle.table.specs.declared.Event.{Event}
@@ -17,7 +17,7 @@ use Rattle.table.specs.declared.HeaderRead.the-variants.{Leading}
 use Rattle.table.specs.Basics.{pick, count, flat, within, check, orElse}
 use Rattle.table.specs.Refusal.{badFields, badGroupCount, badCounts, leftOver, badKind}
 use Rattle.table.specs.Number.{Got, got, bad, andThen, require, readNumber, placeOf, numberBytes, bytesOf, spells, valueOf}
-use Rattle.table.specs.Group.{GroupPairs, pairsOf, beforeStore}
+use Rattle.table.specs.Group.{GroupPairs, beforeStore}
 use Rattle.table.specs.Table.{loadRule, storeRule, pairFault, pairsFault, countsRight, Seen, noneSeen, seenAfter, groupFault, groupsFault, tableFault}
 use Rattle.table.specs.TableBytes.{unless, pair, before, readPairs, readGroup, readGroups, readTable, pairNumbers, groupNumbers, tableNumbers, tableBytes}
 use Rattle.table.specs.Event.{eventNumbers, hasSecond, eventOf, readKind, readEvent, eventAnswer, eventAt, eventBytes, eventsBytes, headerNumbers, headerBytes, headerAnswer, readHeader}

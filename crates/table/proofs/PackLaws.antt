@@ -13,14 +13,15 @@ use Rattle.table.specs.declared.Pair.{Pair}
 use Rattle.table.specs.declared.Group.{Group}
 use Rattle.table.specs.declared.Span.{Span}
 use Rattle.table.specs.declared.Table.{Table}
-use Rattle.table.specs.Basics.{pick, count, flat, check}
-use Rattle.table.specs.Refusal.{badCounts}
+use Rattle.table.specs.Basics.{pick, count, flat, within, check}
+use Rattle.table.specs.Refusal.{badGroupCount, badCounts}
 use Rattle.table.specs.Group.{GroupPairs, part, listOf}
 use Rattle.table.specs.Table.{blankSpan, groupIn, groupsOf, loadRule, storeRule, pairFault, pairsFault, seeing, countsRight, Seen, noneSeen, seenAfter, groupFault, groupsFault, tableFault}
 use Rattle.table.specs.TableBytes.{filled, spans, loadsIn, storesIn, pack}
+use Rattle.table.specs.RoundTrip.{AccessesFit}
 use Rattle.table.specs.Internal.{packPairs, packGroup, putIn, Grown}
 use Rattle.table.proofs.CheckLaws.{held-few, count-most, fault-none}
-use Rattle.table.proofs.WriteLaws.{or-else-both, check-both, table-right}
+use Rattle.table.proofs.WriteLaws.{or-else-both, check-both}
 
 -- the parts of a right group
 pub group-fault : (seen : Seen) (g : GroupPairs) → groupFault seen g ≡ 0 → (countsRight (length (g .loads)) (length (g .stores)) ≡ true) × (pairsFault (loadRule (length (g .stores))) 0 0 (seen .loads) (g .loads) ≡ 0) × (pairsFault (storeRule (g .loads)) 0 0 (seen .stores) (g .stores) ≡ 0)
@@ -105,8 +106,12 @@ marks-groups seen (g ∷ gs) w e =
     rw (length-append, length-append) (omega (arith, r .0), omega (arith, r .1))
 
 -- a right table has at most 32 loads and 32 stores
-pub accesses-few : (gs : List GroupPairs) → tableFault gs ≡ 0 → (length (loadsIn gs) ≤ 32) × (length (storesIn gs) ≤ 32)
-accesses-few gs e = let r = marks-groups noneSeen gs marks-none (table-right gs e .1) in (omega (arith, r .0), omega (arith, r .1))
+pub accesses-fit : AccessesFit
+unfolding tableFault
+accesses-fit gs e =
+    let f = check-both (within 1 16 (length gs)) badGroupCount (groupsFault noneSeen gs) (λ z. omega arith) e in
+    let r = marks-groups noneSeen gs marks-none (f .1) in
+    (omega (arith, r .0), omega (arith, r .1))
 
 -- ---- the record holds the groups
 

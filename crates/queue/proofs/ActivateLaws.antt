@@ -11,7 +11,7 @@ use Rattle.table.specs.declared.Pairs.{Pairs}
 use Rattle.table.specs.declared.Group.{Group}
 use Rattle.table.specs.Group.{GroupPairs, blankPair, listOf, pairsOf, Inside, Access, load, store, order}
 use Rattle.table.specs.Table.{groupsOf, GroupAt}
-use Rattle.table.proofs.CheckLaws.{groups-size}
+use Rattle.table.proofs.CheckLaws.{Sized, groups-size}
 use Rattle.table.specs.ProgramOrder.{loadPairs, storePairs}
 use Rattle.table.proofs.OrderOffsets.{GroupRight}
 use Rattle.queue.specs.declared.Loads.{Loads}
@@ -26,7 +26,7 @@ use Rattle.queue.specs.InternalActivate.{loadAfter, storeAfter, PairsFit
 use Rattle.queue.proofs.Lists.{and-left, and-right}
 use Rattle.queue.proofs.ContentsLaws.{nth-past, side-length}
 use Rattle.queue.proofs.SoundLaws.{load-depth-most, store-depth-most, table-right}
-use Rattle.queue.proofs.GroupLaws.{Sized, groups-few, group-nth}
+use Rattle.queue.proofs.GroupLaws.{groups-few, group-nth}
 
 -- ---- the new entries by their offsets
 new-loads-offsets : (n k : ℕ) (xs : List Access) → newLoads (n + k) xs ≡ map (loadAfter n) (loadPairs k xs)
@@ -74,14 +74,14 @@ module _ (ps : Pairs) (size : length (listOf ps) ≡ ps .count) (inside : Inside
         offsets = λ i k. offset i (rw size k);
       }
 
-pub group-fits : (q : Queue) {g : Group} → Sized g → Inside (g .loads) → Inside (g .stores) → sound (contentsOf q) ≡ true → GroupRight (pairsOf g) → room (contentsOf q) (pairsOf g) ≡ true
+pub group-fits : (q : Queue) {g : Group} → Sized g → Inside (g .loads) × Inside (g .stores) → sound (contentsOf q) ≡ true → GroupRight (pairsOf g) → room (contentsOf q) (pairsOf g) ≡ true
     → PairsFit (q .loads .count) (g .loads) × PairsFit (q .stores .count) (g .stores)
-group-fits q {g} z inL inS s right r =
+group-fits q {g} z (hl, hs) s right r =
     let loads = leb (q .loads .count + g .loads .count) (q .loads .depth) in
     let stores = leb (q .stores .count + g .stores .count) (q .stores .depth) in
     let both : loads && stores ≡ true = sym (room-record q z) ∙ r in (
-      pairs-fit (g .loads) (z .loads) inL (right .few-loads) (right .load-offset) (q .loads .count) (q .loads .depth) (and-left loads stores both) (load-depth-most q s),
-      pairs-fit (g .stores) (z .stores) inS (right .few-stores) (right .store-offset) (q .stores .count) (q .stores .depth) (and-right loads stores both) (store-depth-most q s),
+      pairs-fit (g .loads) (z .loads) hl (right .few-loads) (right .load-offset) (q .loads .count) (q .loads .depth) (and-left loads stores both) (load-depth-most q s),
+      pairs-fit (g .stores) (z .stores) hs (right .few-stores) (right .store-offset) (q .stores .count) (q .stores .depth) (and-right loads stores both) (store-depth-most q s),
     )
 
 -- ---- the call

@@ -20,10 +20,10 @@ module _ {A B : Type 0} {f : A → B} {d : List B} {n : ℕ} {s : List A} where
   pasted-none = record { is = paste-zero d n (map f s) }
 
   module _ {j : ℕ} {l : List B} (w : Pasted f d n s j l) where
-    pub pasted-more : (z : A) → n + j < length d → j < length s → Pasted f d n s (j + 1) (set l (n + j) (f (getD s j z)))
-    pasted-more z hd hs =
+    pub pasted-more : (z : A) {x : A} → getD s j z ≡ x → n + j < length d → j < length s → Pasted f d n s (j + 1) (set l (n + j) (f x))
+    pasted-more z {x} e hd hs =
         let q : j < length (map f s) = rw (length-map s f) hs in
-        record { is = rw (w .is, add-one, ← List·getD-map f s j z) (paste-suc d n (map f s) j (f z) hd q) }
+        record { is = rw (w .is, add-one, ← e, ← List·getD-map f s j z) (paste-suc d n (map f s) j (f z) hd q) }
 
     pub pasted-front : (k : ℕ) → j ≡ k → n ≤ length d → k ≤ length s → take (n + k) l ≡ take n d ++ map f (take k s)
     pasted-front k e hd hs =

@@ -15,7 +15,7 @@ use Rattle.table.specs.declared.Table.{Table}
 use Rattle.table.specs.Group.{GroupPairs, blankPair, listOf, pairsOf, Inside}
 use Rattle.table.specs.Basics.{nth}
 use Rattle.table.specs.Table.{blankSpan, groupIn, groupsOf, GroupAt, tableFault}
-use Rattle.table.proofs.CheckLaws.{view-length, view-at, view-most, groups-size, group-at}
+use Rattle.table.proofs.CheckLaws.{view-length, view-at, view-most, Sized, groups-size, group-at}
 use Rattle.table.proofs.OrderOffsets.{GroupRight, table-groups-few, table-group-right}
 use Rattle.queue.specs.Open.{groupFits}
 use Rattle.queue.proofs.ContentsLaws.{side-nth, side-here, side-end}
@@ -28,14 +28,6 @@ pairs-here ps whole inside i k =
 
 pub pairs-end : (ps : Pairs) (i : ℕ) → ps .count ≤ i → drop i (listOf ps) ≡ []
 pairs-end ps i k = drop-of-length-le (listOf ps) (le-trans (view-most ps) k)
-
--- the accesses of both kinds are as many as the counts say
-pub record Sized (g : Group) : Type 0 where
-  pub loads : length (listOf (g .loads)) ≡ g .loads .count
-  pub stores : length (listOf (g .stores)) ≡ g .stores .count
-
-pub sized : {g : Group} → length (g .loads .places) ≡ 32 → length (g .stores .places) ≡ 32 → Inside (g .loads) → Inside (g .stores) → Sized g
-sized {g} ls ss l s = record { loads = view-length (g .loads) ls l; stores = view-length (g .stores) ss s }
 
 pub fits-record : (loadDepth storeDepth : ℕ) {g : Group} → Sized g → groupFits loadDepth storeDepth (pairsOf g) ≡ leb (g .loads .count) loadDepth && leb (g .stores .count) storeDepth
 fits-record loadDepth storeDepth z = rw (z .loads, z .stores)

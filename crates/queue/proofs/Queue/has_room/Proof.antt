@@ -1,7 +1,6 @@
 use mathlib.Core.Path.{_≡_, sym, _∙_}
 use lib.ListN.{length}
-use Rattle.table.proofs.CheckLaws.{long}
-use Rattle.queue.proofs.GroupLaws.{Sized, sized}
+use Rattle.table.proofs.CheckLaws.{long, Sized, sized}
 use borrow.Author.Tests.{not-true, not-false}
 use Rattle.queue.proofs.ActivateLaws.{room-record}
 use borrow.Author.Needs.{needs}
@@ -12,7 +11,7 @@ size : (c : tie.Start) → Sized (c .args .group)
 size c =
     let l : length (c .args .group .loads .places) ≡ 32 = search (needs, long) in
     let s : length (c .args .group .stores .places) ≡ 32 = search (needs, long) in
-    sized l s (c .pre .0) (c .pre .1)
+    sized l s (c .pre)
 
 side-has-room-requires : tie.Need-side-has-room-requires
 side-has-room-requires c κs = search needs

@@ -1,7 +1,6 @@
 use mathlib.Core.Path.{_≡_}
 use lib.ListN.{length}
-use Rattle.table.proofs.CheckLaws.{long}
-use Rattle.queue.proofs.GroupLaws.{Sized, sized}
+use Rattle.table.proofs.CheckLaws.{long, Sized, sized}
 use Rattle.queue.proofs.ActivateLaws.{appended-both}
 use borrow.Author.Needs.{needs}
 use Rattle.queue.proofs.Queue.with_group.Statement.{statement}
@@ -11,7 +10,7 @@ size : (c : tie.Start) → Sized (c .args .group)
 size c =
     let l : length (c .args .group .loads .places) ≡ 32 = search (needs, long) in
     let s : length (c .args .group .stores .places) ≡ 32 = search (needs, long) in
-    sized l s (c .pre .0 .inside) (c .pre .1 .inside)
+    sized l s (c .pre .0 .inside, c .pre .1 .inside)
 
 append-loads-requires : tie.Need-append-loads-requires
 append-loads-requires c κs = search needs

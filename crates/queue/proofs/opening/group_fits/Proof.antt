@@ -1,8 +1,8 @@
 use mathlib.Core.Path.{_≡_}
 use lib.ListN.{length}
-use Rattle.table.proofs.CheckLaws.{long}
+use Rattle.table.proofs.CheckLaws.{long, Sized, sized}
 use borrow.Author.Tests.{le-leb, lt-leb}
-use Rattle.queue.proofs.GroupLaws.{Sized, sized, fits-record}
+use Rattle.queue.proofs.GroupLaws.{fits-record}
 use borrow.Author.Needs.{needs}
 use Rattle.queue.proofs.opening.group_fits.Statement.{statement}
 use Rattle.queue.proofs.opening.group_fits.Tie as tie
@@ -11,7 +11,7 @@ size : (c : tie.Start) → Sized (c .args .group)
 size c =
     let l : length (c .args .group .loads .places) ≡ 32 = search (needs, long) in
     let s : length (c .args .group .stores .places) ≡ 32 = search (needs, long) in
-    sized l s (c .pre .0) (c .pre .1)
+    sized l s (c .pre)
 
 cast-if1 : tie.Need-cast-if1
 cast-if1 c = search needs

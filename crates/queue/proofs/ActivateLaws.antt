@@ -9,9 +9,9 @@ use lib.ListN.{length, getD}
 use borrow.Author.Tests.{leb-true}
 use Rattle.table.specs.declared.Pairs.{Pairs}
 use Rattle.table.specs.declared.Group.{Group}
-use Rattle.table.specs.Group.{GroupPairs, blankPair, listOf, pairsOf, Access, load, store, order}
-use Rattle.table.specs.Table.{blankGroup, groupsOf}
-use Rattle.table.proofs.CheckLaws.{groups-size}
+use Rattle.table.specs.Group.{GroupPairs, blankPair, listOf, pairsOf, Inside, Access, load, store, order}
+use Rattle.table.specs.Table.{groupsOf, GroupAt}
+use Rattle.table.proofs.CheckLaws.{Sized, groups-size}
 use Rattle.table.specs.ProgramOrder.{loadPairs, storePairs}
 use Rattle.table.proofs.OrderOffsets.{GroupRight}
 use Rattle.queue.specs.declared.Loads.{Loads}
@@ -26,7 +26,7 @@ use Rattle.queue.specs.InternalActivate.{loadAfter, storeAfter, PairsFit
 use Rattle.queue.proofs.Lists.{and-left, and-right}
 use Rattle.queue.proofs.ContentsLaws.{nth-past, side-length}
 use Rattle.queue.proofs.SoundLaws.{load-depth-most, store-depth-most, table-right}
-use Rattle.queue.proofs.GroupLaws.{pairs-count, group-nth}
+use Rattle.queue.proofs.GroupLaws.{groups-few, group-nth}
 
 -- ---- the new entries by their offsets
 new-loads-offsets : (n k : ℕ) (xs : List Access) → newLoads (n + k) xs ≡ map (loadAfter n) (loadPairs k xs)
@@ -51,36 +51,37 @@ pub with-group-is : (q : Contents) (g : GroupPairs) → GroupRight g → withPai
 with-group-is q g right = rw (new-loads right (length (q .stores)), new-stores right (length (q .loads)))
 
 -- ---- on the record
-module _ (q : Queue) (g : Group) where
+module _ (q : Queue) {g : Group} (z : Sized g) where
   pub room-record : room (contentsOf q) (pairsOf g) ≡ leb (q .loads .count + g .loads .count) (q .loads .depth) && leb (q .stores .count + g .stores .count) (q .stores .depth)
   unfolding contentsOf
-  room-record = rw (side-length loadOf blankLoad (q .loads .count) (q .loads .entries), side-length storeOf blankStore (q .stores .count) (q .stores .entries), pairs-count (g .loads), pairs-count (g .stores))
+  room-record = rw (side-length loadOf blankLoad (q .loads .count) (q .loads .entries), side-length storeOf blankStore (q .stores .count) (q .stores .entries), z .loads, z .stores)
 
   pub appended-both : (ls : Loads) (ss : Stores) → LoadsAppended (q .loads) (g .loads) (q .stores .count) ls → StoresAppended (q .stores) (g .stores) (q .loads .count) ss
       → contentsOf (record { table = q .table; words = q .words; loads = ls; stores = ss }) ≡ withPairs (contentsOf q) (pairsOf g)
   unfolding contentsOf
   appended-both ls ss a b =
-      rw (side-length loadOf blankLoad (q .loads .count) (q .loads .entries), side-length storeOf blankStore (q .stores .count) (q .stores .entries), pairs-count (g .loads), pairs-count (g .stores))
+      rw (side-length loadOf blankLoad (q .loads .count) (q .loads .entries), side-length storeOf blankStore (q .stores .count) (q .stores .entries), z .loads, z .stores)
       (rw (a .depth, a .next, a .holds, b .depth, b .next, b .holds))
 
 -- a right group's pairs fit where there is room
-module _ (ps : Pairs) (few : length (listOf ps) ≤ 16) (offset : (i : ℕ) → i < length (listOf ps) → getD (listOf ps) i blankPair .offset ≤ 16) where
+module _ (ps : Pairs) (size : length (listOf ps) ≡ ps .count) (inside : Inside ps) (few : length (listOf ps) ≤ 16) (offset : (i : ℕ) → i < length (listOf ps) → getD (listOf ps) i blankPair .offset ≤ 16) where
   pairs-fit : (held depth : ℕ) → leb (held + ps .count) depth ≡ true → depth ≤ 64 → PairsFit held ps
   pairs-fit held depth r d =
       record {
-        few = rw (pairs-count ps) at few;
+        inside = inside;
+        few = rw size at few;
         room = le-trans (leb-true (held + ps .count) depth r) d;
-        offsets = λ i k. offset i (rw (pairs-count ps) k);
+        offsets = λ i k. offset i (rw size k);
       }
 
-pub group-fits : (q : Queue) (g : Group) → sound (contentsOf q) ≡ true → GroupRight (pairsOf g) → room (contentsOf q) (pairsOf g) ≡ true
+pub group-fits : (q : Queue) {g : Group} → Sized g → Inside (g .loads) × Inside (g .stores) → sound (contentsOf q) ≡ true → GroupRight (pairsOf g) → room (contentsOf q) (pairsOf g) ≡ true
     → PairsFit (q .loads .count) (g .loads) × PairsFit (q .stores .count) (g .stores)
-group-fits q g s right r =
+group-fits q {g} z (hl, hs) s right r =
     let loads = leb (q .loads .count + g .loads .count) (q .loads .depth) in
     let stores = leb (q .stores .count + g .stores .count) (q .stores .depth) in
-    let both : loads && stores ≡ true = sym (room-record q g) ∙ r in (
-      pairs-fit (g .loads) (right .few-loads) (right .load-offset) (q .loads .count) (q .loads .depth) (and-left loads stores both) (load-depth-most q s),
-      pairs-fit (g .stores) (right .few-stores) (right .store-offset) (q .stores .count) (q .stores .depth) (and-right loads stores both) (store-depth-most q s),
+    let both : loads && stores ≡ true = sym (room-record q z) ∙ r in (
+      pairs-fit (g .loads) (z .loads) hl (right .few-loads) (right .load-offset) (q .loads .count) (q .loads .depth) (and-left loads stores both) (load-depth-most q s),
+      pairs-fit (g .stores) (z .stores) hs (right .few-stores) (right .store-offset) (q .stores .count) (q .stores .depth) (and-right loads stores both) (store-depth-most q s),
     )
 
 -- ---- the call
@@ -95,8 +96,7 @@ module _ (q : Queue) (group : ℕ) (s : sound (contentsOf q) ≡ true) where
       let e : length (groupsOf (q .table)) ≤ group = rw (groups-size (q .table)) h in
       rw (s, nth-past (groupsOf (q .table)) group e)
 
-  module _ (whole : length (q .table .groups) ≡ 16) (k : group < q .table .count) where
-    pub activate-group : activate (contentsOf q) group
-        ≡ need (room (contentsOf q) (pairsOf (getD (q .table .groups) group blankGroup))) noPlace (accept (withGroup (contentsOf q) (pairsOf (getD (q .table .groups) group blankGroup))))
+  module _ (whole : length (q .table .groups) ≡ 16) (k : group < q .table .count) {g : Group} (a : GroupAt (q .table) group g) where
+    pub activate-group : activate (contentsOf q) group ≡ need (room (contentsOf q) (pairsOf g)) noPlace (accept (withGroup (contentsOf q) (pairsOf g)))
     unfolding activate contentsOf
-    activate-group = rw (s, group-nth (q .table) (table-right q s) whole group k)
+    activate-group = rw (s, group-nth (q .table) (groups-few (q .table) (table-right q s)) whole group k a)

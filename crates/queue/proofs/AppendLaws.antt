@@ -20,10 +20,10 @@ module _ {A B : Type 0} {f : A → B} {d : List B} {n : ℕ} {s : List A} where
   pasted-none = record { is = paste-zero d n (map f s) }
 
   module _ {j : ℕ} {l : List B} (w : Pasted f d n s j l) where
-    pub pasted-more : (z : A) → n + j < length d → j < length s → Pasted f d n s (j + 1) (set l (n + j) (f (getD s j z)))
-    pasted-more z hd hs =
+    pub pasted-more : (z : A) {x : A} → getD s j z ≡ x → n + j < length d → j < length s → Pasted f d n s (j + 1) (set l (n + j) (f x))
+    pasted-more z {x} e hd hs =
         let q : j < length (map f s) = rw (length-map s f) hs in
-        record { is = rw (w .is, add-one, ← List·getD-map f s j z) (paste-suc d n (map f s) j (f z) hd q) }
+        record { is = rw (w .is, add-one, ← e, ← List·getD-map f s j z) (paste-suc d n (map f s) j (f z) hd q) }
 
     pub pasted-front : (k : ℕ) → j ≡ k → n ≤ length d → k ≤ length s → take (n + k) l ≡ take n d ++ map f (take k s)
     pasted-front k e hd hs =
@@ -31,13 +31,13 @@ module _ {A B : Type 0} {f : A → B} {d : List B} {n : ℕ} {s : List A} where
         rw (w .is, e, take-paste d n (map f s) k hd q, take-map f k s)
 
 -- what the side then holds: `new` is what an entry made by `f` holds
-pub side-appended : {A B C : Type 0} (h : B → C) (blank : B) (blankA : A) (f : A → B) (new : A → C) {d : List B} {n : ℕ} {s : List A} {j : ℕ} {l : List B}
+pub side-appended : {A B C : Type 0} (h : B → C) (blank : B) (f : A → B) (new : A → C) {d : List B} {n : ℕ} {s : List A} {j : ℕ} {l : List B}
     → ((x : A) → h (f x) ≡ new x) → Pasted f d n s j l → (k : ℕ) → j ≡ k → n + k ≤ length d → k ≤ length s
-    → sideOf h blank (n + k) l ≡ sideOf h blank n d ++ map new (held blankA k s)
-side-appended {A} {B} {C} h blank blankA f new {d} {n} {s} {j} {l} e w k q hd hs =
+    → sideOf h blank (n + k) l ≡ sideOf h blank n d ++ map new (take k s)
+side-appended {A} {B} {C} h blank f new {d} {n} {s} {j} {l} e w k q hd hs =
     let long : length l ≡ length d = rw (w .is, q) (length-paste d n (map f s) k hd (rw (length-map s f) hs)) in
     let hl : n + k ≤ length l = rw long hd in
-    rw (held-few blank (n + k) l hl, held-few blank n d (le-trans (le-add-right n k) hd), held-few blankA k s hs, pasted-front w k q (le-trans (le-add-right n k) hd) hs)
+    rw (held-few blank (n + k) l hl, held-few blank n d (le-trans (le-add-right n k) hd), pasted-front w k q (le-trans (le-add-right n k) hd) hs)
     (map-append h (take n d) (map f (take k s)) ∙ ap (λ (t : List C). map h (take n d) ++ t) (same (take k s)))
   where
     same : (xs : List A) → map h (map f xs) ≡ map new xs

@@ -6,19 +6,20 @@ use mathlib.Core.List.{List, [], _∷_, map, append-nil}
 use native.Mathlib.Omega.{arith}
 use native.Mathlib.Nat.{le-trans}
 use lib.Dec.{leb, ltb, eqb}
-use lib.ListN.{length, getD, take, drop, set, length-set, length-map, List·getD-map, length-append, length-take, length-replicate, drop-of-length-le}
-use lib.Seq.{getD-take, drop-cons}
+use lib.ListN.{length, getD, take, drop, set, length-set, length-map, List·getD-map, length-append, length-take, length-drop, length-replicate, drop-of-length-le}
+use lib.Seq.{getD-take, getD-drop, drop-cons}
 use native.Mathlib.Numerals.{add-one}
 use borrow.Author.Tests.{le-leb, lt-leb, leb-true, leb-false, lt-ltb, le-ltb, ltb-true, ltb-false, eq-eqb, ne-eqb, eqb-true}
 use Rattle.table.specs.declared.Pair.{Pair}
 use Rattle.table.specs.declared.Pairs.{Pairs}
 use Rattle.table.specs.declared.Group.{Group}
+use Rattle.table.specs.declared.Span.{Span}
 use Rattle.table.specs.declared.Table.{Table}
 use Rattle.table.specs.Refusal.{badGroupCount, badCounts}
 use Rattle.table.specs.Basics.{pick, held, count, within, check, orElse}
-use Rattle.table.specs.Group.{GroupPairs, blankPair, listOf, pairsOf, beforeStore}
-use Rattle.table.specs.Table.{blankGroup, groupsOf, loadRule, storeRule, pairFault, pairsFault, seeing, countsRight, Seen, noneSeen, seenAfter, groupFault, groupsFault, tableFault}
-use Rattle.table.specs.Internal.{ruleOf, Rising, RuleRight}
+use Rattle.table.specs.Group.{GroupPairs, blankPair, listOf, Inside, pairsOf, beforeStore}
+use Rattle.table.specs.Table.{blankSpan, groupIn, groupsOf, GroupAt, loadRule, storeRule, pairFault, pairsFault, seeing, countsRight, Seen, noneSeen, seenAfter, groupFault, groupsFault, tableFault}
+use Rattle.table.specs.Internal.{ruleOf, Rising, RuleRight, GroupInside}
 
 -- ---- what an array and a count hold, where the count is within the array
 module _ {A : Type 0} (blank : A) (n : ℕ) (l : List A) (h : n ≤ length l) where
@@ -33,6 +34,26 @@ module _ {A : Type 0} (blank : A) (n : ℕ) (l : List A) (h : n ≤ length l) wh
 -- the list is as long as the count, whatever the array
 pub held-length : {A : Type 0} (blank : A) (n : ℕ) (l : List A) → length (held blank n l) ≡ n
 held-length blank n l = rw (length-append, length-take, length-replicate) (omega arith)
+
+-- ---- accesses that end where the places end, or before
+module _ (ps : Pairs) (whole : length (ps .places) ≡ 32) (inside : Inside ps) where
+  pub view-length : length (listOf ps) ≡ ps .count
+  view-length = rw (length-take, length-drop, whole) (omega arith)
+
+  pub view-at : (i : ℕ) → i < ps .count → getD (listOf ps) i blankPair ≡ getD (ps .places) (ps .first + i) blankPair
+  view-at i h = getD-take (ps .count) (drop (ps .first) (ps .places)) i blankPair h ∙ getD-drop (ps .first) (ps .places) i blankPair
+
+-- both lists of a group are as long as their counts
+pub record Sized (g : Group) : Type 0 where
+  pub loads : length (listOf (g .loads)) ≡ g .loads .count
+  pub stores : length (listOf (g .stores)) ≡ g .stores .count
+
+pub sized : {g : Group} → length (g .loads .places) ≡ 32 → length (g .stores .places) ≡ 32 → GroupInside g → Sized g
+sized {g} l s h = record { loads = view-length (g .loads) l (h .0); stores = view-length (g .stores) s (h .1) }
+
+-- a list is never longer than its count
+pub view-most : (ps : Pairs) → length (listOf ps) ≤ ps .count
+view-most ps = rw length-take (omega arith)
 
 -- ---- how many of rising offsets are at most j
 abbrev offsetAt : List Pair → ℕ → ℕ
@@ -87,22 +108,21 @@ agrees-some o n h z = go (ltb (o - 1) n) refl
     go true e = let k = ltb-false o n h in let m = ltb-true (o - 1) n e in rw (e, eq-eqb o n (omega arith))
     go false e = let m = ltb-false (o - 1) n e in rw (e, ne-eqb o n (λ q. omega arith))
 
--- the list of an array of pairs, where the count is within it
+-- an array of records is as long as what is known of its elements
 pub long : {A B : Type 0} (f : A → B) (l : List A) (n : ℕ) → length (map f l) ≡ n → length l ≡ n
 long f [] n p = p
 long f (x ∷ xs) n p = ap suc (long f xs (length (map f xs)) refl) ∙ p
 
-module _ (loads : Pairs) (n i : ℕ) (r : Rising 0 (listOf loads)) (whole : loads .count ≤ length (loads .places)) where
+module _ (loads : Pairs) (n i : ℕ) (r : Rising 0 (listOf loads)) (whole : length (loads .places) ≡ 32) (inside : Inside loads) where
   size : length (listOf loads) ≡ loads .count
-  size = held-length blankPair (loads .count) (loads .places)
+  size = view-length loads whole inside
 
   pub none-more : loads .count ≤ n → false ≡ ltb n (count (beforeStore i) (listOf loads))
   none-more h = sym (le-ltb n _ (omega (arith, size, count-most (beforeStore i) (listOf loads))))
 
-  pub more-at : n < loads .count → leb (getD (loads .places) n blankPair .offset) i ≡ ltb n (count (beforeStore i) (listOf loads))
+  pub more-at : n < loads .count → leb (getD (loads .places) (loads .first + n) blankPair .offset) i ≡ ltb n (count (beforeStore i) (listOf loads))
   more-at h =
-      let e : getD (listOf loads) n blankPair ≡ getD (loads .places) n blankPair = held-at blankPair (loads .count) (loads .places) whole n blankPair h in
-      rw (← e) (go (leb (offsetAt (listOf loads) n) i) refl)
+      rw (← view-at loads whole inside n h) (go (leb (offsetAt (listOf loads) n) i) refl)
     where
       go : (t : Bool) → leb (offsetAt (listOf loads) n) i ≡ t → leb (offsetAt (listOf loads) n) i ≡ ltb n (count (beforeStore i) (listOf loads))
       go true e = rw (e, lt-ltb n _ (count-above 0 (listOf loads) n i r (omega (arith, size)) (leb-true _ _ e)))
@@ -179,25 +199,19 @@ counts-few a b e =
     let f = and-left (leb a 16 && leb b 16) _ e in
     (leb-true a 16 (and-left (leb a 16) _ f), leb-true b 16 (and-right (leb a 16) _ f))
 
-module _ (g : Group) (seen : Seen) where
-  loads-size : length (listOf (g .loads)) ≡ g .loads .count
-  loads-size = held-length blankPair (g .loads .count) (g .loads .places)
-
-  stores-size : length (listOf (g .stores)) ≡ g .stores .count
-  stores-size = held-length blankPair (g .stores .count) (g .stores .places)
-
+module _ (g : Group) (seen : Seen) (z : Sized g) where
   pub group-counts : countsRight (g .loads .count) (g .stores .count) ≡ false → badCounts ≡ groupFault seen (pairsOf g)
   unfolding groupFault
-  group-counts e = rw (loads-size, stores-size, e)
+  group-counts e = rw (z .loads, z .stores, e)
 
   module _ (right : countsRight (g .loads .count) (g .stores .count) ≡ true) where
     pub group-loads : {n : ℕ} → n ≡ pairsFault (loadRule (g .stores .count)) 0 0 (seen .loads) (listOf (g .loads)) → (n ≡ 0 → ⊥) → n ≡ groupFault seen (pairsOf g)
     unfolding groupFault
-    group-loads {n} e z = rw (loads-size, stores-size, right, ← e) (sym (or-else-some n _ z))
+    group-loads {n} e some = rw (z .loads, z .stores, right, ← e) (sym (or-else-some n _ some))
 
     pub group-stores : {n : ℕ} → pairsFault (loadRule (g .stores .count)) 0 0 (seen .loads) (listOf (g .loads)) ≡ 0 → n ≡ pairsFault (storeRule (listOf (g .loads))) 0 0 (seen .stores) (listOf (g .stores)) → n ≡ groupFault seen (pairsOf g)
     unfolding groupFault
-    group-stores d e = rw (loads-size, stores-size, right, d) e
+    group-stores d e = rw (z .loads, z .stores, right, d) e
 
 -- ---- checking groups one by one
 pub record Passing (seen : Seen) (gs : List GroupPairs) (i : ℕ) (now : Seen) : Type 0 where
@@ -224,12 +238,31 @@ module _ {seen : Seen} {gs : List GroupPairs} {i : ℕ} {now : Seen} (w : Passin
   passing-end h = rw (w .fault, drop-of-length-le gs h)
 
 -- a table's groups, in its record
-module _ (t : Table) where
-  pub groups-size : length (groupsOf t) ≡ t .count
-  groups-size = length-map (held blankGroup (t .count) (t .groups)) pairsOf ∙ held-length blankGroup (t .count) (t .groups)
+within-any : {A : Type 0} (l : List A) (i : ℕ) (d e : A) → i < length l → getD l i d ≡ getD l i e
+within-any [] i d e h = absurd (omega arith)
+within-any (x ∷ xs) zero d e h = refl
+within-any (x ∷ xs) (suc i) d e h = within-any xs i d e (omega arith)
 
-  pub group-at : t .count ≤ length (t .groups) → (i : ℕ) → i < t .count → getD (groupsOf t) i (pairsOf blankGroup) ≡ pairsOf (getD (t .groups) i blankGroup)
-  group-at h i k = List·getD-map pairsOf (held blankGroup (t .count) (t .groups)) i blankGroup ∙ rw (held-at blankGroup (t .count) (t .groups) h i blankGroup k)
+module _ (t : Table) where
+  abbrev parts : List Span
+  parts = held blankSpan (t .count) (t .groups)
+
+  abbrev partOf : Span → GroupPairs
+  partOf = groupIn (t .loads) (t .stores)
+
+  pub groups-size : length (groupsOf t) ≡ t .count
+  groups-size = length-map parts partOf ∙ held-length blankSpan (t .count) (t .groups)
+
+  module _ (whole : t .count ≤ length (t .groups)) (i : ℕ) (k : i < t .count) (d : GroupPairs) where
+    pub groups-at : getD (groupsOf t) i d ≡ groupIn (t .loads) (t .stores) (getD (t .groups) i blankSpan)
+    groups-at =
+        within-any (groupsOf t) i d (partOf blankSpan) (omega (arith, groups-size))
+        ∙ List·getD-map partOf parts i blankSpan
+        ∙ ap partOf (held-at blankSpan (t .count) (t .groups) whole i blankSpan k)
+
+    -- what is handed over as the group at a place is that group
+    pub group-at : {g : Group} → GroupAt t i g → getD (groupsOf t) i d ≡ pairsOf g
+    group-at a = groups-at ∙ sym (a .is)
 
   pub table-count : within 1 16 (t .count) ≡ false → badGroupCount ≡ tableFault (groupsOf t)
   unfolding tableFault
@@ -241,5 +274,5 @@ module _ (t : Table) where
 
 -- a right offset is at most 16
 pub rule-small : (storing : Bool) (stores : ℕ) (loads : Pairs) (low i offset : ℕ) → RuleRight storing stores loads → ruleOf storing stores loads low i offset ≡ true → offset ≤ 16
-rule-small true stores loads low i offset w e = omega (arith, eqb-true offset (count (beforeStore i) (listOf loads)) e, count-most (beforeStore i) (listOf loads), held-length blankPair (loads .count) (loads .places), w .few)
+rule-small true stores loads low i offset w e = omega (arith, eqb-true offset (count (beforeStore i) (listOf loads)) e, count-most (beforeStore i) (listOf loads), view-most loads, w .few)
 rule-small false stores loads low i offset w e = omega (arith, leb-true offset stores (and-right (leb low offset) _ e), w .few-stores)

@@ -1,19 +1,18 @@
 -- Laws of reading tables.
 use Prim.Native.Nat.{ℕ, zero, suc, _+_, _-_, _≤_, _<_}
 use mathlib.Core.Path.{_≡_, refl, sym, ap, ap₂, _∙_}
-use mathlib.Core.Bool.{Bool, true, false, not, _&&_}
-use mathlib.Core.List.{List, [], _∷_, _++_, map, map-append, append-nil, append-assoc}
+use mathlib.Core.Bool.{Bool, true, false}
+use mathlib.Core.List.{List, [], _∷_, _++_, append-nil, append-assoc}
 use native.Mathlib.Omega.{arith}
 use native.Mathlib.Numerals.{add-one}
 use native.Mathlib.Nat.{sub-zero}
-use lib.Dec.{eqb, leb, ltb}
-use lib.ListN.{length, getD, take, drop, set, replicate, length-set, length-append, length-replicate, length-map, take-append-drop}
-use lib.Seq.{length-take-le, take-suc-set, drop-set-lt, take-at, set-at, drop-drop, append-snoc}
-use borrow.Author.Tests.{eqb-true, eqb-false, ne-eqb}
+use lib.Dec.{leb, ltb}
+use lib.ListN.{length, take, drop, set, replicate, length-set, length-append, take-append-drop}
+use lib.Seq.{length-take-le, take-suc-set, drop-set-lt, drop-drop}
+use borrow.Author.Tests.{ne-eqb}
 use Rattle.table.specs.declared.Pair.{Pair}
 use Rattle.table.specs.declared.Pairs.{Pairs}
 use Rattle.table.specs.declared.read.TwoRead.{TwoRead}
-use Rattle.table.specs.declared.Group.{Group}
 use Rattle.table.specs.declared.Table.{Table}
 use Rattle.table.specs.declared.read.PairsRead.{PairsRead}
 use Rattle.table.specs.declared.read.GroupRead.{GroupRead}
@@ -22,11 +21,11 @@ use Rattle.table.specs.Basics.{pick}
 use Rattle.table.specs.Refusal.{tooLarge, badCounts}
 use Rattle.table.specs.Number.{Got, got, bad, andThen, require, above, numberUpTo, readNumber, numberAnswer, placeOf}
 use Rattle.table.specs.Group.{GroupPairs, blankPair, listOf}
-use Rattle.table.specs.Table.{loadRule, storeRule, pairFault, pairsFault, seeing, countsRight, Seen, noneSeen, seenAfter}
-use Rattle.table.specs.TableBytes.{unless, pair, before, readPairs, readGroup, readGroups, packPairs, packGroup, emptyGroup, pack}
-use Rattle.table.specs.Internal.{Two, two, readTwo, twoAnswer, IsRefusal, PairsFound, PairsResult, found, none, seenOf, GroupFound, GroupResult, group-found, group-none, GroupsFound, GroupsResult, groups-found, groups-none}
-use Rattle.table.proofs.CheckLaws.{held-few}
+use Rattle.table.specs.Table.{loadRule, storeRule, pairFault, pairsFault, seeing, countsRight, Seen, noneSeen, seenAfter, groupFault}
+use Rattle.table.specs.TableBytes.{unless, pair, before, readPairs, readGroup, readGroups, pack}
+use Rattle.table.specs.Internal.{Two, two, readTwo, twoAnswer, packPairs, PairsFound, PairsResult, found, none, seenOf, GroupFound, GroupResult, group-found, group-none, Growing, Grown, GroupsFound, GroupsResult, groups-found, groups-none}
 use Rattle.table.proofs.NumberLaws.{place-drop, NumberGot, number-got}
+use Rattle.table.proofs.PackLaws.{Marks, marks-none, marks-room, marks-more, list-packed, Packed, packed-none, packed-more}
 
 -- ---- two numbers
 pub two-step : {A : Type 0} (s : List ℕ) (k : ℕ → ℕ → List ℕ → Got A) → (andThen (readNumber s) λ x s₁. andThen (readNumber s₁) λ y s₂. k x y s₂) ≡ (andThen (readTwo s) λ t s₂. k (t .first) (t .second) s₂)
@@ -131,12 +130,12 @@ seeing-snoc (q ∷ ps) p seen = seeing-snoc ps p (set seen (q .port) true)
 -- i of n pairs have been read into `places`, the rest of which is blank
 pub record Reading (rule : ℕ → ℕ → ℕ → Bool) (n : ℕ) (seen : List Bool) (s : List ℕ) (start i low : ℕ) (marks : List Bool) (place : ℕ) (places : List Pair) : Type 0 where
   pub is : readPairs rule n 0 0 seen (drop start s) ≡ after (take i places) (readPairs rule (n - i) low i marks (drop place s))
-  pub blank : drop i places ≡ replicate (16 - i) blankPair
-  pub long : length places ≡ 16
+  pub blank : drop i places ≡ replicate (32 - i) blankPair
+  pub long : length places ≡ 32
   pub marks-are : marks ≡ seeing (take i places) seen
   pub inside : place ≤ length s
 
-pub reading-none : {rule : ℕ → ℕ → ℕ → Bool} {n : ℕ} {seen : List Bool} {s : List ℕ} {start : ℕ} {places : List Pair} → start ≤ length s → places ≡ replicate 16 blankPair → Reading rule n seen s start 0 0 seen start places
+pub reading-none : {rule : ℕ → ℕ → ℕ → Bool} {n : ℕ} {seen : List Bool} {s : List ℕ} {start : ℕ} {places : List Pair} → start ≤ length s → places ≡ replicate 32 blankPair → Reading rule n seen s start 0 0 seen start places
 unfolding seeing
 reading-none {rule} {n} {seen} {s} {start} h e = record {
   is = rw sub-zero (after-nil (readPairs rule n 0 0 seen (drop start s)));
@@ -175,21 +174,21 @@ module _ {rule : ℕ → ℕ → ℕ → Bool} {n : ℕ} {seen : List Bool} {s :
             inside = g .inside;
           }
         where
-          blank-after : (l : List Pair) (j : ℕ) → drop j l ≡ replicate (16 - j) blankPair → j < 16 → drop (suc j) l ≡ replicate (16 - suc j) blankPair
+          blank-after : (l : List Pair) (j : ℕ) → drop j l ≡ replicate (32 - j) blankPair → j < 32 → drop (suc j) l ≡ replicate (32 - suc j) blankPair
           blank-after l j f k =
-              let m : 16 - j ≡ suc (16 - suc j) = omega arith in
+              let m : 32 - j ≡ suc (32 - suc j) = omega arith in
               let q : drop 1 (drop j l) ≡ drop (suc j) l = drop-drop 1 j l ∙ rw add-one in
-              let r : drop 1 (replicate (16 - j) blankPair) ≡ replicate (16 - suc j) blankPair = rw m in
+              let r : drop 1 (replicate (32 - j) blankPair) ≡ replicate (32 - suc j) blankPair = rw m in
               sym q ∙ ap (drop 1) f ∙ r
 
-  pub reading-end : n ≤ 16 → n ≤ i → i ≤ n → (readPairs rule n 0 0 seen (drop start s) ≡ got (take i places) (drop place s)) × (places ≡ take i places ++ replicate (16 - i) blankPair) × (length (take i places) ≡ i)
+  pub reading-end : n ≤ 16 → n ≤ i → i ≤ n → (readPairs rule n 0 0 seen (drop start s) ≡ got (take i places) (drop place s)) × (places ≡ take i places ++ replicate (32 - i) blankPair) × (length (take i places) ≡ i)
   unfolding readPairs
   reading-end few h k =
       let z : n - i ≡ 0 = omega arith in
       (w .is ∙ rw (z, append-nil), sym (take-append-drop i places) ∙ rw (w .blank), length-take-le i places (omega (arith, w .long)))
 
-abbrev pub made : ℕ → List Pair → Pairs
-made n places = record { count = n; places = places }
+abbrev pub made : ℕ → ℕ → List Pair → Pairs
+made first n places = record { first = first; count = n; places = places }
 
 -- what a caller is told, where the bytes give a refusal and where they give pairs
 pub pairs-refused : {s : List ℕ} {seen : List Bool} {g : Got (List Pair)} {r : PairsRead} {k : ℕ} → g ≡ bad k → r .answer ≡ k → (k ≡ 0 → ⊥) → PairsResult s seen g r
@@ -199,8 +198,8 @@ pub pairs-found : {s : List ℕ} {seen : List Bool} {g : Got (List Pair)} {r : P
 pairs-found e f = rw e (found f)
 
 -- the record that reading has filled is the one that its pairs make
-pub packed : (n i : ℕ) (places : List Pair) → n ≡ i → places ≡ take i places ++ replicate (16 - i) blankPair → length (take i places) ≡ i → made n places ≡ packPairs (take i places)
-packed n i places e f g = ap₂ made (e ∙ sym g) (f ∙ rw g)
+pub packed : (first n i : ℕ) (places : List Pair) → first ≡ 0 → n ≡ i → places ≡ take i places ++ replicate (32 - i) blankPair → length (take i places) ≡ i → made first n places ≡ packPairs (take i places)
+packed first n i places z e f g = ap (λ (k : ℕ). made k n places) z ∙ ap₂ (made 0) (e ∙ sym g) (f ∙ rw g)
 
 -- ---- what the caller of `read_pairs` learns
 pub pairs-bad : {s : List ℕ} {seen : List Bool} {g : Got (List Pair)} {r : PairsRead} → PairsResult s seen g r → (r .answer ≡ 0 → ⊥) → g ≡ bad (r .answer)
@@ -281,18 +280,12 @@ module _ (s : List ℕ) (place : ℕ) (seen : Seen) {x y next : ℕ} (g : TwoGot
       pub group-read : {ss : List Pair} {s₄ : List ℕ} → readPairs (storeRule ls) y 0 0 (seen .stores) s₃ ≡ got ss s₄ → readGroup seen (drop place s) ≡ got (groupOf ls ss) s₄
       group-read e = group-two seen (drop place s) ∙ rw (g .is, right, l, e)
 
--- the pairs that a packed record holds
-pub list-packed : (ls : List Pair) → length ls ≤ 16 → listOf (packPairs ls) ≡ ls
-list-packed ls h =
-    let n : length ls ≤ length (ls ++ replicate (16 - length ls) blankPair) = rw length-append (omega arith) in
-    held-few blankPair (length ls) (ls ++ replicate (16 - length ls) blankPair) n ∙ take-at ls (replicate (16 - length ls) blankPair) (length ls) refl
-
 -- loads that were read into a record make a rule for the stores
-pub store-rule : {s : List ℕ} {seen : List Bool} {ls : List Pair} {rest : List ℕ} {r : PairsRead} → PairsFound s seen ls rest r → length ls ≤ 16 → listOf (r .pairs) ≡ ls
-store-rule {ls = ls} f h = rw (f .pairs) (list-packed ls h)
+pub store-rule : {s : List ℕ} {seen : List Bool} {ls : List Pair} {rest : List ℕ} {r : PairsRead} → PairsFound s seen ls rest r → listOf (r .pairs) ≡ ls
+store-rule {ls = ls} f = rw (f .pairs) (list-packed ls)
 
-pub same-stores : {s : List ℕ} {seen : List Bool} {ls : List Pair} {rest : List ℕ} {r : PairsRead} → PairsFound s seen ls rest r → length ls ≤ 16 → (y : ℕ) (marks : List Bool) → readPairs (storeRule ls) y 0 0 marks rest ≡ readPairs (storeRule (listOf (r .pairs))) y 0 0 marks (drop (r .next) s)
-same-stores f h y marks = rw (store-rule f h, f .rest-is)
+pub same-stores : {s : List ℕ} {seen : List Bool} {ls : List Pair} {rest : List ℕ} {r : PairsRead} → PairsFound s seen ls rest r → (y : ℕ) (marks : List Bool) → readPairs (storeRule ls) y 0 0 marks rest ≡ readPairs (storeRule (listOf (r .pairs))) y 0 0 marks (drop (r .next) s)
+same-stores f y marks = rw (store-rule f, f .rest-is)
 
 -- ---- groups, one by one
 pub group-bad : {s : List ℕ} {seen : Seen} {g : Got GroupPairs} {r : GroupRead} → GroupResult s seen g r → (r .answer ≡ 0 → ⊥) → g ≡ bad (r .answer)
@@ -309,27 +302,26 @@ pub group-got : {s : List ℕ} {seen : Seen} {g : Got GroupPairs} {r : GroupRead
 group-got (group-found {g} {rest} f) z = record { group = g; rest = rest; is = refl; told = f }
 group-got (group-none f) z = absurd (f .some (sym (f .is) ∙ z))
 
-abbrev pub tableMade : ℕ → List Group → Table
-tableMade n places = record { count = n; groups = places }
-
--- the first i of n groups have been read into `places`, whose rest is empty
-pub record Gathering (n : ℕ) (s : List ℕ) (start i : ℕ) (seen : Seen) (place : ℕ) (places : List Group) : Type 0 where
+-- the first i of n groups have been read into the table, which has so many loads and stores
+pub record Gathering (n : ℕ) (s : List ℕ) (start i : ℕ) (seen : Seen) (place : ℕ) (table : Table) (loads stores : ℕ) : Type 0 where
   pub done : List GroupPairs
   pub is : readGroups n noneSeen (drop start s) ≡ after done (readGroups (n - i) seen (drop place s))
   pub many : length done ≡ i
-  pub filled : places ≡ map packGroup done ++ replicate (16 - i) emptyGroup
+  pub packed-is : Packed table loads stores done
+  pub marks : Marks seen loads stores
   pub inside : place ≤ length s
 
-pub gathering-none : {n : ℕ} {s : List ℕ} {start : ℕ} {places : List Group} → start ≤ length s → places ≡ replicate 16 emptyGroup → Gathering n s start 0 noneSeen start places
+pub gathering-none : {n : ℕ} {s : List ℕ} {start : ℕ} {table : Table} → start ≤ length s → table ≡ pack [] → Gathering n s start 0 noneSeen start table 0 0
 gathering-none {n} {s} {start} h e = record {
   done = [];
   is = rw sub-zero (after-nil (readGroups n noneSeen (drop start s)));
   many = refl;
-  filled = e;
+  packed-is = packed-none e;
+  marks = marks-none;
   inside = h;
 }
 
-module _ {n : ℕ} {s : List ℕ} {start i : ℕ} {seen : Seen} {place : ℕ} {places : List Group} (w : Gathering n s start i seen place places) where
+module _ {n : ℕ} {s : List ℕ} {start i : ℕ} {seen : Seen} {place : ℕ} {table : Table} {loads stores : ℕ} (w : Gathering n s start i seen place table loads stores) where
   next-group : i < n → readGroups (n - i) seen (drop place s) ≡ (andThen (readGroup seen (drop place s)) λ g s₁. before g (readGroups (n - (i + 1)) (seenAfter g seen) s₁))
   unfolding readGroups
   next-group h = let e : n - i ≡ suc (n - (i + 1)) = omega arith in rw e
@@ -337,27 +329,40 @@ module _ {n : ℕ} {s : List ℕ} {start i : ℕ} {seen : Seen} {place : ℕ} {p
   pub gathering-refused : {k : ℕ} → i < n → readGroup seen (drop place s) ≡ bad k → readGroups n noneSeen (drop start s) ≡ bad k
   gathering-refused h e = w .is ∙ rw (next-group h, e)
 
-  pub gathering-more : {r : GroupRead} → i < n → n ≤ 16 → GroupGot s seen (readGroup seen (drop place s)) r → Gathering n s start (i + 1) (seenOf (r .seen)) (r .next) (set places i (r .group))
-  gathering-more {r} h few g = record {
-    done = w .done ++ g .group ∷ [];
-    is = w .is ∙ rw (next-group h, g .is, g .told .rest-is, ← g .told .marks) (after-before (w .done) (g .group) (readGroups (n - (i + 1)) (seenOf (r .seen)) (drop (r .next) s)));
-    many = rw (length-append, w .many);
-    filled = rw (w .filled, g .told .group) (fill (w .done) (g .group) i (w .many) (omega arith));
-    inside = g .told .inside;
-  }
-    where
-      fill : (d : List GroupPairs) (x : GroupPairs) (j : ℕ) → length d ≡ j → j < 16 → set (map packGroup d ++ replicate (16 - j) emptyGroup) j (packGroup x) ≡ map packGroup (d ++ x ∷ []) ++ replicate (16 - (j + 1)) emptyGroup
-      fill d x j e k =
-          let m : 16 - j ≡ suc (16 - (j + 1)) = omega arith in
-          let q : length (map packGroup d) ≡ j = length-map d packGroup ∙ e in
-          rw (m, map-append) (set-at (map packGroup d) emptyGroup (replicate (16 - (j + 1)) emptyGroup) (packGroup x) j q ∙ sym (append-snoc (map packGroup d) (packGroup x) (replicate (16 - (j + 1)) emptyGroup)))
+  module _ {r : GroupRead} (h : i < n) (few : n ≤ 16) (g : GroupGot s seen (readGroup seen (drop place s)) r) (right : groupFault seen (g .group) ≡ 0) where
+    loads-count : r .group .loads .count ≡ length (g .group .loads)
+    loads-count = rw (g .told .group)
 
-  pub gathering-end : n ≤ i → i ≤ n → (readGroups n noneSeen (drop start s) ≡ got (w .done) (drop place s)) × (tableMade n places ≡ pack (w .done))
+    stores-count : r .group .stores .count ≡ length (g .group .stores)
+    stores-count = rw (g .told .group)
+
+    -- the ports seen leave room for the group
+    pub gathering-room : Growing table loads stores (r .group)
+    gathering-room =
+        let m = marks-room (marks-more (w .marks) (g .group) right) in
+        record {
+          groups = rw (w .packed-is .table) (omega (arith, w .many));
+          loads-first = rw (g .told .group);
+          stores-first = rw (g .told .group);
+          loads-room = rw loads-count (m .0);
+          stores-room = rw stores-count (m .1);
+        }
+
+    pub gathering-more : {t : Table} → Grown table loads stores (r .group) t → Gathering n s start (i + 1) (seenOf (r .seen)) (r .next) t (loads + r .group .loads .count) (stores + r .group .stores .count)
+    gathering-more v = record {
+      done = w .done ++ g .group ∷ [];
+      is = w .is ∙ rw (next-group h, g .is, g .told .rest-is, ← g .told .marks) (after-before (w .done) (g .group) (readGroups (n - (i + 1)) (seenOf (r .seen)) (drop (r .next) s)));
+      many = rw (length-append, w .many);
+      packed-is = packed-more (w .packed-is) (g .group) (g .told .group) (omega (arith, w .many)) v;
+      marks = rw (g .told .marks, loads-count, stores-count) (marks-more (w .marks) (g .group) right);
+      inside = g .told .inside;
+    }
+
+  pub gathering-end : n ≤ i → (readGroups n noneSeen (drop start s) ≡ got (w .done) (drop place s)) × (table ≡ pack (w .done))
   unfolding readGroups
-  gathering-end h k =
+  gathering-end h =
       let z : n - i ≡ 0 = omega arith in
-      let m : n ≡ length (w .done) = omega (arith, w .many) in
-      (w .is ∙ rw (z, append-nil), ap₂ tableMade m (w .filled ∙ rw (w .many)))
+      (w .is ∙ rw (z, append-nil), w .packed-is .table)
 
 pub groups-bad : {s : List ℕ} {g : Got (List GroupPairs)} {r : GroupsRead} → GroupsResult s g r → (r .answer ≡ 0 → ⊥) → g ≡ bad (r .answer)
 groups-bad (groups-found f) z = absurd (z (f .answer))

@@ -1,12 +1,12 @@
 -- Tables and traces are read back; the statements are specs/RoundTrip.antt.
-use Prim.Native.Nat.{ℕ, zero, suc, _+_, _-_, _≤_, _<_, _^_}
-use mathlib.Core.Path.{_≡_, refl, sym, ap, ap₂, _∙_}
+use Prim.Native.Nat.{ℕ, zero, suc, _+_, _≤_, _<_, _^_}
+use mathlib.Core.Path.{_≡_, refl, sym, ap, _∙_}
 use mathlib.Core.Bool.{Bool, true, false, true≢false, false≢true}
-use mathlib.Core.List.{List, [], _∷_, _++_, map, append-nil, append-assoc}
+use mathlib.Core.List.{List, [], _∷_, _++_, append-nil, append-assoc}
 use native.Mathlib.Omega.{arith}
 use lib.Dec.{leb, eqb}
-use lib.ListN.{length, getD, set, drop, replicate, length-append, length-map}
-use lib.Seq.{drop-append-seam, take-at}
+use lib.ListN.{length, getD, set, drop, length-append}
+use lib.Seq.{drop-append-seam}
 use borrow.Author.Tests.{eq-eqb, le-leb, ne-eqb, leb-true, eqb-true}
 use Rattle.table.specs.declared.Pair.{Pair}
 use Rattle.table.specs.declared.Event.{Event}
@@ -17,15 +17,16 @@ use Rattle.table.specs.declared.HeaderRead.the-variants.{Leading}
 use Rattle.table.specs.Basics.{pick, count, flat, within, check, orElse}
 use Rattle.table.specs.Refusal.{badFields, badGroupCount, badCounts, leftOver, badKind}
 use Rattle.table.specs.Number.{Got, got, bad, andThen, require, readNumber, placeOf, numberBytes, bytesOf, spells, valueOf}
-use Rattle.table.specs.Group.{GroupPairs, pairsOf, beforeStore}
-use Rattle.table.specs.Table.{blankGroup, loadRule, storeRule, pairFault, pairsFault, countsRight, Seen, noneSeen, seenAfter, groupFault, groupsFault, tableFault}
-use Rattle.table.specs.TableBytes.{unless, pair, before, readPairs, readGroup, readGroups, readTable, pairNumbers, groupNumbers, tableNumbers, tableBytes, packGroup, emptyGroup}
+use Rattle.table.specs.Group.{GroupPairs, beforeStore}
+use Rattle.table.specs.Table.{loadRule, storeRule, pairFault, pairsFault, countsRight, Seen, noneSeen, seenAfter, groupFault, groupsFault, tableFault}
+use Rattle.table.specs.TableBytes.{unless, pair, before, readPairs, readGroup, readGroups, readTable, pairNumbers, groupNumbers, tableNumbers, tableBytes}
 use Rattle.table.specs.Event.{eventNumbers, hasSecond, eventOf, readKind, readEvent, eventAnswer, eventAt, eventBytes, eventsBytes, headerNumbers, headerBytes, headerAnswer, readHeader}
 use Rattle.table.specs.RoundTrip.{Spelled, nothing, next, Fit, none, one, TablesAreSpelled, OnlyRightTables, TablesReadBack, RecordsHoldGroups, EventsAreSpelled, OnlySpelledEvents, Yields, ends, yields, HeadersAreSpelled, OnlySpelledHeaders, AllFit, no-more, and-more, TracesReadBack}
-use Rattle.table.proofs.CheckLaws.{and-left, and-right, fault-none, counts-few, count-most, held-few}
+use Rattle.table.proofs.CheckLaws.{and-left, and-right, fault-none, counts-few, count-most}
 use Rattle.table.proofs.SpliceLaws.{bytes-some}
 use Rattle.table.proofs.TraceLaws.{event-at-end, event-at-inside}
-use Rattle.table.proofs.ReadLaws.{read-right, groupOf, list-packed}
+use Rattle.table.proofs.PackLaws.{group-fault, groups-packed}
+use Rattle.table.proofs.ReadLaws.{read-right, groupOf}
 use Rattle.table.proofs.WriteLaws.{or-else-both, check-both}
 use Rattle.table.proofs.RoundTripLaws.{spelled-up-to, Spelling, only-up-to, written-up-to}
 
@@ -119,13 +120,6 @@ pub record GroupTaken (seen : Seen) (s : List ℕ) (g : GroupPairs) (ns : List �
   pub rest : List ℕ
   pub is : readGroup seen s ≡ got g rest
   pub others : Spelled rest ns
-
-group-fault : (seen : Seen) (g : GroupPairs) → groupFault seen g ≡ 0 → (countsRight (length (g .loads)) (length (g .stores)) ≡ true) × (pairsFault (loadRule (length (g .stores))) 0 0 (seen .loads) (g .loads) ≡ 0) × (pairsFault (storeRule (g .loads)) 0 0 (seen .stores) (g .stores) ≡ 0)
-unfolding groupFault
-group-fault seen g e =
-    let f = check-both (countsRight (length (g .loads)) (length (g .stores))) badCounts _ (λ z. omega arith) e in
-    let h = or-else-both (pairsFault (loadRule (length (g .stores))) 0 0 (seen .loads) (g .loads)) _ (f .1) in
-    (f .0, h .0, h .1)
 
 group-right-of : (seen : Seen) (g : GroupPairs) → countsRight (length (g .loads)) (length (g .stores)) ≡ true → pairsFault (loadRule (length (g .stores))) 0 0 (seen .loads) (g .loads) ≡ 0 → pairsFault (storeRule (g .loads)) 0 0 (seen .stores) (g .stores) ≡ 0 → groupFault seen g ≡ 0
 unfolding groupFault
@@ -346,24 +340,8 @@ tables-read-back gs e =
     tables-are-spelled gs (tableBytes gs) e (written (one {n = 2} (omega arith) (one {n = length gs} (omega arith) (fit-groups noneSeen gs right))))
 
 -- ---- the record of a table that was read
-group-packed : (seen : Seen) (g : GroupPairs) → groupFault seen g ≡ 0 → pairsOf (packGroup g) ≡ g
-group-packed seen g e =
-    let few = counts-few (length (g .loads)) (length (g .stores)) (group-fault seen g e .0) in
-    ap₂ groupOf (list-packed (g .loads) (few .0)) (list-packed (g .stores) (few .1))
-
-groups-packed : (seen : Seen) (gs : List GroupPairs) → groupsFault seen gs ≡ 0 → map pairsOf (map packGroup gs) ≡ gs
-unfolding groupsFault
-groups-packed seen [] e = refl
-groups-packed seen (g ∷ gs) e =
-    let f = or-else-both (groupFault seen g) _ e in
-    ap₂ (λ (x : GroupPairs) (l : List GroupPairs). x ∷ l) (group-packed seen g (f .0)) (groups-packed (seenAfter g seen) gs (f .1))
-
 pub records-hold-groups : RecordsHoldGroups
-records-hold-groups gs e =
-    let (few, right) = table-fault gs e in
-    let n : length (map packGroup gs) ≡ length gs = length-map gs packGroup in
-    let h : length gs ≤ length (map packGroup gs ++ replicate (16 - length gs) emptyGroup) = rw (length-append, n) (omega arith) in
-    ap (map pairsOf) (held-few blankGroup (length gs) (map packGroup gs ++ replicate (16 - length gs) emptyGroup) h ∙ take-at (map packGroup gs) (replicate (16 - length gs) emptyGroup) (length gs) n) ∙ groups-packed noneSeen gs right
+records-hold-groups gs e = groups-packed gs
 
 -- ---- events
 pub record TakenBefore (bytes rest : List ℕ) (n : ℕ) (ns : List ℕ) : Type 0 where

@@ -1,26 +1,20 @@
 -- Laws of writing tables.
-use Prim.Native.Nat.{ℕ, zero, suc, _+_, _-_, _*_, _≤_, _<_}
+use Prim.Native.Nat.{ℕ, zero, suc, _+_, _≤_, _<_}
 use mathlib.Core.Path.{_≡_, refl, sym, ap, _∙_}
 use mathlib.Core.Bool.{Bool, true, false}
-use mathlib.Core.List.{List, [], _∷_, _++_, map, append-nil, append-assoc}
+use mathlib.Core.List.{List, [], _∷_, _++_, append-nil, append-assoc}
 use native.Mathlib.Omega.{arith}
-use native.Mathlib.Nat.{add-assoc}
 use native.Mathlib.Numerals.{add-one}
-use lib.Dec.{leb}
-use borrow.Author.Tests.{ne-eqb, leb-true}
+use borrow.Author.Tests.{ne-eqb}
 use lib.ListN.{length, getD, take, drop, length-append, take-append-drop}
 use lib.Seq.{take-suc, take-all}
 use Rattle.table.specs.declared.Pair.{Pair}
 use Rattle.table.specs.declared.Group.{Group}
-use Rattle.table.specs.declared.Table.{Table}
-use Rattle.table.specs.Basics.{flat, within, check, orElse, splice}
-use Rattle.table.specs.Refusal.{badGroupCount, badCounts}
-use Rattle.table.specs.Group.{GroupPairs, listOf, pairsOf, blankPair}
-use Rattle.table.specs.Table.{blankGroup, groupsOf, countsRight, Seen, noneSeen, seenAfter, groupFault, groupsFault, tableFault}
+use Rattle.table.specs.Basics.{flat, check, orElse, splice}
+use Rattle.table.specs.Group.{GroupPairs, listOf, pairsOf}
 use Rattle.table.specs.TableBytes.{pairNumbers, groupNumbers, tableNumbers}
-use Rattle.table.specs.Internal.{GroupFits, TableFits}
-use Rattle.table.proofs.CheckLaws.{held-length, counts-few, and-right, groups-size, group-at}
 use Rattle.table.specs.Number.{numberBytes, bytesOf}
+use Rattle.table.proofs.CheckLaws.{Sized}
 use Rattle.table.proofs.SpliceLaws.{bytes-append, Put, put-more}
 
 -- ---- the numbers of elements, one after the other
@@ -57,7 +51,7 @@ pair-length p = rw (length-append, append-nil)
 pub group-length : (g : GroupPairs) → length (bytesOf (groupNumbers g)) ≡ length (numberBytes (length (g .loads))) + length (numberBytes (length (g .stores))) + length (bytesOf (flat pairNumbers (g .loads))) + length (bytesOf (flat pairNumbers (g .stores)))
 group-length g = rw (length-append, length-append, bytes-append (flat pairNumbers (g .loads)) (flat pairNumbers (g .stores)), length-append) (omega arith)
 
--- ---- a table that is right fits its arrays
+-- ---- parts of a check with no fault
 pub or-else-both : (n m : ℕ) → orElse n m ≡ 0 → (n ≡ 0) × (m ≡ 0)
 or-else-both zero m e = (refl, e)
 or-else-both (suc n) m e = let q = ne-eqb (suc n) 0 (λ z. omega arith) in let d : suc n ≡ 0 = rw q at e in absurd (omega arith)
@@ -66,49 +60,13 @@ pub check-both : (t : Bool) (n m : ℕ) → (n ≡ 0 → ⊥) → check t n m �
 check-both true n m z e = (refl, e)
 check-both false n m z e = absurd (z e)
 
-pub group-right : (seen : Seen) (g : GroupPairs) → groupFault seen g ≡ 0 → countsRight (length (g .loads)) (length (g .stores)) ≡ true
-unfolding groupFault
-group-right seen g e = check-both (countsRight (length (g .loads)) (length (g .stores))) badCounts _ (λ z. omega arith) e .0
-
-pub groups-right : (seen : Seen) (gs : List GroupPairs) (i : ℕ) (d : GroupPairs) → groupsFault seen gs ≡ 0 → i < length gs → (now : Seen) × (groupFault now (getD gs i d) ≡ 0)
-unfolding groupsFault
-groups-right seen [] i d e h = absurd (omega arith)
-groups-right seen (g ∷ gs) zero d e h = (seen, or-else-both (groupFault seen g) _ e .0)
-groups-right seen (g ∷ gs) (suc i) d e h = groups-right (seenAfter g seen) gs i d (or-else-both (groupFault seen g) _ e .1) (omega arith)
-
-pub table-right : (gs : List GroupPairs) → tableFault gs ≡ 0 → (length gs ≤ 16) × (groupsFault noneSeen gs ≡ 0)
-unfolding tableFault
-table-right gs e =
-    let f = check-both (within 1 16 (length gs)) badGroupCount (groupsFault noneSeen gs) (λ z. omega arith) e in
-    (leb-true (length gs) 16 (and-right (leb 1 (length gs)) _ (f .0)), f .1)
-
-pub table-fits : (t : Table) → tableFault (groupsOf t) ≡ 0 → t .count ≤ length (t .groups) → TableFits t
-table-fits t e whole = record {
-  groups = omega (arith, table-right (groupsOf t) e .0, groups-size t);
-  each = λ i h. fits i h;
-}
-  where
-    fits : (i : ℕ) → i < t .count → GroupFits (getD (t .groups) i blankGroup)
-    fits i h =
-        let g = getD (t .groups) i blankGroup in
-        let (now, f) = groups-right noneSeen (groupsOf t) i (pairsOf blankGroup) (table-right (groupsOf t) e .1) (omega (arith, groups-size t)) in
-        let r = group-right now (pairsOf g) (rw (group-at t whole i h) at f) in
-        let k = counts-few (length (listOf (g .loads))) (length (listOf (g .stores))) r in
-        record { loads = omega (arith, k .0, held-length blankPair (g .loads .count) (g .loads .places)); stores = omega (arith, k .1, held-length blankPair (g .stores .count) (g .stores .places)) }
-
 -- a group's numbers and bytes, by its record
-module _ (g : Group) where
-  loads-size : length (listOf (g .loads)) ≡ g .loads .count
-  loads-size = held-length blankPair (g .loads .count) (g .loads .places)
-
-  stores-size : length (listOf (g .stores)) ≡ g .stores .count
-  stores-size = held-length blankPair (g .stores .count) (g .stores .places)
-
+module _ (g : Group) (z : Sized g) where
   pub group-numbers : groupNumbers (pairsOf g) ≡ g .loads .count ∷ g .stores .count ∷ flat pairNumbers (listOf (g .loads)) ++ flat pairNumbers (listOf (g .stores))
-  group-numbers = rw (loads-size, stores-size)
+  group-numbers = rw (z .loads, z .stores)
 
   pub group-bytes : length (bytesOf (groupNumbers (pairsOf g))) ≡ length (numberBytes (g .loads .count)) + length (numberBytes (g .stores .count)) + length (bytesOf (flat pairNumbers (listOf (g .loads)))) + length (bytesOf (flat pairNumbers (listOf (g .stores))))
-  group-bytes = group-length (pairsOf g) ∙ rw (loads-size, stores-size)
+  group-bytes = group-length (pairsOf g) ∙ rw (z .loads, z .stores)
 
   -- the counts, the loads and the stores, put one after the other
   pub put-group : {d : List ℕ} {place : ℕ} {out : List ℕ} {end : ℕ} {out₂ : List ℕ} {end₂ : ℕ} {out₃ : List ℕ} {end₃ : ℕ} → Put d place (g .loads .count ∷ g .stores .count ∷ []) out end → place + length (bytesOf (groupNumbers (pairsOf g))) ≤ length d → out₂ ≡ splice out end (bytesOf (flat pairNumbers (listOf (g .loads)))) → end₂ ≡ end + length (bytesOf (flat pairNumbers (listOf (g .loads)))) → out₃ ≡ splice out₂ end₂ (bytesOf (flat pairNumbers (listOf (g .stores)))) → end₃ ≡ end₂ + length (bytesOf (flat pairNumbers (listOf (g .stores)))) → Put d place (groupNumbers (pairsOf g)) out₃ end₃

@@ -3,7 +3,7 @@ use Prim.Native.Nat.{ℕ, _+_, _≤_, _<_}
 use mathlib.Core.Path.{_≡_}
 use mathlib.Core.Bool.{Bool, true}
 use mathlib.Core.List.{List, [], _∷_, _++_}
-use lib.ListN.{length, getD, set, take, drop}
+use lib.ListN.{length, set, take, drop}
 use Rattle.table.specs.declared.Pair.{Pair}
 use Rattle.table.specs.declared.Pairs.{Pairs}
 use Rattle.table.specs.declared.Group.{Group}
@@ -17,7 +17,7 @@ use Rattle.table.specs.Number.{Got, got, bad, andThen, readNumber, place
 use Rattle.table.specs.TableBytes.{filled, pack}
 use Rattle.table.specs.Basics.{pick}
 use Rattle.table.specs.Group.{GroupPairs, part, listOf, Inside}
-use Rattle.table.specs.Table.{groupsOf, loadRule, storeRule, pairsFault, seeing, Seen, seenAfter, groupFault}
+use Rattle.table.specs.Table.{loadRule, storeRule, pairsFault, seeing, Seen, seenAfter, groupFault}
 use Rattle.table.specs.declared.trace.Numbers.{Numbers}
 
 -- the numbers that are written together
@@ -149,18 +149,5 @@ pub record PairsAt (places : List Pair) (first n : ℕ) (r : Pairs) : Type 0 whe
   pub is : listOf r ≡ part first n places
   pub inside : Inside r
 
--- ---- writing a table
-
--- counts that stay within the arrays, as a right table's do
-pub record GroupFits (g : Group) : Type 0 where
-  pub loads-inside : Inside (g .loads)
-  pub stores-inside : Inside (g .stores)
-  pub loads : g .loads .count ≤ 16
-  pub stores : g .stores .count ≤ 16
-
-abbrev pub noGroup : GroupPairs
-noGroup = record { loads = []; stores = [] }
-
-pub record TableFits (t : Table) : Type 0 where
-  pub groups : t .count ≤ 16
-  pub each : (i : ℕ) → i < t .count → (length (getD (groupsOf t) i noGroup .loads) ≤ 16) × (length (getD (groupsOf t) i noGroup .stores) ≤ 16)
+abbrev pub GroupInside : Group → Type 0
+GroupInside g = Inside (g .loads) × Inside (g .stores)

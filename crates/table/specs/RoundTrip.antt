@@ -14,7 +14,7 @@ use Rattle.table.specs.Basics.{all}
 use Rattle.table.specs.Number.{got, readNumber, numberBytes, byteCount, significantBits, spells, valueOf}
 use Rattle.table.specs.Group.{GroupPairs}
 use Rattle.table.specs.Table.{groupsOf, tableFault}
-use Rattle.table.specs.TableBytes.{readTable, pack, tableNumbers, tableBytes}
+use Rattle.table.specs.TableBytes.{readTable, pack, loadsIn, storesIn, tableNumbers, tableBytes}
 use Rattle.table.specs.Event.{eventNumbers, readEvent, eventAt, eventsBytes, headerNumbers, headerBytes, headerAnswer, readHeader}
 
 -- Bytes that spell numbers, one after the other, padded or not.
@@ -56,6 +56,10 @@ OnlyRightTables = (s rest : List ℕ) (gs : List GroupPairs) → readTable s ≡
 
 abbrev pub TablesReadBack : Type 0
 TablesReadBack = (gs : List GroupPairs) → tableFault gs ≡ 0 → readTable (tableBytes gs) ≡ got gs []
+
+-- "A port stands once in a table": the places of its record are enough for the accesses of a right table.
+abbrev pub AccessesFit : Type 0
+AccessesFit = (gs : List GroupPairs) → tableFault gs ≡ 0 → (length (loadsIn gs) ≤ 32) × (length (storesIn gs) ≤ 32)
 
 -- The record that reading gives holds just the groups that were read, in its meaningful places.
 abbrev pub RecordsHoldGroups : Type 0

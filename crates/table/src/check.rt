@@ -1,11 +1,10 @@
 // When a table is right: 4, 5, 8, 6, 7 in the order of checking.
 ghost use mathlib.Core.Path.{_≡_};
-ghost use Prim.Native.Nat.{_+_, _≤_};
 ghost use lib.Dec.{ltb};
 ghost use Rattle.table.specs.Basics.{count};
 ghost use Rattle.table.specs.Group.{listOf, pairsOf, beforeStore, Inside};
 ghost use Rattle.table.specs.Table.{countsRight, pairFault, tableFault, groupsOf};
-ghost use Rattle.table.specs.Internal.{ruleOf, Rising, RuleRight, PairsChecked, seenIn, GroupChecked};
+ghost use Rattle.table.specs.Internal.{ruleOf, Rising, RuleRight, PairsChecked, seenIn, GroupChecked, GroupInside};
 use crate::Group;
 use crate::Pairs;
 use crate::Table;
@@ -114,7 +113,7 @@ pub(crate) fn counts_right(loads: u32, stores: u32) -> bool
 
 // A group's first fault, or 0: 5 counts, then its loads, then its stores. The marks of the ports seen are lent.
 fn check_group(group: Group, loads: &mut [bool; 32], stores: &mut [bool; 32]) -> u8
-    requires { ⌜ Inside (group .loads) × Inside (group .stores) ⌝ }
+    requires { ⌜ GroupInside group ⌝ }
     ensures { λ r. ⌜ GroupChecked (seenIn (now (loads .entry)) (now (stores .entry))) (pairsOf group) (seenIn (now (loads .exit)) (now (stores .exit))) r ⌝ }
 {
     let load_pairs = group.loads;

@@ -7,7 +7,7 @@ ghost use Rattle.table.specs.Number.{bytesOf};
 ghost use Rattle.table.specs.Group.{listOf, pairsOf, Inside};
 ghost use Rattle.table.specs.Table.{groupsOf};
 ghost use Rattle.table.specs.TableBytes.{pairNumbers, groupNumbers, tableNumbers, wroteTable};
-ghost use Rattle.table.specs.Internal.{GroupFits, TableFits};
+ghost use Rattle.table.specs.Internal.{GroupInside};
 use crate::Group;
 use crate::Pairs;
 use crate::Table;
@@ -20,8 +20,8 @@ use crate::refusal::TOO_SHORT;
 
 // How many bytes a group's pairs of one kind take.
 fn pairs_length(pairs: Pairs) -> usize
-    requires { ⌜ Inside pairs × (pairs .count ≤ 16) ⌝ }
-    ensures { λ r. ⌜ (r ≡ length (bytesOf (flat pairNumbers (listOf pairs)))) × (r ≤ 160) ⌝ }
+    requires { ⌜ Inside pairs ⌝ }
+    ensures { λ r. ⌜ (r ≡ length (bytesOf (flat pairNumbers (listOf pairs)))) × (r ≤ 320) ⌝ }
 {
     let first = pairs.first as usize;
     let count = pairs.count as usize;
@@ -37,8 +37,8 @@ fn pairs_length(pairs: Pairs) -> usize
 
 // How many bytes a group takes.
 fn group_length(group: Group) -> usize
-    requires { ⌜ GroupFits group ⌝ }
-    ensures { λ r. ⌜ (r ≡ length (bytesOf (groupNumbers (pairsOf group)))) × (r ≤ 330) ⌝ }
+    requires { ⌜ GroupInside group ⌝ }
+    ensures { λ r. ⌜ (r ≡ length (bytesOf (groupNumbers (pairsOf group)))) × (r ≤ 650) ⌝ }
 {
     let loads = group.loads;
     let stores = group.stores;
@@ -48,7 +48,7 @@ fn group_length(group: Group) -> usize
 
 // How many bytes a table takes.
 fn table_length(table: Table) -> usize
-    requires { ⌜ TableFits table ⌝ }
+    requires { ⌜ table .count ≤ 16 ⌝ }
     ensures { λ r. ⌜ r ≡ length (bytesOf (tableNumbers (groupsOf table))) ⌝ }
 {
     let count = table.count as usize;
@@ -82,7 +82,7 @@ fn put_pairs(pairs: Pairs, out: &mut [u8], at: usize) -> usize
 
 // Puts a group at a place where it fits, and says where it ends.
 fn put_group(group: Group, out: &mut [u8], at: usize) -> usize
-    requires { ⌜ GroupFits group × (at + length (bytesOf (groupNumbers (pairsOf group))) ≤ length (now out)) ⌝ }
+    requires { ⌜ GroupInside group × (at + length (bytesOf (groupNumbers (pairsOf group))) ≤ length (now out)) ⌝ }
     ensures { λ r. ⌜ (r ≡ at + length (bytesOf (groupNumbers (pairsOf group)))) × (now (out .exit) ≡ splice (now (out .entry)) at (bytesOf (groupNumbers (pairsOf group)))) ⌝ }
 {
     let loads = group.loads;
@@ -95,7 +95,7 @@ fn put_group(group: Group, out: &mut [u8], at: usize) -> usize
 
 // Puts a table at the front of a buffer where it fits.
 fn put_table(table: Table, out: &mut [u8])
-    requires { ⌜ TableFits table × (length (bytesOf (tableNumbers (groupsOf table))) ≤ length (now out)) ⌝ }
+    requires { ⌜ (table .count ≤ 16) × (length (bytesOf (tableNumbers (groupsOf table))) ≤ length (now out)) ⌝ }
     ensures { λ _. ⌜ now (out .exit) ≡ splice (now (out .entry)) 0 (bytesOf (tableNumbers (groupsOf table))) ⌝ }
 {
     let count = table.count as usize;

@@ -2,30 +2,29 @@ use Prim.Native.Nat.{_+_, _≤_, _-_}
 use mathlib.Core.Path.{_≡_, sym, _∙_}
 use mathlib.Core.List.{_∷_}
 use native.Mathlib.Omega.{arith}
-use lib.ListN.{length, getD, drop}
+use lib.ListN.{length, drop}
 use borrow.Author.Needs.{needs}
 use borrow.Author.Tests.{not-true, not-false}
 use Rattle.table.specs.Group.{pairsOf}
-use Rattle.table.specs.Table.{blankGroup, groupsOf}
+use Rattle.table.specs.Table.{groupsOf}
 use Rattle.table.proofs.CheckLaws.{long}
 use Rattle.queue.specs.Open.{groupFits}
-use Rattle.queue.proofs.ContentsLaws.{side-here}
-use Rattle.queue.proofs.GroupLaws.{groups-end}
+use Rattle.queue.proofs.GroupLaws.{groups-here, groups-end}
 use Rattle.queue.proofs.WalkLaws.{AllYet, all-none, all-on, all-stop, all-end}
 use Rattle.queue.proofs.opening.groups_fit.Statement.{statement}
 use Rattle.queue.proofs.opening.groups_fit.Tie as tie
 
 abbrev Inv-loop : tie.InvT-loop
-Inv-loop load-depth store-depth table count i₀ i = (i ≤ table .count) × AllYet (groupFits load-depth store-depth) (groupsOf table) i
+Inv-loop table load-depth store-depth count i₀ i = (i ≤ table .count) × AllYet (groupFits load-depth store-depth) (groupsOf table) i
 
 abbrev μ-loop : tie.MeasureT-loop
-μ-loop load-depth store-depth table count i₀ i = count - i
+μ-loop table load-depth store-depth count i₀ i = count - i
 
-here : (c : tie.In-loop Inv-loop μ-loop) → drop (c .before .loop .i) (groupsOf (c .before .before .args .t1)) ≡ pairsOf (getD (c .before .before .args .t1 .groups) (c .before .loop .i) blankGroup) ∷ drop (c .before .loop .i + 1) (groupsOf (c .before .before .args .t1))
+here : (c : tie.After-group-at Inv-loop μ-loop) → drop (c .before .before .loop .i) (groupsOf (c .before .before .before .before .args .table)) ≡ pairsOf (c .group-at .result) ∷ drop (c .before .before .loop .i + 1) (groupsOf (c .before .before .before .before .args .table))
 here c =
-    let t = c .before .before .args .t1 in
-    let e : length (t .groups) ≡ 16 = search (needs, long) in
-    side-here pairsOf blankGroup (t .count) (t .groups) (omega (arith, c .before .before .pre)) (c .before .loop .i) (c .loop-test .taken)
+    let s = c .before .before .before .before in
+    let e : length (s .args .table .groups) ≡ 16 = search (needs, long) in
+    groups-here (s .args .table) (s .pre) e (c .before .before .loop .i) (c .before .loop-test .taken) (c .group-at .ensures)
 
 cast-count : tie.Need-cast-count Inv-loop μ-loop
 cast-count c = search needs
@@ -33,19 +32,16 @@ cast-count c = search needs
 loop-holds : tie.Need-loop-holds Inv-loop μ-loop
 loop-holds c = (search needs, all-none)
 
-mul-group : tie.Need-mul-group Inv-loop μ-loop
-mul-group c = omega arith
-
-element-copy-out-group : tie.Need-element-copy-out-group Inv-loop μ-loop
-element-copy-out-group c = omega arith
+group-at-requires : tie.Need-group-at-requires Inv-loop μ-loop
+group-at-requires c κs = search needs
 
 group-fits-requires : tie.Need-group-fits-requires Inv-loop μ-loop
-group-fits-requires c κs = search needs
+group-fits-requires c κs = (c .group-at .ensures .loads, c .group-at .ensures .stores)
 
 returns : tie.Need-returns Inv-loop μ-loop
 returns c =
-    let l = c .before .before .before in
-    all-stop (l .before .loop .inv .1) (here l) (sym (c .before .group-fits .ensures) ∙ not-true _ (c .if1 .taken))
+    let g = c .before .before in
+    all-stop (g .before .before .loop .inv .1) (here g) (sym (c .before .group-fits .ensures) ∙ not-true _ (c .if1 .taken))
 
 add-i : tie.Need-add-i Inv-loop μ-loop
 add-i c = omega arith
@@ -55,12 +51,12 @@ loop-less c = omega arith
 
 loop-again : tie.Need-loop-again Inv-loop μ-loop
 loop-again c =
-    let l = c .before .before .before in
-    (omega arith, all-on (l .before .loop .inv .1) (here l) (sym (c .before .group-fits .ensures) ∙ not-false _ (c .if1 .left)))
+    let g = c .before .before in
+    (omega arith, all-on (g .before .before .loop .inv .1) (here g) (sym (c .before .group-fits .ensures) ∙ not-false _ (c .if1 .left)))
 
 returns-2 : tie.Need-returns-2 Inv-loop μ-loop
 returns-2 c =
-    let t = c .before .before .args .t1 in
+    let t = c .before .before .before .args .table in
     all-end (c .before .loop .inv .1) (groups-end t (c .before .loop .i) (c .loop-test .left))
 
 pub groups-fit-spec : {M : Type 1} → statement M
@@ -71,8 +67,7 @@ groups-fit-spec =
     μ-loop
     cast-count
     loop-holds
-    mul-group
-    element-copy-out-group
+    group-at-requires
     group-fits-requires
     returns
     add-i

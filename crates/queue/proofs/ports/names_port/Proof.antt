@@ -14,15 +14,18 @@ use Rattle.queue.proofs.ports.names_port.Statement.{statement}
 use Rattle.queue.proofs.ports.names_port.Tie as tie
 
 abbrev Inv-loop : tie.InvT-loop
-Inv-loop port pairs count i₀ i = (i ≤ pairs .count) × NoneYet (isPort port) (listOf pairs) i
+Inv-loop port pairs first count i₀ i = (i ≤ pairs .count) × NoneYet (isPort port) (listOf pairs) i
 
 abbrev μ-loop : tie.MeasureT-loop
-μ-loop port pairs count i₀ i = count - i
+μ-loop port pairs first count i₀ i = count - i
 
-here : (c : tie.In-loop Inv-loop μ-loop) → drop (c .before .loop .i) (listOf (c .before .before .args .t1)) ≡ getD (c .before .before .args .t1 .places) (c .before .loop .i) blankPair ∷ drop (c .before .loop .i + 1) (listOf (c .before .before .args .t1))
+here : (c : tie.In-loop Inv-loop μ-loop) → drop (c .before .loop .i) (listOf (c .before .before .args .t1)) ≡ getD (c .before .before .args .t1 .places) (c .before .before .args .t1 .first + c .before .loop .i) blankPair ∷ drop (c .before .loop .i + 1) (listOf (c .before .before .args .t1))
 here c =
-    let e : length (c .before .before .args .t1 .places) ≡ 16 = search (needs, long) in
-    pairs-here (c .before .before .args .t1) (omega (arith, c .before .before .pre)) (c .before .loop .i) (c .loop-test .taken)
+    let e : length (c .before .before .args .t1 .places) ≡ 32 = search (needs, long) in
+    pairs-here (c .before .before .args .t1) e (c .before .before .pre) (c .before .loop .i) (c .loop-test .taken)
+
+cast-first : tie.Need-cast-first Inv-loop μ-loop
+cast-first c = search needs
 
 cast-count : tie.Need-cast-count Inv-loop μ-loop
 cast-count c = search needs
@@ -30,11 +33,14 @@ cast-count c = search needs
 loop-holds : tie.Need-loop-holds Inv-loop μ-loop
 loop-holds c = (search needs, none-none)
 
+add-pair : tie.Need-add-pair Inv-loop μ-loop
+add-pair c = omega (arith, c .before .before .pre)
+
 mul-pair : tie.Need-mul-pair Inv-loop μ-loop
-mul-pair c = omega arith
+mul-pair c = omega (arith, c .before .before .pre)
 
 element-copy-out-pair : tie.Need-element-copy-out-pair Inv-loop μ-loop
-element-copy-out-pair c = omega arith
+element-copy-out-pair c = omega (arith, c .before .before .pre)
 
 cast-if1 : tie.Need-cast-if1 Inv-loop μ-loop
 cast-if1 c = search needs
@@ -64,8 +70,10 @@ names-port-spec =
     (tie.spec
     Inv-loop
     μ-loop
+    cast-first
     cast-count
     loop-holds
+    add-pair
     mul-pair
     element-copy-out-pair
     cast-if1

@@ -6,8 +6,8 @@ use native.Mathlib.Omega.{arith}
 use borrow.Author.Tests.{not-true, not-false}
 use Rattle.table.specs.declared.Group.{Group}
 use Rattle.table.specs.Table.{countsRight, Seen}
-use Rattle.table.specs.Internal.{seenIn}
-use Rattle.table.proofs.CheckLaws.{counts-few, rising-checked, group-counts, group-loads, group-stores}
+use Rattle.table.specs.Internal.{seenIn, GroupInside}
+use Rattle.table.proofs.CheckLaws.{long, Sized, sized, counts-few, rising-checked, group-counts, group-loads, group-stores}
 use borrow.Author.Needs.{needs}
 use Rattle.table.proofs.check.check_group.Statement.{statement}
 use Rattle.table.proofs.check.check_group.Tie as tie
@@ -20,6 +20,12 @@ abbrev seenBefore : tie.After-counts-right → Seen
 seenBefore c =
     let a = c .before .before .before .before .args in
     seenIn (a .loads .now) (a .stores .now)
+
+pre : (c : tie.After-counts-right) → GroupInside (groupIn c)
+pre c = c .before .before .before .before .pre
+
+sizes : (c : tie.After-counts-right) → Sized (groupIn c)
+sizes c = sized (search (needs, long)) (search (needs, long)) (pre c)
 
 right : (c : tie.Else1) → countsRight (groupIn (c .before) .loads .count) (groupIn (c .before) .stores .count) ≡ true
 right c = sym (c .before .counts-right .ensures) ∙ not-false _ (c .if1 .left)
@@ -39,20 +45,21 @@ counts-right-requires c κs = search needs
 returns : tie.Need-returns
 returns c =
     record {
-      answer = group-counts (groupIn (c .before)) (seenBefore (c .before)) (sym (c .before .counts-right .ensures) ∙ not-true _ (c .if1 .taken));
+      answer = group-counts (groupIn (c .before)) (seenBefore (c .before)) (sizes (c .before)) (sym (c .before .counts-right .ensures) ∙ not-true _ (c .if1 .taken));
       marks = λ z. absurd (omega arith);
     }
 
 check-pairs-requires : tie.Need-check-pairs-requires
 check-pairs-requires c κs =
     let f = few (c .before) in
-    (record { few = f .0; few-stores = f .1; rising = λ e. absurd (false≢true e) }, f .0)
+    let i = pre (c .before .before) in
+    (record { inside = i .0; few = f .0; few-stores = f .1; rising = λ e. absurd (false≢true e) }, i .0)
 
 returns-2 : tie.Need-returns-2
 returns-2 c =
     let e = c .before .before .before in
     record {
-      answer = group-loads (groupIn (e .before)) (seenBefore (e .before)) (right e) (c .before .check-pairs .ensures .answer) (c .if2 .taken);
+      answer = group-loads (groupIn (e .before)) (seenBefore (e .before)) (sizes (e .before)) (right e) (c .before .check-pairs .ensures .answer) (c .if2 .taken);
       marks = λ z. absurd (c .if2 .taken z);
     }
 
@@ -60,7 +67,8 @@ check-pairs-requires-2 : tie.Need-check-pairs-requires-2
 check-pairs-requires-2 c κs =
     let p = c .before .before in
     let f = few (p .before .before) in
-    (record { few = f .0; few-stores = f .1; rising = λ e. rising-checked _ _ _ _ _ (sym (p .check-pairs .ensures .answer) ∙ c .before .if2 .left) }, f .1)
+    let i = pre (p .before .before .before) in
+    (record { inside = i .0; few = f .0; few-stores = f .1; rising = λ e. rising-checked _ _ _ _ _ (sym (p .check-pairs .ensures .answer) ∙ c .before .if2 .left) }, i .1)
 
 returns-3 : tie.Need-returns-3
 returns-3 c =
@@ -68,7 +76,7 @@ returns-3 c =
     let e = p .before .before in
     let d = c .before .before .if2 .left in
     record {
-      answer = group-stores (groupIn (e .before)) (seenBefore (e .before)) (right e) (sym (p .check-pairs .ensures .answer) ∙ d) (c .check-pairs2 .ensures .answer);
+      answer = group-stores (groupIn (e .before)) (seenBefore (e .before)) (sizes (e .before)) (right e) (sym (p .check-pairs .ensures .answer) ∙ d) (c .check-pairs2 .ensures .answer);
       marks = λ z. rw (p .check-pairs .ensures .marks d, c .check-pairs2 .ensures .marks z);
     }
 

@@ -1,5 +1,5 @@
 -- The pairs passed have no fault; what is left to check is the rest, with the marks and the last offset so far.
-use Prim.Native.Nat.{ℕ, _≤_, _<_, _-_}
+use Prim.Native.Nat.{ℕ, _+_, _≤_, _<_, _-_}
 use mathlib.Core.Path.{_≡_, sym, ap, _∙_}
 use mathlib.Core.Bool.{Bool}
 use native.Mathlib.Omega.{arith}
@@ -9,31 +9,33 @@ use Rattle.table.specs.declared.Pair.{Pair}
 use Rattle.table.specs.Group.{listOf, blankPair}
 use Rattle.table.specs.Table.{pairFault}
 use Rattle.table.specs.Internal.{ruleOf}
-use Rattle.table.proofs.CheckLaws.{long, held-length, held-at, fault-none, Checking, checking-none, checking-stop, checking-more, checking-end}
+use Rattle.table.proofs.CheckLaws.{long, view-length, view-at, fault-none, Checking, checking-none, checking-stop, checking-more, checking-end}
 use Rattle.table.proofs.check.check_pairs.Statement.{statement}
 use Rattle.table.proofs.check.check_pairs.Tie as tie
 
 abbrev Inv-loop : tie.InvT-loop
-Inv-loop storing stores loads seen₀ pairs count low₀ i₀ seen low i = (i ≤ count) × Checking (ruleOf storing stores loads) seen₀ (listOf pairs) i low seen
+Inv-loop storing stores loads seen₀ pairs first count low₀ i₀ seen low i = (i ≤ count) × Checking (ruleOf storing stores loads) seen₀ (listOf pairs) i low seen
 
 abbrev μ-loop : tie.MeasureT-loop
-μ-loop storing stores loads seen₀ pairs count low₀ i₀ seen low i = count - i
+μ-loop storing stores loads seen₀ pairs first count low₀ i₀ seen low i = count - i
 
-whole : (c : tie.Start Inv-loop μ-loop) → c .args .t4 .count ≤ length (c .args .t4 .places)
-whole c =
-    let e : length (c .args .t4 .places) ≡ 16 = search (needs, long) in
-    omega (arith, c .pre .1)
+whole : (c : tie.Start Inv-loop μ-loop) → length (c .args .t4 .places) ≡ 32
+whole c = search (needs, long)
 
 size : (c : tie.Start Inv-loop μ-loop) → length (listOf (c .args .t4)) ≡ c .args .t4 .count
-size c = held-length _ _ _
+size c = view-length (c .args .t4) (whole c) (c .pre .1)
 
 -- the pair that a turn looks at
 abbrev pairOf : tie.In-loop Inv-loop μ-loop → Pair
-pairOf l = getD (l .before .before .args .t4 .places) (l .before .loop .i) blankPair
+pairOf l =
+    let ps = l .before .before .args .t4 in
+    getD (ps .places) (ps .first + l .before .loop .i) blankPair
 
 -- it is the list's
 this : (l : tie.In-loop Inv-loop μ-loop) → getD (listOf (l .before .before .args .t4)) (l .before .loop .i) blankPair ≡ pairOf l
-this l = held-at _ _ _ (whole (l .before .before)) _ _ (l .loop-test .taken)
+this l =
+    let s = l .before .before in
+    view-at (s .args .t4) (whole s) (s .pre .1) (l .before .loop .i) (l .loop-test .taken)
 
 inside : (l : tie.In-loop Inv-loop μ-loop) → l .before .loop .i < length (listOf (l .before .before .args .t4))
 inside l = omega (arith, size (l .before .before), l .loop-test .taken)
@@ -61,17 +63,23 @@ port-low c =
     let l = turn (c .before) in
     fault-none (rightOf l) (l .before .loop .seen) (pairOf l .port) (no-fault c) .1
 
+cast-first : tie.Need-cast-first Inv-loop μ-loop
+cast-first c = search needs
+
 cast-count : tie.Need-cast-count Inv-loop μ-loop
 cast-count c = search needs
 
 loop-holds : tie.Need-loop-holds Inv-loop μ-loop
 loop-holds c = (search needs, checking-none)
 
+add-pair : tie.Need-add-pair Inv-loop μ-loop
+add-pair c = omega (arith, c .before .before .pre .1)
+
 mul-pair : tie.Need-mul-pair Inv-loop μ-loop
-mul-pair c = omega arith
+mul-pair c = omega (arith, c .before .before .pre .1)
 
 element-copy-out-pair : tie.Need-element-copy-out-pair Inv-loop μ-loop
-element-copy-out-pair c = omega arith
+element-copy-out-pair c = omega (arith, c .before .before .pre .1)
 
 cast-port : tie.Need-cast-port Inv-loop μ-loop
 cast-port c = search needs
@@ -124,8 +132,10 @@ check-pairs-spec =
     (tie.spec
     Inv-loop
     μ-loop
+    cast-first
     cast-count
     loop-holds
+    add-pair
     mul-pair
     element-copy-out-pair
     cast-port

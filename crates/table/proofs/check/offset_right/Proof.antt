@@ -8,7 +8,7 @@ use Rattle.table.proofs.check.offset_right.Statement.{statement}
 use Rattle.table.proofs.check.offset_right.Tie as tie
 
 more-before-requires : tie.Need-more-before-requires
-more-before-requires c κs = let s = c .before in (s .pre .few, s .pre .rising (c .if1 .taken))
+more-before-requires c κs = let s = c .before in (s .pre .inside, s .pre .rising (c .if1 .taken))
 
 returns : tie.Need-returns
 returns c =
@@ -22,7 +22,7 @@ sub-more-before : tie.Need-sub-more-before
 sub-more-before c = search needs
 
 more-before-requires-2 : tie.Need-more-before-requires-2
-more-before-requires-2 c κs = let t = c .before .before .before in (t .before .pre .few, t .before .pre .rising (t .if1 .taken))
+more-before-requires-2 c κs = let t = c .before .before .before in (t .before .pre .inside, t .before .pre .rising (t .if1 .taken))
 
 returns-3 : tie.Need-returns-3
 returns-3 c = let m = c .before .before .before in rw (m .before .if1 .taken) (c .more-before2 .ensures ∙ agrees-some _ _ (sym (m .more-before .ensures) ∙ c .before .before .if2 .left) (c .before .if3 .left))

@@ -5,7 +5,6 @@ use mathlib.Core.Bool.{true, false≢true}
 use native.Mathlib.Omega.{arith}
 use lib.ListN.{length, drop}
 use borrow.Author.Tests.{not-true, not-false}
-use Rattle.table.specs.declared.Pairs.{Pairs}
 use Rattle.table.specs.Table.{loadRule, pairsFault, countsRight}
 use Rattle.table.specs.TableBytes.{readPairs}
 use Rattle.table.specs.Internal.{twoRefusal, seenOf, group-none, group-found}
@@ -66,7 +65,7 @@ cast-few-stores c = omega (arith, few (c .before) .1)
 read-pairs-requires : tie.Need-read-pairs-requires
 read-pairs-requires c κs =
     let e = c .before .before in
-    (few e .0, counts (e .before .before .before) .inside, record { few = omega (arith, ap (λ (p : Pairs). p .count) (c .before .no-pairs .ensures)); few-stores = few e .1; rising = λ z. absurd (false≢true z) })
+    (few e .0, counts (e .before .before .before) .inside, record { inside = rw (c .before .no-pairs .ensures) (omega arith); few = rw (c .before .no-pairs .ensures) (omega arith); few-stores = few e .1; rising = λ z. absurd (false≢true z) })
 
 no-group-requires-3 : tie.Need-no-group-requires-3
 no-group-requires-3 c κs = search needs
@@ -94,9 +93,10 @@ read-pairs-requires-2 c κs =
       few e .1,
       loads l .told .inside,
       record {
-        few = omega (arith, ap (λ (p : Pairs). p .count) (loads l .told .pairs), loads-few l);
+        inside = rw (loads l .told .pairs) (omega (arith, loads-few l));
+        few = rw (loads l .told .pairs) (loads-few l);
         few-stores = few e .1;
-        rising = λ z. rw (store-rule (loads l .told) (loads-few l)) (rising-checked _ _ _ _ _ (loads-right l .0));
+        rising = λ z. rw (store-rule (loads l .told)) (rising-checked _ _ _ _ _ (loads-right l .0));
       },
     )
 
@@ -107,7 +107,7 @@ returns-4 : tie.Need-returns-4
 returns-4 c =
     let l = c .before .before .before .before .before .before in
     let e = c .before .before .before .before .before .before .before .before .before .before .before in
-    rw (group-stores-bad _ _ (seenOf (e .before .before .before .before .before .before .before .args .seen)) (counts (e .before .before .before)) (right e) (loads l .is) (same-stores (loads l .told) (loads-few l) _ _ ∙ pairs-bad (c .before .before .before .read-pairs2 .ensures) (c .before .if3 .taken)))
+    rw (group-stores-bad _ _ (seenOf (e .before .before .before .before .before .before .before .args .seen)) (counts (e .before .before .before)) (right e) (loads l .is) (same-stores (loads l .told) _ _ ∙ pairs-bad (c .before .before .before .read-pairs2 .ensures) (c .before .if3 .taken)))
     (group-none (record { is = c .no-group4 .ensures; some = c .before .if3 .taken }))
 
 returns-5 : tie.Need-returns-5
@@ -115,7 +115,7 @@ returns-5 c =
     let l = c .before .before .before .before .before .before .before .before in
     let e = c .before .before .before .before .before .before .before .before .before .before .before .before .before in
     let t = pairs-got (c .before .before .before .before .before .read-pairs2 .ensures) (c .before .before .before .if3 .left) in
-    rw (group-read _ _ (seenOf (e .before .before .before .before .before .before .before .args .seen)) (counts (e .before .before .before)) (right e) (loads l .is) (same-stores (loads l .told) (loads-few l) _ _ ∙ t .is))
+    rw (group-read _ _ (seenOf (e .before .before .before .before .before .before .before .args .seen)) (counts (e .before .before .before)) (right e) (loads l .is) (same-stores (loads l .told) _ _ ∙ t .is))
     (group-found (group-made {seen = seenOf (e .before .before .before .before .before .before .before .args .seen)} (loads l .told) (t .told)))
 
 pub read-group-spec : {M : Type 1} → statement M

@@ -1,25 +1,28 @@
--- i groups have been read into the array; what is left to read is the rest, with the ports seen so far.
-use Prim.Native.Nat.{ℕ, _≤_, _<_, _-_}
-use mathlib.Core.Path.{_≡_, refl, sym, ap, _∙_}
+-- i groups have been read into the table; what is left to read is the rest, with the ports seen so far.
+use Prim.Native.Nat.{_≤_, _-_}
+use mathlib.Core.Path.{_≡_, refl}
 use native.Mathlib.Omega.{arith}
+use lib.ListN.{drop}
 use borrow.Author.Needs.{needs}
-use Rattle.table.specs.declared.Table.{Table}
-use Rattle.table.specs.Internal.{seenOf, groups-none, groups-found}
-use Rattle.table.proofs.ReadLaws.{group-bad, group-got, Gathering, gathering-none, gathering-refused, gathering-more, gathering-end}
+use Rattle.table.specs.Table.{groupFault}
+use Rattle.table.specs.TableBytes.{readGroup}
+use Rattle.table.specs.Internal.{seenOf, Growing, groups-none, groups-found}
+use Rattle.table.proofs.ReadLaws.{group-bad, GroupGot, group-got, Gathering, gathering-none, gathering-refused, gathering-room, gathering-more, gathering-end}
+use Rattle.table.proofs.RoundTrip.{put-group}
 use Rattle.table.proofs.read.read_groups.Statement.{statement}
 use Rattle.table.proofs.read.read_groups.Tie as tie
 
 abbrev Inv-loop : tie.InvT-loop
-Inv-loop bytes at count table₀ seen₀ place₀ i₀ table seen place i = (i ≤ count) × Gathering count bytes at i (seenOf seen) place (table .groups)
+Inv-loop bytes at count table₀ loads₀ stores₀ seen₀ place₀ i₀ table loads stores seen place i = (i ≤ count) × Gathering count bytes at i (seenOf seen) place table loads stores
 
 abbrev μ-loop : tie.MeasureT-loop
-μ-loop bytes at count table₀ seen₀ place₀ i₀ table seen place i = count - i
+μ-loop bytes at count table₀ loads₀ stores₀ seen₀ place₀ i₀ table loads stores seen place i = count - i
 
 no-table-requires : tie.Need-no-table-requires Inv-loop μ-loop
 no-table-requires c κs = search needs
 
 loop-holds : tie.Need-loop-holds Inv-loop μ-loop
-loop-holds c = (search needs, gathering-none (c .before .before .pre .1) (ap (λ (t : Table). t .groups) (c .no-table .ensures)))
+loop-holds c = (search needs, gathering-none (c .before .before .pre .1) (c .no-table .ensures))
 
 read-group-requires : tie.Need-read-group-requires Inv-loop μ-loop
 read-group-requires c κs = search needs
@@ -30,14 +33,26 @@ returns c =
     let l = k .before in
     rw (gathering-refused (l .before .loop .inv .1) (l .loop-test .taken) (group-bad (k .read-group .ensures) (c .if1 .taken))) (groups-none (record { is = refl; some = c .if1 .taken }))
 
-cast-group : tie.Need-cast-group Inv-loop μ-loop
-cast-group c = omega arith
+-- the group that was read, for which there is room
+group : (c : tie.Else1 Inv-loop μ-loop) → let l = c .before .before .before .before in let s = l .before .before .before .args .bytes .now in GroupGot s (seenOf (l .loop .seen)) (readGroup (seenOf (l .loop .seen)) (drop (l .loop .place) s)) (c .before .before .read-group .result)
+group c = group-got (c .before .before .read-group .ensures) (c .if1 .left)
 
-mul-group : tie.Need-mul-group Inv-loop μ-loop
-mul-group c = omega arith
+right : (c : tie.Else1 Inv-loop μ-loop) → groupFault (seenOf (c .before .before .before .before .loop .seen)) (group c .group) ≡ 0
+right c = put-group _ _ _ _ (group c .is) .right
 
-element-set-from-group : tie.Need-element-set-from-group Inv-loop μ-loop
-element-set-from-group c = omega arith
+room : (c : tie.Else1 Inv-loop μ-loop) → let l = c .before .before .before .before in Growing (l .loop .table) (l .loop .loads) (l .loop .stores) (c .before .before .read-group .result .group)
+room c =
+    let l = c .before .before .before in
+    gathering-room (l .before .loop .inv .1) (l .loop-test .taken) (l .before .before .before .before .pre .0) (group c) (right c)
+
+with-group-requires : tie.Need-with-group-requires Inv-loop μ-loop
+with-group-requires c κs = room (c .before)
+
+add-loads : tie.Need-add-loads Inv-loop μ-loop
+add-loads c = omega (arith, room (c .before .before .before .before .before) .loads-room)
+
+add-stores : tie.Need-add-stores Inv-loop μ-loop
+add-stores c = omega (arith, room (c .before .before .before .before .before .before) .stores-room)
 
 add-i : tie.Need-add-i Inv-loop μ-loop
 add-i c = omega arith
@@ -47,18 +62,15 @@ loop-less c = omega arith
 
 loop-again : tie.Need-loop-again Inv-loop μ-loop
 loop-again c =
-    let e = c .before .before in
-    let k = e .before .before in
-    let l = k .before in
-    (omega arith, gathering-more (l .before .loop .inv .1) (l .loop-test .taken) (l .before .before .before .before .pre .0) (group-got (k .read-group .ensures) (e .if1 .left)))
-
-cast-table : tie.Need-cast-table Inv-loop μ-loop
-cast-table c = omega arith
+    let t = c .before .before .before .before .before in
+    let e = t .before .before in
+    let l = e .before .before .before in
+    (omega arith, gathering-more (l .before .loop .inv .1) (l .loop-test .taken) (l .before .before .before .before .pre .0) (group e) (right e) (t .with-group .ensures))
 
 returns-2 : tie.Need-returns-2 Inv-loop μ-loop
 returns-2 c =
     let w = c .before .loop .inv in
-    let e = gathering-end (w .1) (c .loop-test .left) (w .0) in
+    let e = gathering-end (w .1) (c .loop-test .left) in
     rw (e .0) (groups-found (record { answer = refl; table = e .1; rest-is = refl; inside = w .1 .inside }))
 
 pub read-groups-spec : {M : Type 1} → statement M
@@ -71,11 +83,10 @@ read-groups-spec =
     loop-holds
     read-group-requires
     returns
-    cast-group
-    mul-group
-    element-set-from-group
+    with-group-requires
+    add-loads
+    add-stores
     add-i
     loop-less
     loop-again
-    cast-table
     returns-2)

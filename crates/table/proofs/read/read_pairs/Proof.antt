@@ -13,7 +13,7 @@ use Rattle.table.proofs.read.read_pairs.Statement.{statement}
 use Rattle.table.proofs.read.read_pairs.Tie as tie
 
 abbrev Inv-loop : tie.InvT-loop
-Inv-loop bytes at count storing stores loads pairs₀ marks₀ low₀ place₀ i₀ pairs marks low place i = (i ≤ count) × Reading (ruleOf storing stores loads) count marks₀ bytes at i low marks place (pairs .places)
+Inv-loop bytes at count storing stores loads pairs₀ marks₀ low₀ place₀ i₀ pairs marks low place i = (i ≤ count) × Reading (ruleOf storing stores loads) count marks₀ bytes at i low marks place (pairs .places) × (pairs .first ≡ 0)
 
 abbrev μ-loop : tie.MeasureT-loop
 μ-loop bytes at count storing stores loads pairs₀ marks₀ low₀ place₀ i₀ pairs marks low place i = count - i
@@ -22,7 +22,7 @@ no-pairs-requires : tie.Need-no-pairs-requires Inv-loop μ-loop
 no-pairs-requires c κs = search needs
 
 loop-holds : tie.Need-loop-holds Inv-loop μ-loop
-loop-holds c = (search needs, reading-none (c .before .before .pre .1) (ap (λ (p : Pairs). p .places) (c .no-pairs .ensures)))
+loop-holds c = (search needs, reading-none (c .before .before .pre .1) (ap (λ (p : Pairs). p .places) (c .no-pairs .ensures)), ap (λ (p : Pairs). p .first) (c .no-pairs .ensures))
 
 read-two-requires : tie.Need-read-two-requires Inv-loop μ-loop
 read-two-requires c κs = search needs
@@ -116,7 +116,7 @@ loop-again : tie.Need-loop-again Inv-loop μ-loop
 loop-again c =
     let g = turn (c .before) in
     let l = g .before .before .before in
-    (omega arith, reading-more (l .before .loop .inv .1) (l .loop-test .taken) (two g) (l .before .before .before .before .pre .0) (no-fault c))
+    (omega arith, reading-more (l .before .loop .inv .1) (l .loop-test .taken) (two g) (l .before .before .before .before .pre .0) (no-fault c), l .before .loop .inv .2)
 
 cast-pairs : tie.Need-cast-pairs Inv-loop μ-loop
 cast-pairs c = omega arith
@@ -128,7 +128,7 @@ returns-3 c =
     let e = reading-end w (a .pre .0) (c .loop-test .left) (c .before .loop .inv .0) in
     pairs-found (e .0) (record {
       answer = refl;
-      pairs = packed _ _ _ (omega (arith, c .loop-test .left, c .before .loop .inv .0)) (e .1) (e .2);
+      pairs = packed _ _ _ _ (c .before .loop .inv .2) (omega (arith, c .loop-test .left, c .before .loop .inv .0)) (e .1) (e .2);
       marks = w .marks-are;
       rest-is = refl;
       inside = w .inside;

@@ -1,14 +1,14 @@
 use Prim.Native.Nat.{_≤_}
-use mathlib.Core.Path.{_≡_, refl, sym, ap, _∙_}
 use native.Mathlib.Omega.{arith}
-use lib.ListN.{length}
-use Rattle.table.specs.Group.{listOf, pairsOf}
-use Rattle.table.proofs.CheckLaws.{held-length}
+use Rattle.table.proofs.CheckLaws.{long, Sized, sized}
 use Rattle.table.proofs.SpliceLaws.{bytes-most}
-use Rattle.table.proofs.WriteLaws.{group-length}
+use Rattle.table.proofs.WriteLaws.{group-bytes}
 use borrow.Author.Needs.{needs}
 use Rattle.table.proofs.write.group_length.Statement.{statement}
 use Rattle.table.proofs.write.group_length.Tie as tie
+
+sizes : (c : tie.Start) → Sized (c .args .group)
+sizes c = sized (search (needs, long)) (search (needs, long)) (c .pre)
 
 cast-number-length : tie.Need-cast-number-length
 cast-number-length c = search needs
@@ -31,13 +31,13 @@ add-counts : tie.Need-add-counts
 add-counts c = omega (arith, five c .0, five c .1)
 
 pairs-length-requires : tie.Need-pairs-length-requires
-pairs-length-requires c κs = c .before .before .before .before .before .before .pre .loads
+pairs-length-requires c κs = c .before .before .before .before .before .before .pre .0
 
 add-result : tie.Need-add-result
 add-result c = omega (arith, five (c .before) .0, five (c .before) .1, c .pairs-length .ensures .1)
 
 pairs-length-requires-2 : tie.Need-pairs-length-requires-2
-pairs-length-requires-2 c κs = c .before .before .before .before .before .before .before .pre .stores
+pairs-length-requires-2 c κs = c .before .before .before .before .before .before .before .pre .1
 
 add-result-2 : tie.Need-add-result-2
 add-result-2 c = omega (arith, five (c .before .before) .0, five (c .before .before) .1, c .before .pairs-length .ensures .1, c .pairs-length2 .ensures .1)
@@ -45,10 +45,8 @@ add-result-2 c = omega (arith, five (c .before .before) .0, five (c .before .bef
 returns : tie.Need-returns
 returns c =
     let n = c .before .before in
-    let g = n .before .before .before .before .before .before .args .group in
-    let a : length (listOf (g .loads)) ≡ g .loads .count = held-length _ _ _ in
-    let b : length (listOf (g .stores)) ≡ g .stores .count = held-length _ _ _ in
-    (rw (group-length (pairsOf g), a, b) (omega (arith, n .before .before .number-length .ensures .1, n .number-length2 .ensures .1, c .before .pairs-length .ensures .0, c .pairs-length2 .ensures .0)), omega (arith, five n .0, five n .1, c .before .pairs-length .ensures .1, c .pairs-length2 .ensures .1))
+    let s = n .before .before .before .before .before .before in
+    (rw (group-bytes (s .args .group) (sizes s)) (omega (arith, n .before .before .number-length .ensures .1, n .number-length2 .ensures .1, c .before .pairs-length .ensures .0, c .pairs-length2 .ensures .0)), omega (arith, five n .0, five n .1, c .before .pairs-length .ensures .1, c .pairs-length2 .ensures .1))
 
 pub group-length-spec : {M : Type 1} → statement M
 group-length-spec =

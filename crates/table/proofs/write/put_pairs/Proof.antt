@@ -1,43 +1,52 @@
-use Prim.Native.Nat.{ℕ, _≤_, _<_, _+_, _-_}
-use mathlib.Core.Path.{_≡_, refl, sym, ap, _∙_}
+use Prim.Native.Nat.{_≤_, _+_, _-_}
+use mathlib.Core.Path.{_≡_, _∙_}
 use native.Mathlib.Omega.{arith}
 use lib.ListN.{length, getD, take}
 use lib.Seq.{take-all}
 use borrow.Author.Needs.{needs}
+use Rattle.table.specs.declared.Pair.{Pair}
 use Rattle.table.specs.Basics.{flat}
 use Rattle.table.specs.Number.{bytesOf, numberBytes}
 use Rattle.table.specs.Group.{listOf, blankPair}
 use Rattle.table.specs.TableBytes.{pairNumbers}
-use Rattle.table.proofs.CheckLaws.{long, held-length, held-at}
+use Rattle.table.proofs.CheckLaws.{long, view-length, view-at}
 use Rattle.table.proofs.SpliceLaws.{Put, put-none, put-length, put-two}
 use Rattle.table.proofs.WriteLaws.{flat-next, flat-room, pair-length}
 use Rattle.table.proofs.write.put_pairs.Statement.{statement}
 use Rattle.table.proofs.write.put_pairs.Tie as tie
 
 abbrev Inv-loop : tie.InvT-loop
-Inv-loop out₀ at pairs count place₀ i₀ out place i = (i ≤ count) × Put out₀ at (flat pairNumbers (take i (listOf pairs))) out place
+Inv-loop out₀ at pairs first count place₀ i₀ out place i = (i ≤ count) × Put out₀ at (flat pairNumbers (take i (listOf pairs))) out place
 
 abbrev μ-loop : tie.MeasureT-loop
-μ-loop out₀ at pairs count place₀ i₀ out place i = count - i
+μ-loop out₀ at pairs first count place₀ i₀ out place i = count - i
 
-whole : (c : tie.Start Inv-loop μ-loop) → c .args .t1 .count ≤ length (c .args .t1 .places)
-whole c =
-    let e : length (c .args .t1 .places) ≡ 16 = search (needs, long) in
-    omega (arith, c .pre .0)
+whole : (c : tie.Start Inv-loop μ-loop) → length (c .args .t1 .places) ≡ 32
+whole c = search (needs, long)
 
 size : (c : tie.Start Inv-loop μ-loop) → length (listOf (c .args .t1)) ≡ c .args .t1 .count
-size c = held-length _ _ _
+size c = view-length (c .args .t1) (whole c) (c .pre .0)
 
-this : (c : tie.In-loop Inv-loop μ-loop) → getD (listOf (c .before .before .before .args .t1)) (c .before .loop .i) blankPair ≡ getD (c .before .before .before .args .t1 .places) (c .before .loop .i) blankPair
-this c = held-at _ _ _ (whole (c .before .before .before)) _ _ (c .loop-test .taken)
+-- the pair that a turn puts, and that it is the list's
+abbrev pairOf : tie.In-loop Inv-loop μ-loop → Pair
+pairOf c =
+    let ps = c .before .before .before .args .t1 in
+    getD (ps .places) (ps .first + c .before .loop .i) blankPair
+
+this : (c : tie.In-loop Inv-loop μ-loop) → getD (listOf (c .before .before .before .args .t1)) (c .before .loop .i) blankPair ≡ pairOf c
+this c =
+    let s = c .before .before .before in
+    view-at (s .args .t1) (whole s) (s .pre .0) (c .before .loop .i) (c .loop-test .taken)
 
 -- there is room for the next pair
-room : (c : tie.In-loop Inv-loop μ-loop) → c .before .before .before .args .at + (length (bytesOf (flat pairNumbers (take (c .before .loop .i) (listOf (c .before .before .before .args .t1))))) + (length (numberBytes (getD (c .before .before .before .args .t1 .places) (c .before .loop .i) blankPair .offset)) + length (numberBytes (getD (c .before .before .before .args .t1 .places) (c .before .loop .i) blankPair .port)))) ≤ length (c .before .before .before .args .out .now)
+room : (c : tie.In-loop Inv-loop μ-loop) → c .before .before .before .args .at + (length (bytesOf (flat pairNumbers (take (c .before .loop .i) (listOf (c .before .before .before .args .t1))))) + (length (numberBytes (pairOf c .offset)) + length (numberBytes (pairOf c .port)))) ≤ length (c .before .before .before .args .out .now)
 room c =
     let s = c .before .before .before in
-    let p = getD (s .args .t1 .places) (c .before .loop .i) blankPair in
-    let f = rw (this c, pair-length p) at (flat-room pairNumbers (listOf (s .args .t1)) (c .before .loop .i) blankPair (omega (arith, size s, c .loop-test .taken))) in
+    let f = rw (this c, pair-length (pairOf c)) at (flat-room pairNumbers (listOf (s .args .t1)) (c .before .loop .i) blankPair (omega (arith, size s, c .loop-test .taken))) in
     omega (arith, f, s .pre .1)
+
+cast-first : tie.Need-cast-first Inv-loop μ-loop
+cast-first c = search needs
 
 cast-count : tie.Need-cast-count Inv-loop μ-loop
 cast-count c = search needs
@@ -45,11 +54,14 @@ cast-count c = search needs
 loop-holds : tie.Need-loop-holds Inv-loop μ-loop
 loop-holds c = (search needs, put-none)
 
+add-pair : tie.Need-add-pair Inv-loop μ-loop
+add-pair c = omega (arith, c .before .before .before .pre .0)
+
 mul-pair : tie.Need-mul-pair Inv-loop μ-loop
-mul-pair c = omega arith
+mul-pair c = omega (arith, c .before .before .before .pre .0)
 
 element-copy-out-pair : tie.Need-element-copy-out-pair Inv-loop μ-loop
-element-copy-out-pair c = omega arith
+element-copy-out-pair c = omega (arith, c .before .before .before .pre .0)
 
 cast-put-number : tie.Need-cast-put-number Inv-loop μ-loop
 cast-put-number c = search needs
@@ -61,7 +73,7 @@ put-number-requires c κs =
     omega (arith, room l, w .ends, put-length w (omega (arith, room l)))
 
 -- where the offset ends
-first-ends : (c : tie.After-put-number Inv-loop μ-loop) → (length (c .put-number .last .0) ≡ length (c .before .before .before .before .before .before .before .args .out .now)) × (c .put-number .result ≡ c .before .before .before .before .before .before .before .args .at + length (bytesOf (flat pairNumbers (take (c .before .before .before .before .before .loop .i) (listOf (c .before .before .before .before .before .before .before .args .t1))))) + length (numberBytes (getD (c .before .before .before .before .before .before .before .args .t1 .places) (c .before .before .before .before .before .loop .i) blankPair .offset)))
+first-ends : (c : tie.After-put-number Inv-loop μ-loop) → (length (c .put-number .last .0) ≡ length (c .before .before .before .before .before .before .before .args .out .now)) × (c .put-number .result ≡ c .before .before .before .before .before .before .before .args .at + length (bytesOf (flat pairNumbers (take (c .before .before .before .before .before .loop .i) (listOf (c .before .before .before .before .before .before .before .args .t1))))) + length (numberBytes (pairOf (c .before .before .before .before) .offset)))
 first-ends c =
     let l = c .before .before .before .before in
     let w = l .before .loop .inv .1 in
@@ -88,7 +100,7 @@ loop-again c =
     let l = n .before .before .before .before in
     let s = l .before .before .before in
     let i = l .before .loop .i in
-    let p = getD (s .args .t1 .places) i blankPair in
+    let p = pairOf l in
     let q = flat-next pairNumbers (listOf (s .args .t1)) i blankPair (omega (arith, size s, l .loop-test .taken)) in
     (omega arith, rw (q, this l) (put-two (l .before .loop .inv .1) (p .offset) (p .port) (omega (arith, room l)) (n .put-number .ensures .1) (n .put-number .ensures .0) (m .put-number2 .ensures .1) (m .put-number2 .ensures .0)))
 
@@ -108,8 +120,10 @@ put-pairs-spec =
     (tie.spec
     Inv-loop
     μ-loop
+    cast-first
     cast-count
     loop-holds
+    add-pair
     mul-pair
     element-copy-out-pair
     cast-put-number

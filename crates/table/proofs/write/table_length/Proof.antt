@@ -1,11 +1,10 @@
-use Prim.Native.Nat.{ℕ, _≤_, _<_, _+_, _*_, _-_}
-use mathlib.Core.Path.{_≡_, refl, sym, ap, _∙_}
+use Prim.Native.Nat.{_≤_, _*_, _-_}
+use mathlib.Core.Path.{_≡_}
 use native.Mathlib.Omega.{arith}
-use lib.ListN.{length, getD}
+use lib.ListN.{length}
 use borrow.Author.Needs.{needs}
-use Rattle.table.specs.Number.{numberBytes, bytesOf}
 use Rattle.table.specs.Group.{pairsOf}
-use Rattle.table.specs.Table.{blankGroup, groupsOf}
+use Rattle.table.specs.Table.{groupsOf}
 use Rattle.table.specs.TableBytes.{groupNumbers}
 use Rattle.table.proofs.CheckLaws.{long, groups-size, group-at}
 use Rattle.table.proofs.SpliceLaws.{bytes-most}
@@ -14,15 +13,15 @@ use Rattle.table.proofs.write.table_length.Statement.{statement}
 use Rattle.table.proofs.write.table_length.Tie as tie
 
 abbrev Inv-loop : tie.InvT-loop
-Inv-loop table count total₀ i₀ total i = (i ≤ count) × (total ≤ 330 * i) × Tallied groupNumbers (groupsOf table) i total
+Inv-loop table count total₀ i₀ total i = (i ≤ count) × (total ≤ 650 * i) × Tallied groupNumbers (groupsOf table) i total
 
 abbrev μ-loop : tie.MeasureT-loop
 μ-loop table count total₀ i₀ total i = count - i
 
-whole : (c : tie.Start Inv-loop μ-loop) → c .args .t1 .count ≤ length (c .args .t1 .groups)
+whole : (c : tie.Start Inv-loop μ-loop) → c .args .table .count ≤ length (c .args .table .groups)
 whole c =
-    let e : length (c .args .t1 .groups) ≡ 16 = search (needs, long) in
-    omega (arith, c .pre .groups)
+    let e : length (c .args .table .groups) ≡ 16 = search (needs, long) in
+    omega (arith, c .pre)
 
 cast-count : tie.Need-cast-count Inv-loop μ-loop
 cast-count c = search needs
@@ -30,34 +29,33 @@ cast-count c = search needs
 loop-holds : tie.Need-loop-holds Inv-loop μ-loop
 loop-holds c = (search needs, search needs, tallied-none)
 
-mul-group : tie.Need-mul-group Inv-loop μ-loop
-mul-group c = omega (arith, c .before .before .pre .groups)
-
-element-copy-out-group : tie.Need-element-copy-out-group Inv-loop μ-loop
-element-copy-out-group c = omega (arith, c .before .before .pre .groups)
+group-at-requires : tie.Need-group-at-requires Inv-loop μ-loop
+group-at-requires c κs = search needs
 
 group-length-requires : tie.Need-group-length-requires Inv-loop μ-loop
 group-length-requires c κs =
-    let l = c .before in
-    l .before .before .pre .each (l .before .loop .i) (l .loop-test .taken)
+    let g = c .group-at .ensures in
+    (g .loads, g .stores)
 
 add-total : tie.Need-add-total Inv-loop μ-loop
-add-total c = omega (arith, c .group-length .ensures .1, c .before .before .before .before .pre .groups)
+add-total c = omega (arith, c .group-length .ensures .1, c .before .before .before .before .before .pre)
 
 add-i : tie.Need-add-i Inv-loop μ-loop
-add-i c = omega (arith, c .before .before .before .before .pre .groups)
+add-i c = omega (arith, c .before .before .before .before .before .pre)
 
 loop-less : tie.Need-loop-less Inv-loop μ-loop
 loop-less c = omega arith
 
 loop-again : tie.Need-loop-again Inv-loop μ-loop
 loop-again c =
-    let l = c .before .before in
-    let s = l .before .before in
-    let t = s .args .t1 in
+    let k = c .before in
+    let l = k .before in
+    let s = l .before .before .before in
+    let t = s .args .table in
     let i = l .before .loop .i in
-    let e = group-at t (whole s) i (l .loop-test .taken) in
-    (omega arith, omega (arith, c .group-length .ensures .1), tallied-more (l .before .loop .inv .2) (pairsOf blankGroup) (omega (arith, groups-size t, l .loop-test .taken)) (rw e (c .group-length .ensures .0)))
+    let g = pairsOf (k .group-at .result) in
+    let e = group-at t (whole s) i (l .loop-test .taken) g (k .group-at .ensures) in
+    (omega arith, omega (arith, c .group-length .ensures .1), tallied-more (l .before .loop .inv .2) g (omega (arith, groups-size t, l .loop-test .taken)) (rw e (c .group-length .ensures .0)))
 
 number-length-requires : tie.Need-number-length-requires Inv-loop μ-loop
 number-length-requires c κs = search needs
@@ -68,10 +66,11 @@ cast-number-length c = search needs
 number-length-requires-2 : tie.Need-number-length-requires-2 Inv-loop μ-loop
 number-length-requires-2 c κs = search needs
 
-parts : (c : tie.After-number-length2 Inv-loop μ-loop) → (c .before .number-length .result ≤ 5) × (c .number-length2 .result ≤ 5) × (c .before .before .before .loop .total ≤ 5280)
+parts : (c : tie.After-number-length2 Inv-loop μ-loop) → (c .before .before .number-length .result ≤ 5) × (c .number-length2 .result ≤ 5) × (c .before .before .before .before .loop .total ≤ 10400)
 parts c =
-    let s = c .before .before .before .before in
-    (omega (arith, c .before .number-length .ensures .1, bytes-most 2), omega (arith, c .number-length2 .ensures .1, bytes-most (s .args .t1 .count)), omega (arith, s .pre .groups, c .before .before .before .loop .inv .1, c .before .before .before .loop .inv .0))
+    let l = c .before .before .before .before in
+    let s = l .before .before in
+    (omega (arith, c .before .before .number-length .ensures .1, bytes-most 2), omega (arith, c .number-length2 .ensures .1, bytes-most (s .args .table .count)), omega (arith, s .pre, l .loop .inv .1, l .loop .inv .0))
 
 add-result : tie.Need-add-result Inv-loop μ-loop
 add-result c = omega (arith, parts c .0, parts c .1)
@@ -81,10 +80,10 @@ add-result-2 c = omega (arith, parts c .0, parts c .1, parts c .2)
 
 returns : tie.Need-returns Inv-loop μ-loop
 returns c =
-    let a = c .before .before in
-    let t = a .before .before .args .t1 in
+    let a = c .before .before .before in
+    let t = a .before .before .before .args .table in
     let e = tallied-end (a .before .loop .inv .2) (omega (arith, groups-size t)) in
-    rw (table-bytes (groupsOf t), groups-size t) (omega (arith, e, c .before .number-length .ensures .1, c .number-length2 .ensures .1))
+    rw (table-bytes (groupsOf t), groups-size t) (omega (arith, e, c .before .before .number-length .ensures .1, c .number-length2 .ensures .1))
 
 pub table-length-spec : {M : Type 1} → statement M
 table-length-spec =
@@ -94,8 +93,7 @@ table-length-spec =
     μ-loop
     cast-count
     loop-holds
-    mul-group
-    element-copy-out-group
+    group-at-requires
     group-length-requires
     add-total
     add-i

@@ -2,15 +2,13 @@
 use Prim.Native.Nat.{_≤_}
 use mathlib.Core.Path.{_≡_, refl, sym, ap, _∙_}
 use native.Mathlib.Omega.{arith}
-use lib.ListN.{length}
 use borrow.Author.Tests.{eq-eqb, ne-eqb}
-use Rattle.table.specs.declared.Written.the-variants.{Bytes, Unwritten}
+use Rattle.table.specs.declared.Written.the-variants.{Bytes}
 use Rattle.table.specs.Table.{groupsOf, tableFault}
 use Rattle.table.specs.TableBytes.{tableBytes, wroteTable}
-use Rattle.table.specs.Internal.{TableFits}
-use Rattle.table.proofs.CheckLaws.{long, groups-size}
+use Rattle.table.proofs.CheckLaws.{groups-size}
 use Rattle.table.proofs.SpliceLaws.{wrote-short, wrote-fits}
-use Rattle.table.proofs.WriteLaws.{table-right, table-fits}
+use Rattle.table.proofs.OrderOffsets.{table-groups-few}
 use borrow.Author.Needs.{needs}
 use Rattle.table.proofs.write.write_table.Statement.{statement}
 use Rattle.table.proofs.write.write_table.Tie as tie
@@ -18,10 +16,10 @@ use Rattle.table.proofs.write.write_table.Tie as tie
 right : (c : tie.Else1) → tableFault (groupsOf (c .before .before .before .args .table)) ≡ 0
 right c = sym (c .before .table-fault .ensures) ∙ c .if1 .left
 
-fits : (c : tie.Else1) → TableFits (c .before .before .before .args .table)
-fits c =
-    let e : length (c .before .before .before .args .table .groups) ≡ 16 = search (needs, long) in
-    table-fits (c .before .before .before .args .table) (right c) (omega (arith, table-right (groupsOf (c .before .before .before .args .table)) (right c) .0, groups-size (c .before .before .before .args .table)))
+few : (c : tie.Else1) → c .before .before .before .args .table .count ≤ 16
+few c =
+    let t = c .before .before .before .args .table in
+    rw (groups-size t) at (table-groups-few (groupsOf t) (right c))
 
 table-fault-requires : tie.Need-table-fault-requires
 table-fault-requires c κs = search needs
@@ -34,7 +32,7 @@ returns c =
     rw (ne-eqb (tableFault (groupsOf (e .table))) 0 (λ z. c .if1 .taken (t .table-fault .ensures ∙ z)), t .table-fault .ensures) (refl, refl)
 
 table-length-requires : tie.Need-table-length-requires
-table-length-requires c κs = fits c
+table-length-requires c κs = few c
 
 returns-2 : tie.Need-returns-2
 unfolding wroteTable
@@ -46,7 +44,7 @@ returns-2 c =
 put-table-requires : tie.Need-put-table-requires
 put-table-requires c κs =
     let e = c .before .before .before in
-    (fits e, omega (arith, c .before .before .table-length .ensures))
+    (few e, omega (arith, c .before .before .table-length .ensures))
 
 same-length : tie.Need-same-length
 same-length c = search needs

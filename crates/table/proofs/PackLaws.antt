@@ -1,0 +1,202 @@
+-- Laws of the record of a table: a right table's accesses have room in it, it holds its groups, and it grows by a group.
+use Prim.Native.Nat.{ℕ, zero, suc, _+_, _-_, _≤_, _<_}
+use mathlib.Core.Path.{_≡_, refl, sym, ap, ap₂, _∙_}
+use mathlib.Core.Bool.{Bool, true, false, not}
+use mathlib.Core.List.{List, [], _∷_, _++_, map, append-nil, append-assoc}
+use native.Mathlib.Omega.{arith}
+use native.Mathlib.Nat.{add-assoc, add-zero, zero-add, sub-zero}
+use native.Mathlib.Numerals.{unary-clauses}
+use lib.Dec.{leb}
+use lib.ListN.{length, getD, drop, set, replicate, length-set, length-append}
+use lib.Seq.{take-at, set-at, append-snoc, take-append-seam, drop-append-seam, drop-append-add, drop-drop}
+use Rattle.table.specs.declared.Pair.{Pair}
+use Rattle.table.specs.declared.Group.{Group}
+use Rattle.table.specs.declared.Span.{Span}
+use Rattle.table.specs.declared.Table.{Table}
+use Rattle.table.specs.Basics.{pick, count, flat, within, check}
+use Rattle.table.specs.Refusal.{badGroupCount, badCounts}
+use Rattle.table.specs.Group.{GroupPairs, part, listOf}
+use Rattle.table.specs.Table.{blankSpan, groupIn, groupsOf, loadRule, storeRule, pairFault, pairsFault, seeing, countsRight, Seen, noneSeen, seenAfter, groupFault, groupsFault, tableFault}
+use Rattle.table.specs.TableBytes.{filled, spans, loadsIn, storesIn, pack}
+use Rattle.table.specs.RoundTrip.{AccessesFit}
+use Rattle.table.specs.Internal.{packPairs, packGroup, putIn, Grown}
+use Rattle.table.proofs.CheckLaws.{held-few, count-most, fault-none}
+use Rattle.table.proofs.WriteLaws.{or-else-both, check-both}
+
+-- the parts of a right group
+pub group-fault : (seen : Seen) (g : GroupPairs) → groupFault seen g ≡ 0 → (countsRight (length (g .loads)) (length (g .stores)) ≡ true) × (pairsFault (loadRule (length (g .stores))) 0 0 (seen .loads) (g .loads) ≡ 0) × (pairsFault (storeRule (g .loads)) 0 0 (seen .stores) (g .stores) ≡ 0)
+unfolding groupFault
+group-fault seen g e =
+    let f = check-both (countsRight (length (g .loads)) (length (g .stores))) badCounts _ (λ z. omega arith) e in
+    let h = or-else-both (pairsFault (loadRule (length (g .stores))) 0 0 (seen .loads) (g .loads)) _ (f .1) in
+    (f .0, h .0, h .1)
+
+-- ---- each access takes a port that none has taken, so there are at most 32 of a kind
+
+-- how many ports have been seen
+abbrev pub marked : List Bool → ℕ
+marked seen = count (λ (b : Bool). b) seen
+
+marked-more : (seen : List Bool) (port : ℕ) → getD seen port false ≡ false → port < length seen → marked (set seen port true) ≡ suc (marked seen)
+marked-more [] port e h = absurd (omega arith)
+marked-more (b ∷ seen) zero e h = rw e
+marked-more (b ∷ seen) (suc port) e h = go b (marked-more seen port e (omega arith))
+  where
+    go : (t : Bool) → marked (set seen port true) ≡ suc (marked seen) → pick t (suc (marked (set seen port true))) (marked (set seen port true)) ≡ suc (pick t (suc (marked seen)) (marked seen))
+    go true d = ap suc d
+    go false d = d
+
+-- a pair with no fault has a port that was not seen
+fault-unseen : (right : Bool) (seen : List Bool) (port : ℕ) → pairFault right seen port ≡ 0 → getD seen port false ≡ false
+fault-unseen right seen port e = go right (leb port 31) (getD seen port false) e
+  where
+    go : (r t m : Bool) → check r 8 (check t 6 (check (not m) 7 0)) ≡ 0 → m ≡ false
+    go true true false f = refl
+    go true true true f = absurd (omega arith)
+    go true false m f = absurd (omega arith)
+    go false t m f = absurd (omega arith)
+
+-- the marks after these pairs are as many as the marks were, and the pairs' own
+pub record Marking (seen : List Bool) (ps : List Pair) : Type 0 where
+  pub long : length (seeing ps seen) ≡ length seen
+  pub many : marked (seeing ps seen) ≡ marked seen + length ps
+
+pub pairs-marked : (rule : ℕ → ℕ → ℕ → Bool) (low i : ℕ) (seen : List Bool) (ps : List Pair) → length seen ≡ 32 → pairsFault rule low i seen ps ≡ 0 → Marking seen ps
+unfolding pairsFault seeing
+pairs-marked rule low i seen [] h e = record { long = refl; many = omega arith }
+pairs-marked rule low i seen (p ∷ ps) h e =
+    let f = or-else-both (pairFault (rule low i (p .offset)) seen (p .port)) _ e in
+    let l = length-set seen (p .port) true in
+    let m = marked-more seen (p .port) (fault-unseen (rule low i (p .offset)) seen (p .port) (f .0)) (omega (arith, fault-none (rule low i (p .offset)) seen (p .port) (f .0) .1)) in
+    let w = pairs-marked rule (p .offset) (suc i) (set seen (p .port) true) ps (l ∙ h) (f .1) in
+    record { long = w .long ∙ l; many = w .many ∙ rw m (omega arith) }
+
+-- so many ports of each kind have been seen
+pub record Marks (seen : Seen) (loads stores : ℕ) : Type 0 where
+  pub loads-long : length (seen .loads) ≡ 32
+  pub stores-long : length (seen .stores) ≡ 32
+  pub loads-many : marked (seen .loads) ≡ loads
+  pub stores-many : marked (seen .stores) ≡ stores
+
+pub marks-none : Marks noneSeen 0 0
+marks-none = record { loads-long = refl; stores-long = refl; loads-many = refl; stores-many = refl }
+
+module _ {seen : Seen} {loads stores : ℕ} (w : Marks seen loads stores) where
+  pub marks-room : (loads ≤ 32) × (stores ≤ 32)
+  marks-room = (omega (arith, count-most (λ (b : Bool). b) (seen .loads), w .loads-long, w .loads-many), omega (arith, count-most (λ (b : Bool). b) (seen .stores), w .stores-long, w .stores-many))
+
+  pub marks-more : (g : GroupPairs) → groupFault seen g ≡ 0 → Marks (seenAfter g seen) (loads + length (g .loads)) (stores + length (g .stores))
+  marks-more g e =
+      let (right, ls, ss) = group-fault seen g e in
+      let l = pairs-marked _ _ _ (seen .loads) (g .loads) (w .loads-long) ls in
+      let s = pairs-marked _ _ _ (seen .stores) (g .stores) (w .stores-long) ss in
+      record {
+        loads-long = l .long ∙ w .loads-long;
+        stores-long = s .long ∙ w .stores-long;
+        loads-many = l .many ∙ rw (w .loads-many);
+        stores-many = s .many ∙ rw (w .stores-many);
+      }
+
+marks-groups : (seen : Seen) (gs : List GroupPairs) {loads stores : ℕ} → Marks seen loads stores → groupsFault seen gs ≡ 0 → (loads + length (loadsIn gs) ≤ 32) × (stores + length (storesIn gs) ≤ 32)
+unfolding groupsFault
+marks-groups seen [] w e = let r = marks-room w in (omega (arith, r .0), omega (arith, r .1))
+marks-groups seen (g ∷ gs) w e =
+    let f = or-else-both (groupFault seen g) _ e in
+    let r = marks-groups (seenAfter g seen) gs (marks-more w g (f .0)) (f .1) in
+    rw (length-append, length-append) (omega (arith, r .0), omega (arith, r .1))
+
+-- a right table has at most 32 loads and 32 stores
+pub accesses-fit : AccessesFit
+unfolding tableFault
+accesses-fit gs e =
+    let f = check-both (within 1 16 (length gs)) badGroupCount (groupsFault noneSeen gs) (λ z. omega arith) e in
+    let r = marks-groups noneSeen gs marks-none (f .1) in
+    (omega (arith, r .0), omega (arith, r .1))
+
+-- ---- the record holds the groups
+
+-- the pairs that a packed record holds
+pub list-packed : (ls : List Pair) → listOf (packPairs ls) ≡ ls
+list-packed ls = take-append-seam ls _
+
+part-front : (places : List Pair) (first : ℕ) (xs rest blanks : List Pair) → drop first places ≡ (xs ++ rest) ++ blanks → (part first (length xs) places ≡ xs) × (drop (first + length xs) places ≡ rest ++ blanks)
+part-front places first xs rest blanks e =
+    let d : drop first places ≡ xs ++ (rest ++ blanks) = e ∙ append-assoc xs rest blanks in
+    (rw d (take-append-seam xs (rest ++ blanks)), sym (drop-drop (length xs) first places) ∙ rw d (drop-append-seam xs (rest ++ blanks)))
+
+spans-hold : (loads stores : List Pair) (load store : ℕ) (gs : List GroupPairs) (l s : List Pair) → drop load loads ≡ loadsIn gs ++ l → drop store stores ≡ storesIn gs ++ s → map (groupIn loads stores) (spans load store gs) ≡ gs
+spans-hold loads stores load store [] l s e f = refl
+spans-hold loads stores load store (g ∷ gs) l s e f =
+    let p = part-front loads load (g .loads) (loadsIn gs) l e in
+    let q = part-front stores store (g .stores) (storesIn gs) s f in
+    rw (p .0, q .0, spans-hold loads stores (load + length (g .loads)) (store + length (g .stores)) gs l s (p .1) (q .1))
+
+spans-length : (load store : ℕ) (gs : List GroupPairs) → length (spans load store gs) ≡ length gs
+spans-length load store [] = refl
+spans-length load store (g ∷ gs) = ap suc (spans-length (load + length (g .loads)) (store + length (g .stores)) gs)
+
+pub groups-packed : (gs : List GroupPairs) → groupsOf (pack gs) ≡ gs
+groups-packed gs =
+    let n = spans-length 0 0 gs in
+    let blanks = replicate (16 - length gs) blankSpan in
+    let h : length gs ≤ length (spans 0 0 gs ++ blanks) = rw (length-append, n) (omega arith) in
+    ap (map (groupIn (pack gs .loads) (pack gs .stores))) (held-few blankSpan (length gs) (spans 0 0 gs ++ blanks) h ∙ take-at (spans 0 0 gs) blanks (length gs) n)
+    ∙ spans-hold (pack gs .loads) (pack gs .stores) 0 0 gs _ _ refl refl
+
+-- ---- the record with a group more
+
+abbrev pub spanAt : ℕ → ℕ → GroupPairs → Span
+spanAt load store g = record { load = load; loads = length (g .loads); store = store; stores = length (g .stores) }
+
+spans-snoc : (load store : ℕ) (gs : List GroupPairs) (g : GroupPairs) → spans load store (gs ++ g ∷ []) ≡ spans load store gs ++ spanAt (load + length (loadsIn gs)) (store + length (storesIn gs)) g ∷ []
+spans-snoc load store [] g = rw (add-zero, add-zero)
+spans-snoc load store (x ∷ gs) g =
+    rw (length-append, length-append, ← add-assoc, ← add-assoc, spans-snoc (load + length (x .loads)) (store + length (x .stores)) gs g)
+
+flat-snoc : {A B : Type 0} (f : A → List B) (xs : List A) (x : A) → flat f (xs ++ x ∷ []) ≡ flat f xs ++ f x
+flat-snoc f [] x = append-nil (f x)
+flat-snoc f (y ∷ xs) x = rw (flat-snoc f xs x) (sym (append-assoc (f y) (flat f xs) (f x)))
+
+drop-replicate : {A : Type 0} (n m : ℕ) (a : A) → drop n (replicate m a) ≡ replicate (m - n) a
+drop-replicate zero m a = rw sub-zero
+drop-replicate (suc n) zero a = let e : 0 - suc n ≡ 0 = omega arith in rw e
+drop-replicate (suc n) (suc m) a = drop-replicate n m a ∙ simp unary-clauses
+
+filled-more : (xs ls : List Pair) → putIn (filled xs) (length xs) (packPairs ls) ≡ filled (xs ++ ls)
+filled-more xs ls =
+    let e : 32 - length xs - length ls ≡ 32 - length (xs ++ ls) = rw length-append (omega arith) in
+    rw (take-append-seam, take-append-seam, drop-append-add, drop-replicate, e)
+
+spans-more : (done : List GroupPairs) (g : GroupPairs) → length done < 16 → set (pack done .groups) (length done) (spanAt (length (loadsIn done)) (length (storesIn done)) g) ≡ pack (done ++ g ∷ []) .groups
+spans-more done g h =
+    let blanks = replicate (16 - (length done + 1)) blankSpan in
+    let m : 16 - length done ≡ suc (16 - (length done + 1)) = omega arith in
+    let x = spanAt (length (loadsIn done)) (length (storesIn done)) g in
+    let e : spans 0 0 (done ++ g ∷ []) ≡ spans 0 0 done ++ x ∷ [] = spans-snoc 0 0 done g ∙ rw (zero-add, zero-add) in
+    rw (e, length-append, m) (set-at (spans 0 0 done) blankSpan blanks x (length done) (spans-length 0 0 done) ∙ sym (append-snoc (spans 0 0 done) x blanks))
+
+abbrev tableMade : ℕ → List Span → List Pair → List Pair → Table
+tableMade n groups loads stores = record { count = n; groups = groups; loads = loads; stores = stores }
+
+-- the record of these groups, whose loads and stores are so many
+pub record Packed (t : Table) (loads stores : ℕ) (done : List GroupPairs) : Type 0 where
+  pub table : t ≡ pack done
+  pub loads-are : loads ≡ length (loadsIn done)
+  pub stores-are : stores ≡ length (storesIn done)
+
+pub packed-none : {t : Table} → t ≡ pack [] → Packed t 0 0 []
+packed-none e = record { table = e; loads-are = refl; stores-are = refl }
+
+pub packed-more : {t : Table} {loads stores : ℕ} {done : List GroupPairs} {x : Group} {r : Table} → Packed t loads stores done → (g : GroupPairs) → x ≡ packGroup g → length done < 16 → Grown t loads stores x r → Packed r (loads + x .loads .count) (stores + x .stores .count) (done ++ g ∷ [])
+packed-more {t} {loads} {stores} {done} {x} {r} w g e h v =
+    let ls = flat-snoc (λ (y : GroupPairs). y .loads) done g in
+    let ss = flat-snoc (λ (y : GroupPairs). y .stores) done g in
+    let n : r .count ≡ length (done ++ g ∷ []) = v .count ∙ rw (w .table, length-append) in
+    let a : r .groups ≡ pack (done ++ g ∷ []) .groups = v .groups ∙ rw (w .table, w .loads-are, w .stores-are, e) (spans-more done g h) in
+    let b : r .loads ≡ filled (loadsIn (done ++ g ∷ [])) = v .loads-are ∙ rw (w .table, w .loads-are, e, ls) (filled-more (loadsIn done) (g .loads)) in
+    let c : r .stores ≡ filled (storesIn (done ++ g ∷ [])) = v .stores-are ∙ rw (w .table, w .stores-are, e, ss) (filled-more (storesIn done) (g .stores)) in
+    record {
+      table = ap₂ (λ (n : ℕ) (a : List Span). tableMade n a (r .loads) (r .stores)) n a ∙ ap₂ (tableMade (length (done ++ g ∷ [])) (pack (done ++ g ∷ []) .groups)) b c;
+      loads-are = rw (w .loads-are, e, ls, length-append);
+      stores-are = rw (w .stores-are, e, ss, length-append);
+    }

@@ -10,7 +10,7 @@ use borrow.Author.Tests.{leb-true}
 use Rattle.table.specs.declared.Pairs.{Pairs}
 use Rattle.table.specs.declared.Group.{Group}
 use Rattle.table.specs.Group.{GroupPairs, blankPair, listOf, pairsOf, Inside, Access, load, store, order}
-use Rattle.table.specs.Table.{groupsOf, GroupAt}
+use Rattle.table.specs.Table.{groupAt, groupsOf}
 use Rattle.table.proofs.CheckLaws.{Sized, groups-size}
 use Rattle.table.specs.ProgramOrder.{loadPairs, storePairs}
 use Rattle.table.proofs.OrderOffsets.{GroupRight}
@@ -96,7 +96,7 @@ module _ (q : Queue) (group : ℕ) (s : sound (contentsOf q) ≡ true) where
       let e : length (groupsOf (q .table)) ≤ group = rw (groups-size (q .table)) h in
       rw (s, nth-past (groupsOf (q .table)) group e)
 
-  module _ (whole : length (q .table .groups) ≡ 16) (k : group < q .table .count) {g : Group} (a : GroupAt (q .table) group g) where
+  module _ (whole : length (q .table .groups) ≡ 16) (k : group < q .table .count) {g : Group} (a : g ≡ groupAt (q .table) group) where
     pub activate-group : activate (contentsOf q) group ≡ need (room (contentsOf q) (pairsOf g)) noPlace (accept (withGroup (contentsOf q) (pairsOf g)))
     unfolding activate contentsOf
     activate-group = rw (s, group-nth (q .table) (groups-few (q .table) (table-right q s)) whole group k a)

@@ -14,7 +14,7 @@ use Rattle.table.specs.declared.Group.{Group}
 use Rattle.table.specs.declared.Table.{Table}
 use Rattle.table.specs.Group.{GroupPairs, blankPair, listOf, pairsOf, Inside}
 use Rattle.table.specs.Basics.{nth}
-use Rattle.table.specs.Table.{blankSpan, groupIn, groupsOf, GroupAt, tableFault}
+use Rattle.table.specs.Table.{blankSpan, meantIn, groupAt, groupsOf, tableFault}
 use Rattle.table.proofs.CheckLaws.{view-length, view-at, view-most, Sized, groups-size, group-at}
 use Rattle.table.proofs.OrderOffsets.{GroupRight, table-groups-few, table-group-right}
 use Rattle.queue.specs.Open.{groupFits}
@@ -37,18 +37,20 @@ pub groups-few : (t : Table) → tableFault (groupsOf t) ≡ 0 → t .count ≤ 
 groups-few t e = rw (groups-size t) at (table-groups-few (groupsOf t) e)
 
 -- its groups, where a walk comes to them
-module _ (t : Table) (few : t .count ≤ 16) (whole : length (t .groups) ≡ 16) (i : ℕ) (k : i < t .count) {g : Group} (a : GroupAt t i g) where
+module _ (t : Table) (few : t .count ≤ 16) (whole : length (t .groups) ≡ 16) (i : ℕ) (k : i < t .count) {g : Group} (a : g ≡ groupAt t i) where
   in-table : t .count ≤ length (t .groups)
   in-table = rw whole few
 
   pub groups-here : drop i (groupsOf t) ≡ pairsOf g ∷ drop (i + 1) (groupsOf t)
-  groups-here = side-here (groupIn (t .loads) (t .stores)) blankSpan (t .count) (t .groups) in-table i k ∙ ap (λ (x : GroupPairs). x ∷ drop (i + 1) (groupsOf t)) (sym (a .is))
+  unfolding groupAt
+  groups-here = side-here (meantIn (t .loads) (t .stores)) blankSpan (t .count) (t .groups) in-table i k ∙ ap (λ (x : GroupPairs). x ∷ drop (i + 1) (groupsOf t)) (ap pairsOf (sym a))
 
   pub group-nth : nth (groupsOf t) i ≡ some (pairsOf g)
-  group-nth = side-nth (groupIn (t .loads) (t .stores)) blankSpan (t .count) (t .groups) in-table i k ∙ ap (λ (x : GroupPairs). some x) (sym (a .is))
+  unfolding groupAt
+  group-nth = side-nth (meantIn (t .loads) (t .stores)) blankSpan (t .count) (t .groups) in-table i k ∙ ap (λ (x : GroupPairs). some x) (ap pairsOf (sym a))
 
   pub group-right : tableFault (groupsOf t) ≡ 0 → GroupRight (pairsOf g)
   group-right right = rw (group-at t in-table i k (pairsOf g) a) at (table-group-right (groupsOf t) right i (pairsOf g) (rw (groups-size t) k))
 
 pub groups-end : (t : Table) (i : ℕ) → t .count ≤ i → drop i (groupsOf t) ≡ []
-groups-end t i k = side-end (groupIn (t .loads) (t .stores)) blankSpan (t .count) (t .groups) i k
+groups-end t i k = side-end (meantIn (t .loads) (t .stores)) blankSpan (t .count) (t .groups) i k

@@ -18,7 +18,7 @@ use Rattle.table.specs.declared.Table.{Table}
 use Rattle.table.specs.Refusal.{badGroupCount, badCounts}
 use Rattle.table.specs.Basics.{pick, held, count, within, check, orElse}
 use Rattle.table.specs.Group.{GroupPairs, blankPair, listOf, Inside, pairsOf, beforeStore}
-use Rattle.table.specs.Table.{blankSpan, groupIn, groupsOf, GroupAt, loadRule, storeRule, pairFault, pairsFault, seeing, countsRight, Seen, noneSeen, seenAfter, groupFault, groupsFault, tableFault}
+use Rattle.table.specs.Table.{blankSpan, pairsAt, groupAt, meantIn, groupsOf, loadRule, storeRule, pairFault, pairsFault, seeing, countsRight, Seen, noneSeen, seenAfter, groupFault, groupsFault, tableFault}
 use Rattle.table.specs.Internal.{ruleOf, Rising, RuleRight, GroupInside}
 
 -- ---- what an array and a count hold, where the count is within the array
@@ -50,6 +50,21 @@ pub record Sized (g : Group) : Type 0 where
 
 pub sized : {g : Group} → length (g .loads .places) ≡ 32 → length (g .stores .places) ≡ 32 → GroupInside g → Sized g
 sized {g} l s h = record { loads = view-length (g .loads) l (h .0); stores = view-length (g .stores) s (h .1) }
+
+-- what a table hands over as its accesses has the places for them
+pairs-inside : (first n : ℕ) (places : List Pair) → Inside (pairsAt first n places)
+pairs-inside first n places = go (leb (first + n) 32) refl (leb n 32) refl
+  where
+    go : (t : Bool) → leb (first + n) 32 ≡ t → (u : Bool) → leb n 32 ≡ u → Inside (pairsAt first n places)
+    go true h u k = rw h (leb-true (first + n) 32 h)
+    go false h true k = rw (h, k) (omega (arith, leb-true n 32 k))
+    go false h false k = rw (h, k) (omega arith)
+
+pub group-inside : (t : Table) (i : ℕ) {g : Group} → g ≡ groupAt t i → GroupInside g
+unfolding groupAt
+group-inside t i e =
+    let s = getD (t .groups) i blankSpan in
+    rw e (pairs-inside (s .«first_load») (s .loads) (t .loads), pairs-inside (s .«first_store») (s .stores) (t .stores))
 
 -- a list is never longer than its count
 pub view-most : (ps : Pairs) → length (listOf ps) ≤ ps .count
@@ -248,21 +263,22 @@ module _ (t : Table) where
   parts = held blankSpan (t .count) (t .groups)
 
   abbrev partOf : Span → GroupPairs
-  partOf = groupIn (t .loads) (t .stores)
+  partOf = meantIn (t .loads) (t .stores)
 
   pub groups-size : length (groupsOf t) ≡ t .count
   groups-size = length-map parts partOf ∙ held-length blankSpan (t .count) (t .groups)
 
   module _ (whole : t .count ≤ length (t .groups)) (i : ℕ) (k : i < t .count) (d : GroupPairs) where
-    pub groups-at : getD (groupsOf t) i d ≡ groupIn (t .loads) (t .stores) (getD (t .groups) i blankSpan)
+    pub groups-at : getD (groupsOf t) i d ≡ pairsOf (groupAt t i)
+    unfolding groupAt
     groups-at =
         within-any (groupsOf t) i d (partOf blankSpan) (omega (arith, groups-size))
         ∙ List·getD-map partOf parts i blankSpan
         ∙ ap partOf (held-at blankSpan (t .count) (t .groups) whole i blankSpan k)
 
     -- what is handed over as the group at a place is that group
-    pub group-at : {g : Group} → GroupAt t i g → getD (groupsOf t) i d ≡ pairsOf g
-    group-at a = groups-at ∙ sym (a .is)
+    pub group-at : {g : Group} → g ≡ groupAt t i → getD (groupsOf t) i d ≡ pairsOf g
+    group-at e = groups-at ∙ ap pairsOf (sym e)
 
   pub table-count : within 1 16 (t .count) ≡ false → badGroupCount ≡ tableFault (groupsOf t)
   unfolding tableFault

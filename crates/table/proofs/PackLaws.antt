@@ -7,6 +7,7 @@ use native.Mathlib.Omega.{arith}
 use native.Mathlib.Nat.{add-assoc, add-zero, zero-add, sub-zero}
 use native.Mathlib.Numerals.{unary-clauses}
 use lib.Dec.{leb}
+use borrow.Author.Tests.{le-leb}
 use lib.ListN.{length, getD, drop, set, replicate, length-set, length-append}
 use lib.Seq.{take-at, set-at, append-snoc, take-append-seam, drop-append-seam, drop-append-add, drop-drop}
 use Rattle.table.specs.declared.Pair.{Pair}
@@ -15,8 +16,8 @@ use Rattle.table.specs.declared.Span.{Span}
 use Rattle.table.specs.declared.Table.{Table}
 use Rattle.table.specs.Basics.{pick, count, flat, within, check}
 use Rattle.table.specs.Refusal.{badGroupCount, badCounts}
-use Rattle.table.specs.Group.{GroupPairs, part, listOf}
-use Rattle.table.specs.Table.{blankSpan, groupIn, groupsOf, loadRule, storeRule, pairFault, pairsFault, seeing, countsRight, Seen, noneSeen, seenAfter, groupFault, groupsFault, tableFault}
+use Rattle.table.specs.Group.{GroupPairs, listOf}
+use Rattle.table.specs.Table.{blankSpan, pairsAt, meantIn, groupsOf, loadRule, storeRule, pairFault, pairsFault, seeing, countsRight, Seen, noneSeen, seenAfter, groupFault, groupsFault, tableFault}
 use Rattle.table.specs.TableBytes.{filled, spans, loadsIn, storesIn, pack}
 use Rattle.table.specs.RoundTrip.{AccessesFit}
 use Rattle.table.specs.Internal.{packPairs, packGroup, putIn, Grown}
@@ -119,34 +120,39 @@ accesses-fit gs e =
 pub list-packed : (ls : List Pair) → listOf (packPairs ls) ≡ ls
 list-packed ls = take-append-seam ls _
 
-part-front : (places : List Pair) (first : ℕ) (xs rest blanks : List Pair) → drop first places ≡ (xs ++ rest) ++ blanks → (part first (length xs) places ≡ xs) × (drop (first + length xs) places ≡ rest ++ blanks)
-part-front places first xs rest blanks e =
+-- accesses that stand behind others: where they are few enough they are just these
+part-front : (places : List Pair) (first : ℕ) (xs rest blanks : List Pair) → drop first places ≡ (xs ++ rest) ++ blanks → first + length xs ≤ 32
+    → (listOf (pairsAt first (length xs) places) ≡ xs) × (drop (first + length xs) places ≡ rest ++ blanks)
+part-front places first xs rest blanks e few =
     let d : drop first places ≡ xs ++ (rest ++ blanks) = e ∙ append-assoc xs rest blanks in
-    (rw d (take-append-seam xs (rest ++ blanks)), sym (drop-drop (length xs) first places) ∙ rw d (drop-append-seam xs (rest ++ blanks)))
+    (rw (le-leb (first + length xs) 32 few, d) (take-append-seam xs (rest ++ blanks)), sym (drop-drop (length xs) first places) ∙ rw d (drop-append-seam xs (rest ++ blanks)))
 
-spans-hold : (loads stores : List Pair) (load store : ℕ) (gs : List GroupPairs) (l s : List Pair) → drop load loads ≡ loadsIn gs ++ l → drop store stores ≡ storesIn gs ++ s → map (groupIn loads stores) (spans load store gs) ≡ gs
-spans-hold loads stores load store [] l s e f = refl
-spans-hold loads stores load store (g ∷ gs) l s e f =
-    let p = part-front loads load (g .loads) (loadsIn gs) l e in
-    let q = part-front stores store (g .stores) (storesIn gs) s f in
-    rw (p .0, q .0, spans-hold loads stores (load + length (g .loads)) (store + length (g .stores)) gs l s (p .1) (q .1))
+spans-hold : (loads stores : List Pair) (load store : ℕ) (gs : List GroupPairs) (l s : List Pair) → drop load loads ≡ loadsIn gs ++ l → drop store stores ≡ storesIn gs ++ s
+    → load + length (loadsIn gs) ≤ 32 → store + length (storesIn gs) ≤ 32 → map (meantIn loads stores) (spans load store gs) ≡ gs
+spans-hold loads stores load store [] l s e f h k = refl
+spans-hold loads stores load store (g ∷ gs) l s e f h k =
+    let x : load + (length (g .loads) + length (loadsIn gs)) ≤ 32 = rw length-append at h in
+    let y : store + (length (g .stores) + length (storesIn gs)) ≤ 32 = rw length-append at k in
+    let p = part-front loads load (g .loads) (loadsIn gs) l e (omega (arith, x)) in
+    let q = part-front stores store (g .stores) (storesIn gs) s f (omega (arith, y)) in
+    rw (p .0, q .0, spans-hold loads stores (load + length (g .loads)) (store + length (g .stores)) gs l s (p .1) (q .1) (omega (arith, x)) (omega (arith, y)))
 
 spans-length : (load store : ℕ) (gs : List GroupPairs) → length (spans load store gs) ≡ length gs
 spans-length load store [] = refl
 spans-length load store (g ∷ gs) = ap suc (spans-length (load + length (g .loads)) (store + length (g .stores)) gs)
 
-pub groups-packed : (gs : List GroupPairs) → groupsOf (pack gs) ≡ gs
-groups-packed gs =
+pub groups-packed : (gs : List GroupPairs) → tableFault gs ≡ 0 → groupsOf (pack gs) ≡ gs
+groups-packed gs right =
     let n = spans-length 0 0 gs in
     let blanks = replicate (16 - length gs) blankSpan in
     let h : length gs ≤ length (spans 0 0 gs ++ blanks) = rw (length-append, n) (omega arith) in
-    ap (map (groupIn (pack gs .loads) (pack gs .stores))) (held-few blankSpan (length gs) (spans 0 0 gs ++ blanks) h ∙ take-at (spans 0 0 gs) blanks (length gs) n)
-    ∙ spans-hold (pack gs .loads) (pack gs .stores) 0 0 gs _ _ refl refl
+    ap (map (meantIn (pack gs .loads) (pack gs .stores))) (held-few blankSpan (length gs) (spans 0 0 gs ++ blanks) h ∙ take-at (spans 0 0 gs) blanks (length gs) n)
+    ∙ spans-hold (pack gs .loads) (pack gs .stores) 0 0 gs _ _ refl refl (omega (arith, accesses-fit gs right .0)) (omega (arith, accesses-fit gs right .1))
 
 -- ---- the record with a group more
 
 abbrev pub spanAt : ℕ → ℕ → GroupPairs → Span
-spanAt load store g = record { load = load; loads = length (g .loads); store = store; stores = length (g .stores) }
+spanAt load store g = record { «first_load» = load; loads = length (g .loads); «first_store» = store; stores = length (g .stores) }
 
 spans-snoc : (load store : ℕ) (gs : List GroupPairs) (g : GroupPairs) → spans load store (gs ++ g ∷ []) ≡ spans load store gs ++ spanAt (load + length (loadsIn gs)) (store + length (storesIn gs)) g ∷ []
 spans-snoc load store [] g = rw (add-zero, add-zero)

@@ -341,7 +341,7 @@ tables-read-back gs e =
 
 -- ---- the record of a table that was read
 pub records-hold-groups : RecordsHoldGroups
-records-hold-groups gs e = groups-packed gs
+records-hold-groups gs e = groups-packed gs e
 
 -- ---- events
 pub record TakenBefore (bytes rest : List ℕ) (n : ℕ) (ns : List ℕ) : Type 0 where

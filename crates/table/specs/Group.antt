@@ -1,5 +1,5 @@
 -- A group's accesses and their program order. Document 01, "Bytes and tables".
-use Prim.Native.Nat.{ℕ, zero, suc, _+_, _≤_}
+use Prim.Native.Nat.{ℕ, suc, _+_, _≤_}
 use mathlib.Core.Bool.{Bool}
 use mathlib.Core.List.{List, [], _∷_, _++_, map}
 use lib.Dec.{leb}
@@ -9,7 +9,7 @@ use Rattle.table.specs.declared.Pairs.{Pairs}
 use Rattle.table.specs.declared.Group.{Group}
 use Rattle.table.specs.Basics.{takeWhile, dropWhile}
 
--- A group as it is meant: its loads and its stores, as many as its counts say.
+-- A group as it is meant: its loads and its stores.
 pub record GroupPairs : Type 0 where
   pub loads : List Pair
   pub stores : List Pair
@@ -17,14 +17,11 @@ pub record GroupPairs : Type 0 where
 abbrev pub blankPair : Pair
 blankPair = record { offset = 0; port = 0 }
 
--- so many places from one on, as far as there are places
-abbrev pub part : ℕ → ℕ → List Pair → List Pair
-part first n places = take n (drop first places)
-
+-- so many accesses, from the first one's place on
 abbrev pub listOf : Pairs → List Pair
-listOf ps = part (ps .first) (ps .count) (ps .places)
+listOf ps = take (ps .count) (drop (ps .first) (ps .places))
 
--- the accesses end where the places end, or before
+-- there are places for so many
 abbrev pub Inside : Pairs → Type 0
 Inside ps = ps .first + ps .count ≤ 32
 

@@ -16,7 +16,7 @@ use Rattle.table.specs.declared.read.GroupsRead.{GroupsRead}
 use Rattle.table.specs.Number.{Got, got, bad, andThen, readNumber, placeOf}
 use Rattle.table.specs.TableBytes.{filled, pack}
 use Rattle.table.specs.Basics.{pick}
-use Rattle.table.specs.Group.{GroupPairs, part, listOf, Inside}
+use Rattle.table.specs.Group.{GroupPairs, listOf, Inside}
 use Rattle.table.specs.Table.{loadRule, storeRule, pairsFault, seeing, Seen, seenAfter, groupFault}
 use Rattle.table.specs.declared.trace.Numbers.{Numbers}
 
@@ -126,7 +126,7 @@ pub data GroupsResult (s : List ℕ) : Got (List GroupPairs) → GroupsRead → 
   groups-found : {gs : List GroupPairs} {rest : List ℕ} {r : GroupsRead} → GroupsFound s gs rest r → GroupsResult s (got gs rest) r
   groups-none : {k : ℕ} {r : GroupsRead} → IsRefusal k (r .answer) → GroupsResult s (bad k) r
 
--- there is room for a group behind those that a table has, whose loads and stores are so many
+-- there is room for a group behind those of a table, which have so many loads and stores
 pub record Growing (t : Table) (loads stores : ℕ) (g : Group) : Type 0 where
   pub groups : t .count < 16
   pub loads-first : g .loads .first ≡ 0
@@ -139,15 +139,11 @@ putIn places from ps = take from places ++ listOf ps ++ drop (from + ps .count) 
 
 pub record Grown (t : Table) (loads stores : ℕ) (g : Group) (r : Table) : Type 0 where
   pub count : r .count ≡ t .count + 1
-  pub groups : r .groups ≡ set (t .groups) (t .count) (record { load = loads; loads = g .loads .count; store = stores; stores = g .stores .count })
+  pub groups : r .groups ≡ set (t .groups) (t .count) (record { «first_load» = loads; loads = g .loads .count; «first_store» = stores; stores = g .stores .count })
   pub loads-are : r .loads ≡ putIn (t .loads) loads (g .loads)
   pub stores-are : r .stores ≡ putIn (t .stores) stores (g .stores)
 
 -- ---- a group of a table
-
-pub record PairsAt (places : List Pair) (first n : ℕ) (r : Pairs) : Type 0 where
-  pub is : listOf r ≡ part first n places
-  pub inside : Inside r
 
 abbrev pub GroupInside : Group → Type 0
 GroupInside g = Inside (g .loads) × Inside (g .stores)

@@ -1,34 +1,44 @@
 -- When a table is right. Document 01, "Bytes and tables", and the numbers 4 to 8 in the order of checking.
 use Prim.Native.Nat.{ℕ, suc, _+_}
-use mathlib.Core.Path.{_≡_}
 use mathlib.Core.Bool.{Bool, true, false, not, _&&_}
 use mathlib.Core.List.{List, [], _∷_, map}
 use lib.Dec.{leb, eqb}
 use lib.ListN.{length, getD, set, replicate}
 use Rattle.table.specs.declared.Pair.{Pair}
+use Rattle.table.specs.declared.Pairs.{Pairs}
 use Rattle.table.specs.declared.Group.{Group}
 use Rattle.table.specs.declared.Span.{Span}
 use Rattle.table.specs.declared.Table.{Table}
-use Rattle.table.specs.Basics.{held, count, within, check, orElse}
+use Rattle.table.specs.Basics.{pick, held, count, within, check, orElse}
 use Rattle.table.specs.Refusal.{badGroupCount, badCounts, badOffset, badPort, portSeen}
-use Rattle.table.specs.Group.{GroupPairs, part, pairsOf, Inside, beforeStore}
+use Rattle.table.specs.Group.{GroupPairs, pairsOf, beforeStore}
 
 abbrev pub blankSpan : Span
-blankSpan = record { load = 0; loads = 0; store = 0; stores = 0 }
+blankSpan = record { «first_load» = 0; loads = 0; «first_store» = 0; stores = 0 }
 
--- A group of a table: its accesses stand among the table's loads and stores. It ends where the places end.
-abbrev pub groupIn : List Pair → List Pair → Span → GroupPairs
-groupIn loads stores g = record { loads = part (g .load) (g .loads) loads; stores = part (g .store) (g .stores) stores }
+-- a pair that no table may have
+abbrev pub wrongPair : Pair
+wrongPair = record { offset = 255; port = 255 }
+
+-- So many accesses from a place on. Where there are not so many places they stand for accesses that no table may have: a
+-- record with such a group is never right. It meets 5 if they are more than 16, else 8.
+abbrev pub pairsAt : ℕ → ℕ → List Pair → Pairs
+pairsAt first n places = pick (leb (first + n) 32) (record { first = first; count = n; places = places }) (record { first = 0; count = pick (leb n 32) n 32; places = replicate 32 wrongPair })
+
+-- a group of a table: its accesses stand among the table's loads and stores
+abbrev pub groupIn : List Pair → List Pair → Span → Group
+groupIn loads stores g = record { loads = pairsAt (g .«first_load») (g .loads) loads; stores = pairsAt (g .«first_store») (g .stores) stores }
+
+-- the group at a place; beyond the places there is no access
+unfoldable pub groupAt : Table → ℕ → Group
+groupAt t i = groupIn (t .loads) (t .stores) (getD (t .groups) i blankSpan)
+
+abbrev pub meantIn : List Pair → List Pair → Span → GroupPairs
+meantIn loads stores g = pairsOf (groupIn loads stores g)
 
 -- A table as it is meant: its groups, as many as its count says.
 abbrev pub groupsOf : Table → List GroupPairs
-groupsOf t = map (groupIn (t .loads) (t .stores)) (held blankSpan (t .count) (t .groups))
-
--- what the group at a place is handed over as
-pub record GroupAt (t : Table) (i : ℕ) (g : Group) : Type 0 where
-  pub is : pairsOf g ≡ groupIn (t .loads) (t .stores) (getD (t .groups) i blankSpan)
-  pub loads : Inside (g .loads)
-  pub stores : Inside (g .stores)
+groupsOf t = map (meantIn (t .loads) (t .stores)) (held blankSpan (t .count) (t .groups))
 
 -- Offsets. A rule says which offset is right for the ith pair of its kind in the group (from 0), where the pair before it
 -- has the offset `low` (0 for the first). "Load offsets never fall", and none is above the store count.

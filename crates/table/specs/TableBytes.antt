@@ -3,7 +3,7 @@
 use Prim.Native.Nat.{ℕ, zero, suc, _+_, _-_}
 use mathlib.Core.Bool.{Bool, true}
 use mathlib.Core.List.{List, [], _∷_, _++_}
-use lib.Dec.{eqb, leb}
+use lib.Dec.{eqb}
 use lib.ListN.{length, set, replicate}
 use Rattle.table.specs.declared.Pair.{Pair}
 use Rattle.table.specs.declared.Span.{Span}
@@ -70,7 +70,7 @@ filled ps = ps ++ replicate (32 - length ps) blankPair
 abbrev pub spans : ℕ → ℕ → List GroupPairs → List Span
 spans load store [] = []
 spans load store (g ∷ gs) =
-    record { load = load; loads = length (g .loads); store = store; stores = length (g .stores) } ∷ spans (load + length (g .loads)) (store + length (g .stores)) gs
+    record { «first_load» = load; loads = length (g .loads); «first_store» = store; stores = length (g .stores) } ∷ spans (load + length (g .loads)) (store + length (g .stores)) gs
 
 abbrev pub loadsIn : List GroupPairs → List Pair
 loadsIn gs = flat (λ (g : GroupPairs). g .loads) gs

@@ -15,7 +15,7 @@ pub struct Pair {
     pub port: u8,
 }
 
-// The accesses of one kind in a group, in program order: so many, from the first one's place on.
+// The accesses of one kind in a group, in program order: so many, from the first one's place on. The other places mean nothing.
 pub struct Pairs {
     pub first: u8,
     pub count: u8,
@@ -30,9 +30,9 @@ pub struct Group {
 
 // Where a group's loads and its stores stand in a table: the first one's place, and how many.
 pub struct Span {
-    pub load: u8,
+    pub first_load: u8,
     pub loads: u8,
-    pub store: u8,
+    pub first_store: u8,
     pub stores: u8,
 }
 

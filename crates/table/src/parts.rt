@@ -1,37 +1,39 @@
 // A table's groups.
 ghost use mathlib.Core.Path.{_≡_};
 ghost use lib.ListN.{getD};
-ghost use Rattle.table.specs.Table.{blankSpan, GroupAt};
-ghost use Rattle.table.specs.Internal.{PairsAt};
+ghost use Rattle.table.specs.Table.{blankSpan, pairsAt, groupAt};
 use crate::Group;
 use crate::Pair;
 use crate::Pairs;
 use crate::Span;
 use crate::Table;
 
-// So many accesses from a place on, as far as there are places.
+// So many accesses from a place on. Where there are not so many places they are accesses that no table may have.
 fn pairs_at(places: [Pair; 32], first: u8, count: u8) -> Pairs
-    ensures { λ r. ⌜ PairsAt places first count r ⌝ }
+    ensures { λ r. ⌜ r ≡ pairsAt first count places ⌝ }
 {
-    if 32 <= first {
+    if first as u32 + count as u32 <= 32 {
         return Pairs {
-            first: 0,
-            count: 0,
+            first,
+            count,
             places,
         };
     }
-    let left = 32 - first;
-    if left < count {
+    let wrong = Pair {
+        offset: 255,
+        port: 255,
+    };
+    if count <= 32 {
         return Pairs {
-            first,
-            count: left,
-            places,
+            first: 0,
+            count,
+            places: [wrong; 32],
         };
     }
     Pairs {
-        first,
-        count,
-        places,
+        first: 0,
+        count: 32,
+        places: [wrong; 32],
     }
 }
 
@@ -43,21 +45,21 @@ fn span_at(table: Table, i: usize) -> Span
         return table.groups[i];
     }
     Span {
-        load: 0,
+        first_load: 0,
         loads: 0,
-        store: 0,
+        first_store: 0,
         stores: 0,
     }
 }
 
-// The group at a place of a table. The record may come from anywhere: a group ends where the places end.
+// The group at a place of a table, whether or not the count goes so far. The record may come from anywhere.
 pub fn group_at(table: Table, i: usize) -> Group
-    ensures { λ r. ⌜ GroupAt table i r ⌝ }
+    ensures { λ r. ⌜ r ≡ groupAt table i ⌝ }
 {
     let span = span_at(table, i);
     let load_places = table.loads;
     let store_places = table.stores;
-    let loads = pairs_at(load_places, span.load, span.loads);
-    let stores = pairs_at(store_places, span.store, span.stores);
+    let loads = pairs_at(load_places, span.first_load, span.loads);
+    let stores = pairs_at(store_places, span.first_store, span.stores);
     Group { loads, stores }
 }

@@ -252,9 +252,9 @@ pub fn no_table() -> Table
     ensures { λ r. ⌜ r ≡ pack [] ⌝ }
 {
     let nowhere = Span {
-        load: 0,
+        first_load: 0,
         loads: 0,
-        store: 0,
+        first_store: 0,
         stores: 0,
     };
     let blank = Pair { offset: 0, port: 0 };
@@ -280,7 +280,7 @@ fn with_pairs(mut places: [Pair; 32], from: usize, pairs: Pairs) -> [Pair; 32]
     places
 }
 
-// A table with a group behind those that it has, whose loads and stores are so many.
+// A table with a group more, behind the loads and stores of those that it has, which are so many.
 fn with_group(mut table: Table, loads: u8, stores: u8, group: Group) -> Table
     requires { ⌜ Growing table loads stores group ⌝ }
     ensures { λ r. ⌜ Grown table loads stores group r ⌝ }
@@ -289,9 +289,9 @@ fn with_group(mut table: Table, loads: u8, stores: u8, group: Group) -> Table
     let new_stores = group.stores;
     let at = table.count as usize;
     table.groups[at] = Span {
-        load: loads,
+        first_load: loads,
         loads: new_loads.count,
-        store: stores,
+        first_store: stores,
         stores: new_stores.count,
     };
     let load_places = table.loads;

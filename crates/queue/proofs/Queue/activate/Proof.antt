@@ -4,7 +4,7 @@ use mathlib.Core.Bool.{true, false}
 use lib.ListN.{length}
 use borrow.Author.Tests.{not-true, not-false}
 use Rattle.table.specs.Group.{pairsOf}
-use Rattle.table.proofs.CheckLaws.{long, Sized, sized}
+use Rattle.table.proofs.CheckLaws.{long, Sized, sized, group-inside}
 use Rattle.table.proofs.OrderOffsets.{GroupRight}
 use Rattle.queue.specs.declared.Queue.{Queue}
 use Rattle.queue.specs.Contents.{contentsOf}
@@ -39,7 +39,7 @@ size : (c : tie.After-group-at) → Sized (c .group-at .result)
 size c =
     let l : length (c .group-at .result .loads .places) ≡ 32 = search (needs, long) in
     let s : length (c .group-at .result .stores .places) ≡ 32 = search (needs, long) in
-    sized l s (c .group-at .ensures .loads, c .group-at .ensures .stores)
+    sized l s (group-inside _ _ (c .group-at .ensures))
 
 good-group : (c : tie.After-group-at) → GroupRight (pairsOf (c .group-at .result))
 good-group c =
@@ -82,7 +82,7 @@ group-at-requires : tie.Need-group-at-requires
 group-at-requires c κs = search needs
 
 has-room-requires : tie.Need-has-room-requires
-has-room-requires c κs = (c .group-at .ensures .loads, c .group-at .ensures .stores)
+has-room-requires c κs = group-inside _ _ (c .group-at .ensures)
 
 refused-requires-3 : tie.Need-refused-requires-3
 refused-requires-3 c κs = search needs
@@ -93,7 +93,7 @@ returns-3 c = rw (rule (c .before .before .before), sym (c .before .before .has-
 with-group-requires : tie.Need-with-group-requires
 with-group-requires c κs =
     let p = c .before .before in
-    group-fits (queue p) (size p) (p .group-at .ensures .loads, p .group-at .ensures .stores) (right (p .before .before .before)) (good-group p) (has-place c)
+    group-fits (queue p) (size p) (group-inside _ _ (p .group-at .ensures)) (right (p .before .before .before)) (good-group p) (has-place c)
 
 returns-4 : tie.Need-returns-4
 returns-4 c =

@@ -7,7 +7,7 @@ use borrow.Author.Needs.{needs}
 use borrow.Author.Tests.{not-true, not-false}
 use Rattle.table.specs.Group.{pairsOf}
 use Rattle.table.specs.Table.{groupsOf}
-use Rattle.table.proofs.CheckLaws.{long}
+use Rattle.table.proofs.CheckLaws.{long, group-inside}
 use Rattle.queue.specs.Open.{groupFits}
 use Rattle.queue.proofs.GroupLaws.{groups-here, groups-end}
 use Rattle.queue.proofs.WalkLaws.{AllYet, all-none, all-on, all-stop, all-end}
@@ -36,7 +36,7 @@ group-at-requires : tie.Need-group-at-requires Inv-loop μ-loop
 group-at-requires c κs = search needs
 
 group-fits-requires : tie.Need-group-fits-requires Inv-loop μ-loop
-group-fits-requires c κs = (c .group-at .ensures .loads, c .group-at .ensures .stores)
+group-fits-requires c κs = group-inside _ _ (c .group-at .ensures)
 
 returns : tie.Need-returns Inv-loop μ-loop
 returns c =

@@ -10,7 +10,7 @@ use Rattle.table.specs.Basics.{within}
 use Rattle.table.specs.Group.{GroupPairs, pairsOf}
 use Rattle.table.specs.Table.{groupsOf, noneSeen}
 use Rattle.table.specs.Internal.{seenIn}
-use Rattle.table.proofs.CheckLaws.{long, Passing, passing-none, passing-stop, passing-more, passing-end, groups-size, group-at, table-count, table-groups}
+use Rattle.table.proofs.CheckLaws.{long, Passing, passing-none, passing-stop, passing-more, passing-end, groups-size, group-inside, group-at, table-count, table-groups}
 use Rattle.table.proofs.check.table_fault.Statement.{statement}
 use Rattle.table.proofs.check.table_fault.Tie as tie
 
@@ -54,9 +54,7 @@ this c =
     group-at (e .before .before .before .args .table) (whole e) (l .before .loop .i) (l .loop-test .taken) (groupOf c) (c .group-at .ensures)
 
 check-group-requires : tie.Need-check-group-requires Inv-loop μ-loop
-check-group-requires c κs =
-    let g = c .before .before .group-at .ensures in
-    (g .loads, g .stores)
+check-group-requires c κs = group-inside _ _ (c .before .before .group-at .ensures)
 
 returns-3 : tie.Need-returns-3 Inv-loop μ-loop
 returns-3 c =

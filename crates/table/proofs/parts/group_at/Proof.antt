@@ -1,4 +1,5 @@
 use borrow.Author.Needs.{needs}
+use Rattle.table.specs.Table.{groupAt}
 use Rattle.table.proofs.parts.group_at.Statement.{statement}
 use Rattle.table.proofs.parts.group_at.Tie as tie
 
@@ -12,14 +13,8 @@ pairs-at-requires-2 : tie.Need-pairs-at-requires-2
 pairs-at-requires-2 c κs = search needs
 
 returns : tie.Need-returns
-returns c =
-    let p = c .before in
-    let s = p .before .before .before in
-    record {
-      is = rw (p .pairs-at .ensures .is, c .pairs-at2 .ensures .is, s .span-at .ensures);
-      loads = p .pairs-at .ensures .inside;
-      stores = c .pairs-at2 .ensures .inside;
-    }
+unfolding groupAt
+returns c = rw (c .before .pairs-at .ensures, c .pairs-at2 .ensures, c .before .before .before .before .span-at .ensures)
 
 pub group-at-spec : {M : Type 1} → statement M
 group-at-spec = tie.close (tie.spec span-at-requires pairs-at-requires pairs-at-requires-2 returns)

@@ -11,7 +11,7 @@ use Rattle.table.specs.Number.{numberBytes, bytesOf}
 use Rattle.table.specs.Group.{GroupPairs, pairsOf}
 use Rattle.table.specs.Table.{groupsOf}
 use Rattle.table.specs.TableBytes.{groupNumbers}
-use Rattle.table.proofs.CheckLaws.{long, groups-size, group-at}
+use Rattle.table.proofs.CheckLaws.{long, groups-size, group-inside, group-at}
 use Rattle.table.proofs.SpliceLaws.{Put, put-none, put-two, put-more, put-length}
 use Rattle.table.proofs.WriteLaws.{flat-next, flat-room, table-size, put-table}
 use Rattle.table.proofs.write.put_table.Statement.{statement}
@@ -100,7 +100,7 @@ put-group-requires : tie.Need-put-group-requires Inv-loop μ-loop
 put-group-requires c κs =
     let g = c .before in
     let w = g .before .before .loop .inv .1 in
-    ((g .group-at .ensures .loads, g .group-at .ensures .stores), omega (arith, room g, w .ends, put-length w (omega (arith, room g))))
+    (group-inside _ _ (g .group-at .ensures), omega (arith, room g, w .ends, put-length w (omega (arith, room g))))
 
 add-i : tie.Need-add-i Inv-loop μ-loop
 add-i c = omega arith

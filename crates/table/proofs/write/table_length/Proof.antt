@@ -6,7 +6,7 @@ use borrow.Author.Needs.{needs}
 use Rattle.table.specs.Group.{pairsOf}
 use Rattle.table.specs.Table.{groupsOf}
 use Rattle.table.specs.TableBytes.{groupNumbers}
-use Rattle.table.proofs.CheckLaws.{long, groups-size, group-at}
+use Rattle.table.proofs.CheckLaws.{long, groups-size, group-inside, group-at}
 use Rattle.table.proofs.SpliceLaws.{bytes-most}
 use Rattle.table.proofs.WriteLaws.{Tallied, tallied-none, tallied-more, tallied-end, table-bytes}
 use Rattle.table.proofs.write.table_length.Statement.{statement}
@@ -33,9 +33,7 @@ group-at-requires : tie.Need-group-at-requires Inv-loop μ-loop
 group-at-requires c κs = search needs
 
 group-length-requires : tie.Need-group-length-requires Inv-loop μ-loop
-group-length-requires c κs =
-    let g = c .group-at .ensures in
-    (g .loads, g .stores)
+group-length-requires c κs = group-inside _ _ (c .group-at .ensures)
 
 add-total : tie.Need-add-total Inv-loop μ-loop
 add-total c = omega (arith, c .group-length .ensures .1, c .before .before .before .before .before .pre)

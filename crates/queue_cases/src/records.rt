@@ -110,9 +110,9 @@ fn with_store(mut queue: Queue, place: u32, entry: StoreEntry) -> Queue {
 // Of the numbers: group, first load's place, loads, first store's place, stores.
 fn span_of(numbers: [u32; 8]) -> Span {
     Span {
-        load: byte(numbers[1]),
+        first_load: byte(numbers[1]),
         loads: byte(numbers[2]),
-        store: byte(numbers[3]),
+        first_store: byte(numbers[3]),
         stores: byte(numbers[4]),
     }
 }

@@ -10,13 +10,13 @@ use table::Span;
 use table::Table;
 
 fn same_span(a: Span, b: Span) -> bool {
-    if a.load != b.load {
+    if a.first_load != b.first_load {
         return false;
     }
     if a.loads != b.loads {
         return false;
     }
-    if a.store != b.store {
+    if a.first_store != b.first_store {
         return false;
     }
     a.stores == b.stores

@@ -17,9 +17,9 @@ fn filled() -> Table {
         port: 255,
     };
     let span = Span {
-        load: 255,
+        first_load: 255,
         loads: 255,
-        store: 255,
+        first_store: 255,
         stores: 255,
     };
     Table {
@@ -33,9 +33,9 @@ fn filled() -> Table {
 // Of the numbers: group, first load's place, loads, first store's place, stores.
 fn span_of(numbers: [u64; 8]) -> Span {
     Span {
-        load: byte(numbers[1]),
+        first_load: byte(numbers[1]),
         loads: byte(numbers[2]),
-        store: byte(numbers[3]),
+        first_store: byte(numbers[3]),
         stores: byte(numbers[4]),
     }
 }

@@ -1,6 +1,5 @@
 // Which ports a table names: load ports and store ports are two separate series.
 ghost use mathlib.Core.Path.{_≡_};
-ghost use Prim.Native.Nat.{_≤_};
 ghost use Rattle.table.specs.Basics.{any};
 ghost use Rattle.table.specs.Group.{listOf, Inside};
 ghost use Rattle.table.specs.Table.{groupsOf, tableFault};

@@ -51,7 +51,7 @@ fn oldest_untaken(loads: Loads, port: u32) -> usize
 }
 
 impl Queue {
-    // The load at a place is taken, and finished entries leave, as after a write.
+    // The load at a place is taken, and finished entries leave, each side by itself as after a write.
     fn taken(mut self, at: usize, value: u32) -> Outcome
         requires { ⌜ (at < self .loads .count) × (self .loads .count ≤ 64) × (self .stores .count ≤ 64) ⌝ }
         ensures { λ r. ⌜ Accepted (Value.Word value) (settle (withLoads (contentsOf self) (updateAt loadTaken at (contentsOf self .loads)))) r ⌝ }

@@ -21,13 +21,19 @@ use Rattle.queue.specs.ServeLent.{withCounts}
 use Rattle.queue.specs.Records.{valueIn}
 use Rattle.queue.specs.Call.{Machine, Step, moved, served, written, taken}
 use Rattle.replay.specs.Playing.{Playing, playing, stepOf, played, countsAfter, afterServe}
-use Rattle.replay.specs.Internal.{Plays, uncounted}
+use Rattle.replay.specs.Internal.{uncounted}
 
 abbrev made : Machine → Counts → Playing
 made m c = record { machine = m; counts = c }
 
 abbrev machine : Contents → List ℕ → Machine
 machine q m = record { queue = q; memory = m }
+
+-- one event played on a queue's record, with the memory and the counts as they were and as they are left
+pub record Plays (q : Queue) (c : Counts) (memory : List ℕ) (e : Event) (r : Counted) (left : List ℕ) : Type 0 where
+  pub answer : stepOf (playing (contentsOf q) memory c) e .number ≡ r .answer
+  pub value : stepOf (playing (contentsOf q) memory c) e .value ≡ valueIn (r .value)
+  pub next : played (playing (contentsOf q) memory c) e ≡ playing (contentsOf (r .queue)) left (r .counts)
 
 -- the event by its value
 pub plays-as : {q : Queue} {c : Counts} {m : List ℕ} {e₁ e₂ : Event} {r : Counted} {left : List ℕ} → e₁ ≡ e₂ → Plays q c m e₂ r left → Plays q c m e₁ r left

@@ -31,8 +31,9 @@ use Rattle.replay.specs.Events.{eventsFrom}
 use Rattle.replay.specs.Playing.{Playing, playing, stepOf, played, Logged, logged, log, playedAll, answerOf, givenOf, wordOf, givenIn, wordIn}
 use Rattle.replay.specs.Replay.{Start, prepare, Replay, replayed, Buffers, fits, replay}
 use Rattle.replay.specs.Outcome.{over, logIn, Replays, Replayed-as}
-use Rattle.replay.specs.Internal.{Plays, Noted, Playable, eventsIn, through}
+use Rattle.replay.specs.Internal.{Noted, Playable, eventsIn, through}
 use Rattle.replay.proofs.EventLaws.{EventGot}
+use Rattle.replay.proofs.PlayLaws.{Plays}
 
 abbrev pub buffers : List ℕ → List ℕ → List ℕ → Buffers
 buffers a g w = record { answers = a; given = g; words = w }

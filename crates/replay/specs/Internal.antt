@@ -6,13 +6,11 @@ use lib.ListN.{length, set}
 use Rattle.table.specs.Number.{Got, got, bad}
 use Rattle.table.specs.declared.Event.{Event}
 use Rattle.queue.specs.declared.Queue.{Queue}
-use Rattle.queue.specs.declared.Counts.{Counts}
 use Rattle.queue.specs.declared.Outcome.{Outcome}
 use Rattle.queue.specs.declared.Counted.{Counted}
-use Rattle.queue.specs.Contents.{contentsOf}
 use Rattle.queue.specs.Records.{valueIn}
 use Rattle.replay.specs.Events.{eventsFrom}
-use Rattle.replay.specs.Playing.{Playing, playing, stepOf, played, log, playedAll, givenIn, wordIn}
+use Rattle.replay.specs.Playing.{Playing, log, playedAll, givenIn, wordIn}
 use Rattle.replay.specs.Replay.{Replay, Buffers}
 
 -- every event from a place on can be read, and there is room for what each is answered
@@ -31,13 +29,7 @@ eventsIn (bad n) = []
 abbrev pub through : Playing → List Event → Replay
 through p es = record { log = log p es; left = playedAll p es }
 
--- ---- one event
-
--- one event played on a queue's record, with the memory and the counts as they were and as they are left
-pub record Plays (q : Queue) (c : Counts) (memory : List ℕ) (e : Event) (r : Counted) (left : List ℕ) : Type 0 where
-  pub answer : stepOf (playing (contentsOf q) memory c) e .number ≡ r .answer
-  pub value : stepOf (playing (contentsOf q) memory c) e .value ≡ valueIn (r .value)
-  pub next : played (playing (contentsOf q) memory c) e ≡ playing (contentsOf (r .queue)) left (r .counts)
+-- ---- an event that was played
 
 -- a serve's outcome without the counts
 abbrev pub uncounted : Counted → Outcome

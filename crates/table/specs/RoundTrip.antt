@@ -1,5 +1,6 @@
 -- What reading and writing promise together: what is written is read back, and what is read means what it spells. Document
--- 01: "a reader accepts padding; the writer uses the fewest bytes". The proofs are proofs/RoundTrip.antt and RoundTripLaws.antt.
+-- 01: "a reader accepts padding; the writer uses the fewest bytes". The proofs are proofs/RoundTrip.antt, RoundTripLaws.antt
+-- and PackLaws.antt.
 use Prim.Native.Nat.{ℕ, _+_, _≤_, _<_, _^_}
 use mathlib.Core.Path.{_≡_}
 use mathlib.Core.Bool.{Bool, true}

@@ -53,11 +53,11 @@ sized {g} l s h = record { loads = view-length (g .loads) l (h .0); stores = vie
 
 -- what a table hands over as its accesses has the places for them
 pairs-inside : (first n : ℕ) (places : List Pair) → Inside (pairsAt first n places)
-pairs-inside first n places = go (leb (first + n) 32) refl (leb n 32) refl
+pairs-inside first n places = go (leb (first + n) 32) refl (eqb n 0) refl
   where
-    go : (t : Bool) → leb (first + n) 32 ≡ t → (u : Bool) → leb n 32 ≡ u → Inside (pairsAt first n places)
+    go : (t : Bool) → leb (first + n) 32 ≡ t → (u : Bool) → eqb n 0 ≡ u → Inside (pairsAt first n places)
     go true h u k = rw h (leb-true (first + n) 32 h)
-    go false h true k = rw (h, k) (omega (arith, leb-true n 32 k))
+    go false h true k = rw (h, k) (omega arith)
     go false h false k = rw (h, k) (omega arith)
 
 pub group-inside : (t : Table) (i : ℕ) {g : Group} → g ≡ groupAt t i → GroupInside g

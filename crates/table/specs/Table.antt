@@ -16,14 +16,10 @@ use Rattle.table.specs.Group.{GroupPairs, pairsOf, beforeStore}
 abbrev pub blankSpan : Span
 blankSpan = record { «first_load» = 0; loads = 0; «first_store» = 0; stores = 0 }
 
--- a pair that no table may have
-abbrev pub wrongPair : Pair
-wrongPair = record { offset = 255; port = 255 }
-
--- So many accesses from a place on. Where there are not so many places they stand for accesses that no table may have: a
--- record with such a group is never right. It meets 5 if they are more than 16, else 8.
+-- So many accesses from a place on. Where there are not so many places they stand for 17, one more than a group may have: a
+-- record with such a group is never right, since it meets 5. No access is none, wherever it stands.
 abbrev pub pairsAt : ℕ → ℕ → List Pair → Pairs
-pairsAt first n places = pick (leb (first + n) 32) (record { first = first; count = n; places = places }) (record { first = 0; count = pick (leb n 32) n 32; places = replicate 32 wrongPair })
+pairsAt first n places = pick (leb (first + n) 32) (record { first = first; count = n; places = places }) (record { first = 0; count = pick (eqb n 0) 0 17; places = places })
 
 -- a group of a table: its accesses stand among the table's loads and stores
 abbrev pub groupIn : List Pair → List Pair → Span → Group

@@ -8,7 +8,7 @@ use crate::Pairs;
 use crate::Span;
 use crate::Table;
 
-// So many accesses from a place on. Where there are not so many places they are accesses that no table may have.
+// So many accesses from a place on. Where there are not so many places they are 17, one more than a group may have.
 fn pairs_at(places: [Pair; 32], first: u8, count: u8) -> Pairs
     ensures { λ r. ⌜ r ≡ pairsAt first count places ⌝ }
 {
@@ -19,21 +19,17 @@ fn pairs_at(places: [Pair; 32], first: u8, count: u8) -> Pairs
             places,
         };
     }
-    let wrong = Pair {
-        offset: 255,
-        port: 255,
-    };
-    if count <= 32 {
+    if count == 0 {
         return Pairs {
             first: 0,
-            count,
-            places: [wrong; 32],
+            count: 0,
+            places,
         };
     }
     Pairs {
         first: 0,
-        count: 32,
-        places: [wrong; 32],
+        count: 17,
+        places,
     }
 }
 

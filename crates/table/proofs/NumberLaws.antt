@@ -167,7 +167,7 @@ div-below n b c e = go (ltb n c) refl
     go true h = let k = ltb-true n c h in lt-ltb (n / 128) b (omega arith)
     go false h = let k = ltb-false n c h in le-ltb (n / 128) b (omega arith)
 
--- S-5's law: the writer's bytes of a number are as many as its significant bits call for
+-- the writer's bytes of a number are as many as its significant bits call for
 pub number-length-law : (n : ℕ) → n < 2 ^ 32 → byteCount (significantBits n) ≡ length (numberBytes n)
 unfolding bytesUpTo
 number-length-law n h =

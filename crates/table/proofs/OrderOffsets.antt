@@ -13,7 +13,7 @@ use Rattle.table.specs.declared.Pair.{Pair}
 use Rattle.table.specs.Refusal.{badGroupCount, badCounts}
 use Rattle.table.specs.Basics.{pick, count, takeWhile, dropWhile, within, check, orElse}
 use Rattle.table.specs.ProgramOrder.{loadPairs, storePairs, OffsetsCountOrder}
-use Rattle.table.specs.Group.{GroupPairs, blankPair, Access, load, store, asLoad, beforeStore, orderFrom, order}
+use Rattle.table.specs.Group.{GroupPairs, blankPair, Access, store, asLoad, beforeStore, orderFrom, order}
 use Rattle.table.specs.Table.{loadRule, storeRule, pairFault, pairsFault, countsRight, Seen, noneSeen, seenAfter, groupFault, groupsFault, tableFault}
 use Rattle.table.proofs.CheckLaws.{and-left, and-right, fault-none, counts-few, count-most}
 use Rattle.table.proofs.Order.{takeWhile-dropWhile}
@@ -134,6 +134,10 @@ module _ (rule : ℕ → ℕ → ℕ → Bool) (low i : ℕ) (seen : List Bool) 
   unfolding pairsFault
   pair-right = fault-none (rule low i (p .offset)) seen (p .port) (or-else-left _ (pairsFault rule (p .offset) (suc i) (set seen (p .port) true) ps) e) .0
 
+  port-right : p .port ≤ 31
+  unfolding pairsFault
+  port-right = fault-none (rule low i (p .offset)) seen (p .port) (or-else-left _ (pairsFault rule (p .offset) (suc i) (set seen (p .port) true) ps) e) .1
+
   rest-right : pairsFault rule (p .offset) (suc i) (set seen (p .port) true) ps ≡ 0
   unfolding pairsFault
   rest-right = or-else-right (pairFault (rule low i (p .offset)) seen (p .port)) _ e
@@ -148,6 +152,12 @@ stores-checked : (ls : List Pair) (low i : ℕ) (seen : List Bool) (ss : List Pa
 stores-checked ls low i seen [] e = tt
 stores-checked ls low i seen (s ∷ ss) e =
     (eqb-true _ _ (pair-right (storeRule ls) low i seen s ss e) ∙ sym (zero-add _), stores-checked ls (s .offset) (suc i) (set seen (s .port) true) ss (rest-right (storeRule ls) low i seen s ss e))
+
+-- ports are at most 31
+ports-checked : (rule : ℕ → ℕ → ℕ → Bool) (low i : ℕ) (seen : List Bool) (ps : List Pair) → pairsFault rule low i seen ps ≡ 0 → (j : ℕ) → j < length ps → getD ps j blankPair .port ≤ 31
+ports-checked rule low i seen [] e j h = absurd (not-suc-le-zero h)
+ports-checked rule low i seen (p ∷ ps) e zero h = port-right rule low i seen p ps e
+ports-checked rule low i seen (p ∷ ps) e (suc j) h = ports-checked rule (p .offset) (suc i) (set seen (p .port) true) ps (rest-right rule low i seen p ps e) j (le-of-suc-le-suc h)
 
 -- offsets are at most the number of the other kind
 between-at : (low top : ℕ) (ls : List Pair) → Between low top ls → (i : ℕ) → i < length ls → getD ls i blankPair .offset ≤ top
@@ -166,6 +176,8 @@ pub record GroupRight (g : GroupPairs) : Type 0 where
   pub few-stores : length (g .stores) ≤ 16
   pub load-offset : (i : ℕ) → i < length (g .loads) → getD (g .loads) i blankPair .offset ≤ 16
   pub store-offset : (i : ℕ) → i < length (g .stores) → getD (g .stores) i blankPair .offset ≤ 16
+  pub load-port : (i : ℕ) → i < length (g .loads) → getD (g .loads) i blankPair .port ≤ 31
+  pub store-port : (i : ℕ) → i < length (g .stores) → getD (g .stores) i blankPair .port ≤ 31
   pub loads-are : loadPairs 0 (order g) ≡ g .loads
   pub stores-are : storePairs 0 (order g) ≡ g .stores
 
@@ -190,6 +202,8 @@ module _ (seen : Seen) (g : GroupPairs) (e : groupFault seen g ≡ 0) where
     few-stores = few .1;
     load-offset = λ i h. le-trans (between-at 0 (length (g .stores)) (g .loads) between i h) (few .1);
     store-offset = λ i h. le-trans (agree-at 0 (g .loads) (g .stores) agree i h) (few .0);
+    load-port = ports-checked (loadRule (length (g .stores))) 0 0 (seen .loads) (g .loads) (or-else-left _ _ pairs-fault);
+    store-port = ports-checked (storeRule (g .loads)) 0 0 (seen .stores) (g .stores) (or-else-right (pairsFault (loadRule (length (g .stores))) 0 0 (seen .loads) (g .loads)) _ pairs-fault);
     loads-are = loads-from 0 (g .loads) (g .stores) (rw (zero-add (length (g .stores))) between);
     stores-are = stores-from 0 0 0 (length (g .stores)) (g .loads) (g .stores) between agree;
   }

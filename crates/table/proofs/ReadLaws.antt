@@ -24,7 +24,7 @@ use Rattle.table.specs.Group.{GroupPairs, blankPair, listOf}
 use Rattle.table.specs.Table.{loadRule, storeRule, pairFault, pairsFault, seeing, countsRight, Seen, noneSeen, seenAfter, groupFault}
 use Rattle.table.specs.TableBytes.{unless, pair, before, readPairs, readGroup, readGroups, pack}
 use Rattle.table.specs.Internal.{Two, two, readTwo, twoAnswer, packPairs, PairsFound, PairsResult, found, none, seenOf, GroupFound, GroupResult, group-found, group-none, Growing, Grown, GroupsFound, GroupsResult, groups-found, groups-none}
-use Rattle.table.proofs.NumberLaws.{place-drop, NumberGot, number-got}
+use Rattle.table.proofs.NumberLaws.{NumberGot, number-got}
 use Rattle.table.proofs.PackLaws.{Marks, marks-none, marks-room, marks-more, list-packed, Packed, packed-none, packed-more}
 
 -- ---- two numbers

@@ -1,28 +1,27 @@
 -- Tables and traces are read back; the statements are specs/RoundTrip.antt.
-use Prim.Native.Nat.{ℕ, zero, suc, _+_, _≤_, _<_, _^_}
+use Prim.Native.Nat.{ℕ, zero, suc, _+_, _≤_, _<_}
 use mathlib.Core.Path.{_≡_, refl, sym, ap, _∙_}
 use mathlib.Core.Bool.{Bool, true, false, true≢false, false≢true}
 use mathlib.Core.List.{List, [], _∷_, _++_, append-nil, append-assoc}
 use native.Mathlib.Omega.{arith}
 use lib.Dec.{leb, eqb}
-use lib.ListN.{length, getD, set, drop, length-append}
+use lib.ListN.{length, set, drop, length-append}
 use lib.Seq.{drop-append-seam}
-use borrow.Author.Tests.{eq-eqb, le-leb, ne-eqb, leb-true, eqb-true}
+use borrow.Author.Tests.{ne-eqb, leb-true, eqb-true}
 use Rattle.table.specs.declared.Pair.{Pair}
 use Rattle.table.specs.declared.Event.{Event}
 use Rattle.table.specs.declared.Event.the-variants.{Activate, LoadAddress, StoreAddress, StoreData, Serve, Write, Take}
-use Rattle.table.specs.declared.Header.{Header}
-use Rattle.table.specs.declared.EventRead.the-variants.{Found, End}
+use Rattle.table.specs.declared.EventRead.the-variants.{Found}
 use Rattle.table.specs.declared.HeaderRead.the-variants.{Leading}
-use Rattle.table.specs.Basics.{pick, count, flat, within, check, orElse}
+use Rattle.table.specs.Basics.{pick, count, flat, within}
 use Rattle.table.specs.Refusal.{badFields, badGroupCount, badCounts, leftOver, badKind}
-use Rattle.table.specs.Number.{Got, got, bad, andThen, require, readNumber, placeOf, numberBytes, bytesOf, spells, valueOf}
+use Rattle.table.specs.Number.{Got, got, bad, andThen, require, readNumber, placeOf, numberBytes, bytesOf}
 use Rattle.table.specs.Group.{GroupPairs, beforeStore}
 use Rattle.table.specs.Table.{loadRule, storeRule, pairFault, pairsFault, countsRight, Seen, noneSeen, seenAfter, groupFault, groupsFault, tableFault}
 use Rattle.table.specs.TableBytes.{unless, pair, before, readPairs, readGroup, readGroups, readTable, pairNumbers, groupNumbers, tableNumbers, tableBytes}
-use Rattle.table.specs.Event.{eventNumbers, hasSecond, eventOf, readKind, readEvent, eventAnswer, eventAt, eventBytes, eventsBytes, headerNumbers, headerBytes, headerAnswer, readHeader}
+use Rattle.table.specs.Event.{eventNumbers, hasSecond, eventOf, readKind, readEvent, eventAt, eventBytes, eventsBytes, headerBytes, headerAnswer, readHeader}
 use Rattle.table.specs.RoundTrip.{Spelled, nothing, next, Fit, none, one, TablesAreSpelled, OnlyRightTables, TablesReadBack, RecordsHoldGroups, EventsAreSpelled, OnlySpelledEvents, Yields, ends, yields, HeadersAreSpelled, OnlySpelledHeaders, AllFit, no-more, and-more, TracesReadBack}
-use Rattle.table.proofs.CheckLaws.{and-left, and-right, fault-none, counts-few, count-most}
+use Rattle.table.proofs.CheckLaws.{and-right, fault-none, counts-few, count-most}
 use Rattle.table.proofs.SpliceLaws.{bytes-some}
 use Rattle.table.proofs.TraceLaws.{event-at-end, event-at-inside}
 use Rattle.table.proofs.PackLaws.{group-fault, groups-packed}

@@ -1,16 +1,16 @@
 -- Numbers: what is spelled is read, what is read is spelled, and the writer spells in the fewest bytes.
-use Prim.Native.Nat.{ℕ, zero, suc, _+_, _-_, _*_, _/_, _%_, _≤_, _<_, _^_}
-use mathlib.Core.Path.{_≡_, refl, sym, ap, subst, _∙_}
-use mathlib.Core.Bool.{Bool, true, false, _&&_}
-use mathlib.Core.List.{List, [], _∷_, _++_, append-nil, append-assoc}
+use Prim.Native.Nat.{ℕ, zero, suc, _+_, _-_, _*_, _/_, _%_, _≤_, _<_}
+use mathlib.Core.Path.{_≡_, refl, sym, ap, _∙_}
+use mathlib.Core.Bool.{Bool, true, false}
+use mathlib.Core.List.{List, [], _∷_, _++_}
 use native.Mathlib.Omega.{arith}
 use lib.Dec.{leb, ltb}
 use lib.ListN.{length, length-append}
-use borrow.Author.Tests.{lt-ltb, le-ltb, le-leb, ltb-true, ltb-false, leb-true}
+use borrow.Author.Tests.{le-ltb, le-leb, ltb-true, ltb-false}
 use Rattle.table.specs.Basics.{pick, all}
 use Rattle.table.specs.Refusal.{tooLarge}
-use Rattle.table.specs.Number.{Got, got, bad, above, numberUpTo, readNumber, bytesUpTo, numberBytes, bytesOf, spells, isEmpty, valueOf}
-use Rattle.table.specs.RoundTrip.{Spelled, nothing, next, Fit, none, one, isByte, NumbersAreSpelled, OnlySpelledNumbers, NumbersReadBack, NumberLength, FewestBytes}
+use Rattle.table.specs.Number.{Got, got, bad, above, numberUpTo, bytesUpTo, numberBytes, spells, isEmpty, valueOf}
+use Rattle.table.specs.RoundTrip.{isByte, NumbersAreSpelled, OnlySpelledNumbers, NumbersReadBack, NumberLength, FewestBytes}
 use Rattle.table.proofs.CheckLaws.{and-left, and-right}
 use Rattle.table.proofs.NumberLaws.{numberBound, number-length-law}
 

@@ -4,16 +4,16 @@ use mathlib.Core.Path.{_≡_, refl, sym, ap, _∙_}
 use mathlib.Core.Bool.{Bool, true, false}
 use mathlib.Core.List.{List, [], _∷_, _++_, append-assoc, append-nil}
 use native.Mathlib.Omega.{arith}
-use native.Mathlib.Nat.{add-assoc, add-zero, add-suc, suc-add, zero-add}
+use native.Mathlib.Nat.{add-assoc, add-zero, zero-add}
 use native.Mathlib.Numerals.{add-one}
 use lib.ListN.{length, getD, take, drop, set, length-append, length-drop, length-set, take-append-drop}
-use lib.Seq.{length-take-le, take-suc-set, drop-set-lt, take-at, drop-at, drop-append-add, drop-drop, append-snoc, take-suc, take-take}
+use lib.Seq.{length-take-le, take-suc-set, drop-set-lt, take-at, drop-append-add, drop-drop, take-suc, take-take}
 use borrow.Author.Tests.{lt-ltb, le-ltb, lt-leb, le-leb}
 use lib.Dec.{ltb}
 use Rattle.table.specs.declared.Written.the-variants.{Bytes, Unwritten}
 use Rattle.table.specs.Basics.{pick, splice}
 use Rattle.table.specs.Refusal.{tooShort}
-use Rattle.table.specs.Number.{bytesUpTo, numberBytes, bytesOf, Wrote, wrote}
+use Rattle.table.specs.Number.{bytesUpTo, numberBytes, bytesOf, wrote}
 use Rattle.table.proofs.NumberLaws.{numberBound}
 
 pub splice-none : (d : List ℕ) (p : ℕ) → splice d p [] ≡ d

@@ -1,12 +1,11 @@
 -- Laws of reading events at a place.
-use Prim.Native.Nat.{ℕ, suc, _≤_, _<_}
-use mathlib.Core.Path.{_≡_, refl, sym, ap, _∙_}
-use mathlib.Core.List.{List, [], _∷_}
-use lib.ListN.{length, getD, drop, drop-of-length-le}
+use Prim.Native.Nat.{ℕ, _≤_, _<_}
+use mathlib.Core.Path.{_≡_}
+use mathlib.Core.List.{List}
+use lib.ListN.{length, drop, drop-of-length-le}
 use lib.Seq.{drop-cons}
-use Rattle.table.specs.declared.EventRead.{EventRead}
 use Rattle.table.specs.declared.EventRead.the-variants.{End}
-use Rattle.table.specs.Event.{eventAnswer, eventIn, eventAt, readEvent}
+use Rattle.table.specs.Event.{eventAnswer, eventAt, readEvent}
 
 pub event-at-end : (s : List ℕ) (place : ℕ) → length s ≤ place → eventAt s place ≡ End
 unfolding eventAt

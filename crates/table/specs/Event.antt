@@ -2,7 +2,7 @@
 -- An event is one of seven kinds with its own numbers."
 use Prim.Native.Nat.{ℕ}
 use mathlib.Core.Bool.{Bool}
-use mathlib.Core.List.{List, [], _∷_, _++_}
+use mathlib.Core.List.{List, [], _∷_}
 use lib.Dec.{eqb, leb}
 use lib.ListN.{drop}
 use Rattle.table.specs.declared.Event.{Event}

@@ -1,6 +1,7 @@
 -- When a table is right. Document 01, "Bytes and tables", and the numbers 4 to 8 in the order of checking.
-use Prim.Native.Nat.{ℕ, suc, _+_}
-use mathlib.Core.Bool.{Bool, true, false, not, _&&_}
+use Prim.Native.Nat.{ℕ, suc, _+_, _<_}
+use mathlib.Core.Path.{_≡_}
+use mathlib.Core.Bool.{Bool, true, false, not, _&&_, _||_}
 use mathlib.Core.List.{List, [], _∷_, map}
 use lib.Dec.{leb, eqb}
 use lib.ListN.{length, getD, set, replicate}
@@ -17,7 +18,7 @@ abbrev pub blankSpan : Span
 blankSpan = record { «first_load» = 0; loads = 0; «first_store» = 0; stores = 0 }
 
 -- So many accesses from a place on. Where there are not so many places they stand for 17, one more than a group may have: a
--- record with such a group is never right, since it meets 5. No access is none, wherever it stands.
+-- record with such a group is never right, since it meets 5 (`GroupsWithinPlaces`). No access is none, wherever it stands.
 abbrev pub pairsAt : ℕ → ℕ → List Pair → Pairs
 pairsAt first n places = pick (leb (first + n) 32) (record { first = first; count = n; places = places }) (record { first = 0; count = pick (eqb n 0) 0 17; places = places })
 
@@ -93,3 +94,16 @@ groupsFault seen (g ∷ gs) = orElse (groupFault seen g) (groupsFault (seenAfter
 -- The first of 4, 5, 8, 6, 7 that a table meets, or 0: the table is right.
 unfoldable pub tableFault : List GroupPairs → ℕ
 tableFault gs = check (within 1 16 (length gs)) badGroupCount (groupsFault noneSeen gs)
+
+-- A right table's groups stand within the places of its record, of whatever record with the arrays' lengths; a run of no
+-- access is within them. The proof is proofs/WithinPlaces.antt.
+abbrev pub runWithin : ℕ → ℕ → Bool
+runWithin first n = eqb n 0 || leb (first + n) 32
+
+abbrev pub spanWithin : Span → Bool
+spanWithin s = runWithin (s .«first_load») (s .loads) && runWithin (s .«first_store») (s .stores)
+
+abbrev pub GroupsWithinPlaces : Type 0
+GroupsWithinPlaces =
+    (t : Table) → length (t .groups) ≡ 16 → length (t .loads) ≡ 32 → length (t .stores) ≡ 32 → tableFault (groupsOf t) ≡ 0
+    → (i : ℕ) → i < t .count → spanWithin (getD (t .groups) i blankSpan) ≡ true

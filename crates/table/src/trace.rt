@@ -1,10 +1,9 @@
 // Events and traces: a trace is four leading numbers, then events to the end of its bytes.
 ghost use mathlib.Core.Path.{_≡_};
 ghost use Prim.Native.Nat.{_+_, _≤_};
-ghost use mathlib.Core.List.{List};
 ghost use lib.ListN.{length, take, drop};
-ghost use Rattle.table.specs.Number.{readNumber, bytesOf, wrote};
-ghost use Rattle.table.specs.Event.{readHeader, headerAnswer, headerBytes, headerNumbers, eventOf, hasSecond, readKind, eventAnswer, eventAt, stepAt, eventNumbers, eventBytes};
+ghost use Rattle.table.specs.Number.{bytesOf, wrote};
+ghost use Rattle.table.specs.Event.{readHeader, headerAnswer, headerBytes, eventOf, readKind, eventAnswer, eventAt, stepAt, eventNumbers, eventBytes};
 ghost use Rattle.table.specs.Reader.{movedTo};
 ghost use Rattle.table.specs.Basics.{splice};
 ghost use Rattle.table.specs.Internal.{listed};

@@ -1,5 +1,4 @@
 use borrow.Author.Tests.{le-leb, lt-leb, not-true, not-false}
-use native.Mathlib.Omega.{arith}
 use borrow.Author.Needs.{needs}
 use Rattle.table.proofs.check.pair_fault.Statement.{statement}
 use Rattle.table.proofs.check.pair_fault.Tie as tie

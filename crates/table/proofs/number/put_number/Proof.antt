@@ -1,5 +1,4 @@
 -- What is still to be written, spliced where the writer stands, makes the buffer that is promised.
-use mathlib.Core.Path.{_∙_}
 use native.Mathlib.Omega.{arith}
 use lib.ListN.{length-set}
 use borrow.Author.Needs.{needs}

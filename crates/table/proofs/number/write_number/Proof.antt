@@ -1,5 +1,5 @@
 -- The length is known before the first byte is written, so a refusal leaves the buffer as it was.
-use Prim.Native.Nat.{_≤_, _<_}
+use Prim.Native.Nat.{_≤_}
 use mathlib.Core.Path.{_≡_, refl, ap}
 use native.Mathlib.Omega.{arith}
 use lib.ListN.{length}

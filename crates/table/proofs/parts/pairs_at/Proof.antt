@@ -1,4 +1,4 @@
-use borrow.Author.Tests.{le-leb, lt-leb, eq-eqb, ne-eqb}
+use borrow.Author.Tests.{le-leb, lt-leb, ne-eqb}
 use borrow.Author.Needs.{needs}
 use Rattle.table.proofs.parts.pairs_at.Statement.{statement}
 use Rattle.table.proofs.parts.pairs_at.Tie as tie

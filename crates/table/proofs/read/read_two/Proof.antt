@@ -1,5 +1,4 @@
-use mathlib.Core.Path.{_≡_, sym, ap, _∙_}
-use lib.ListN.{drop}
+use mathlib.Core.Path.{sym, ap, _∙_}
 use Rattle.table.specs.Number.{numberRefusal}
 use Rattle.table.specs.Internal.{readTwo}
 use Rattle.table.proofs.NumberLaws.{place-drop, NumberGot, number-got, number-bad}

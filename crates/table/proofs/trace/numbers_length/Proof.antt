@@ -1,10 +1,8 @@
 use Prim.Native.Nat.{_≤_, _<_, _*_, _-_}
-use mathlib.Core.Path.{_≡_, refl, _∙_}
+use mathlib.Core.Path.{_≡_}
 use native.Mathlib.Omega.{arith}
-use native.Mathlib.Numerals.{add-one}
-use lib.ListN.{length, take, getD}
+use lib.ListN.{length, getD}
 use borrow.Author.Needs.{needs}
-use Rattle.table.specs.Number.{bytesOf}
 use Rattle.table.proofs.SpliceLaws.{bytes-most, Counted, counted-none, counted-more, counted-end}
 use Rattle.table.proofs.trace.numbers_length.Statement.{statement}
 use Rattle.table.proofs.trace.numbers_length.Tie as tie

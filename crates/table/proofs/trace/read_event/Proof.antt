@@ -1,5 +1,4 @@
-use mathlib.Core.Path.{_≡_, sym, ap, _∙_}
-use lib.ListN.{drop}
+use mathlib.Core.Path.{sym, ap, _∙_}
 use Rattle.table.specs.Number.{numberRefusal}
 use Rattle.table.specs.Event.{readEvent}
 use Rattle.table.proofs.NumberLaws.{NumberGot, number-got, number-bad}

@@ -1,6 +1,5 @@
 -- Four numbers, one after the other: `first-got` and its likes say what each call found.
-use mathlib.Core.Path.{_≡_, sym, ap, _∙_}
-use lib.ListN.{drop}
+use mathlib.Core.Path.{sym, ap, _∙_}
 use Rattle.table.specs.Number.{numberRefusal}
 use Rattle.table.specs.Event.{readHeader}
 use Rattle.table.proofs.NumberLaws.{place-drop, NumberGot, number-got, number-bad}

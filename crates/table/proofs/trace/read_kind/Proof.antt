@@ -1,11 +1,7 @@
 -- What follows a kind is read number by number: `got` and `bad` say of each number what the call that read it found.
-use Prim.Native.Nat.{_≤_}
-use mathlib.Core.Path.{_≡_, sym, ap, _∙_}
-use mathlib.Core.Bool.{true, false}
-use native.Mathlib.Omega.{arith}
-use lib.ListN.{drop}
+use mathlib.Core.Path.{sym, ap, _∙_}
 use borrow.Author.Tests.{le-leb, lt-leb}
-use Rattle.table.specs.Number.{readNumber, bad, numberRefusal}
+use Rattle.table.specs.Number.{numberRefusal}
 use Rattle.table.proofs.NumberLaws.{place-drop, NumberGot, number-got, number-bad}
 use borrow.Author.Needs.{needs}
 use Rattle.table.proofs.trace.read_kind.Statement.{statement}

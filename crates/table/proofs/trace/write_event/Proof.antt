@@ -1,4 +1,3 @@
-use Rattle.table.specs.Number.{bytesOf}
 use borrow.Author.Needs.{needs}
 use Rattle.table.proofs.trace.write_event.Statement.{statement}
 use Rattle.table.proofs.trace.write_event.Tie as tie

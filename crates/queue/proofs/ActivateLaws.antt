@@ -1,12 +1,14 @@
 -- Activation by the record: room by the counts, and the new entries by their offsets.
 use Prim.Native.Nat.{ℕ, suc, _+_, _≤_, _<_}
 use native.Mathlib.Nat.{le-trans, add-zero, add-suc}
+use native.Mathlib.Omega.{arith}
 use mathlib.Core.Path.{_≡_, refl, sym, ap, _∙_}
 use mathlib.Core.Bool.{true, false, _&&_}
-use mathlib.Core.List.{List, [], _∷_, map}
+use mathlib.Core.List.{List, [], _∷_, _++_, map, map-append, map-map}
 use lib.Dec.{leb}
 use lib.ListN.{length, getD}
 use borrow.Author.Tests.{leb-true}
+use Rattle.table.specs.declared.Pair.{Pair}
 use Rattle.table.specs.declared.Pairs.{Pairs}
 use Rattle.table.specs.declared.Group.{Group}
 use Rattle.table.specs.Group.{GroupPairs, blankPair, listOf, pairsOf, Inside, Access, load, store, order}
@@ -14,17 +16,19 @@ use Rattle.table.specs.Table.{groupAt, groupsOf}
 use Rattle.table.proofs.CheckLaws.{Sized, groups-size}
 use Rattle.table.specs.ProgramOrder.{loadPairs, storePairs}
 use Rattle.table.proofs.OrderOffsets.{GroupRight}
-use Rattle.queue.specs.declared.Loads.{Loads}
-use Rattle.queue.specs.declared.Stores.{Stores}
 use Rattle.queue.specs.declared.Queue.{Queue}
-use Rattle.queue.specs.Contents.{Contents, loadOf, storeOf, blankLoad, blankStore, contentsOf}
+use Rattle.queue.specs.Contents.{Contents, loadOf, storeOf, loadIn, storeIn, contentsOf}
+use Rattle.queue.specs.declared.Entry.{Entry}
+use Rattle.queue.specs.Entry.{entryOf}
 use Rattle.queue.specs.Refusal.{unsound, noGroup, noPlace}
 use Rattle.queue.specs.Ruled.{refuse, accept, need}
 use Rattle.queue.specs.Sound.{sound}
 use Rattle.queue.specs.Activate.{newLoads, newStores, room, withGroup, activate}
-use Rattle.queue.specs.InternalActivate.{loadAfter, storeAfter, PairsFit, LoadsAppended, StoresAppended, withPairs}
-use Rattle.queue.proofs.Lists.{and-left, and-right}
+use Rattle.queue.specs.Internal.{sideOf, entriesIn, queueOf}
+use Rattle.queue.specs.InternalActivate.{loadAfter, storeAfter, entryAfter, PairsFit, Appended, longer, withPairs}
+use Rattle.queue.proofs.Lists.{and-left, and-right, map-same}
 use Rattle.queue.proofs.ContentsLaws.{nth-past, side-length}
+use Rattle.queue.proofs.EntryLaws.{side-holds}
 use Rattle.queue.proofs.SoundLaws.{load-depth-most, store-depth-most, table-right}
 use Rattle.queue.proofs.GroupLaws.{groups-few, group-nth}
 
@@ -51,20 +55,34 @@ pub with-group-is : (q : Contents) (g : GroupPairs) → GroupRight g → withPai
 with-group-is q g right = rw (new-loads right (length (q .stores)), new-stores right (length (q .loads)))
 
 -- ---- on the record
-module _ (q : Queue) {g : Group} (z : Sized g) where
-  pub room-record : room (contentsOf q) (pairsOf g) ≡ leb (q .loads .count + g .loads .count) (q .loads .depth) && leb (q .stores .count + g .stores .count) (q .stores .depth)
-  unfolding contentsOf
-  room-record = rw (side-length loadOf blankLoad (q .loads .count) (q .loads .entries), side-length storeOf blankStore (q .stores .count) (q .stores .entries), z .loads, z .stores)
+-- the new entries as loads, as stores: `f` says what an entry holds
+side-longer : {B : Type 0} (f : Entry → B) (new : Pair → B) {held others : ℕ} {ps : Pairs} {l left : List ℕ} → ((p : Pair) → f (entryAfter others p) ≡ new p) → Appended held ps others l left
+    → sideOf (λ (x : ℕ). f (entryOf x)) 0 (held + ps .count) left ≡ sideOf (λ (x : ℕ). f (entryOf x)) 0 held l ++ map new (listOf ps)
+side-longer {B} f new {held} {others} {ps} {l} {left} same a =
+    side-holds f (held + ps .count) left
+    ∙ rw (a .holds, map-append f (entriesIn held l) (map (entryAfter others) (listOf ps)), side-holds f held l, map-map f (entryAfter others) (listOf ps))
+    (ap (λ (t : List B). map f (entriesIn held l) ++ t) (map-same (λ (p : Pair). f (entryAfter others p)) new same (listOf ps)))
 
-  pub appended-both : (ls : Loads) (ss : Stores) → LoadsAppended (q .loads) (g .loads) (q .stores .count) ls → StoresAppended (q .stores) (g .stores) (q .loads .count) ss
-      → contentsOf (record { table = q .table; words = q .words; loads = ls; stores = ss }) ≡ withPairs (contentsOf q) (pairsOf g)
+module _ (q : Queue) {g : Group} (z : Sized g) where
+  pub room-record : room (contentsOf q) (pairsOf g) ≡ leb (q .frame .loads .count + g .loads .count) (q .frame .loads .depth) && leb (q .frame .stores .count + g .stores .count) (q .frame .stores .depth)
   unfolding contentsOf
-  appended-both ls ss a b =
-      rw (side-length loadOf blankLoad (q .loads .count) (q .loads .entries), side-length storeOf blankStore (q .stores .count) (q .stores .entries), z .loads, z .stores)
-      (rw (a .depth, a .next, a .holds, b .depth, b .next, b .holds))
+  room-record = rw (side-length loadIn 0 (q .frame .loads .count) (q .«load_entries»), side-length storeIn 0 (q .frame .stores .count) (q .«store_entries»), z .loads, z .stores)
+
+  pub appended-both : {ls ss : List ℕ} → Appended (q .frame .loads .count) (g .loads) (q .frame .stores .count) (q .«load_entries») ls → Appended (q .frame .stores .count) (g .stores) (q .frame .loads .count) (q .«store_entries») ss
+      → contentsOf (queueOf (record {
+        table = q .frame .table;
+        words = q .frame .words;
+        loads = longer (q .frame .loads) (g .loads .count);
+        stores = longer (q .frame .stores) (g .stores .count);
+      }) ls ss) ≡ withPairs (contentsOf q) (pairsOf g)
+  unfolding contentsOf
+  appended-both {ls} {ss} a b =
+      rw (side-length loadIn 0 (q .frame .loads .count) (q .«load_entries»), side-length storeIn 0 (q .frame .stores .count) (q .«store_entries»), z .loads, z .stores)
+      (rw (side-longer loadOf (loadAfter (q .frame .stores .count)) (λ p. refl) a, side-longer storeOf (storeAfter (q .frame .loads .count)) (λ p. refl) b))
 
 -- a right group's pairs fit where there is room
-module _ (ps : Pairs) (size : length (listOf ps) ≡ ps .count) (inside : Inside ps) (few : length (listOf ps) ≤ 16) (offset : (i : ℕ) → i < length (listOf ps) → getD (listOf ps) i blankPair .offset ≤ 16) where
+module _ (ps : Pairs) (size : length (listOf ps) ≡ ps .count) (inside : Inside ps) (few : length (listOf ps) ≤ 16) (offset : (i : ℕ) → i < length (listOf ps) → getD (listOf ps) i blankPair .offset ≤ 16)
+    (port : (i : ℕ) → i < length (listOf ps) → getD (listOf ps) i blankPair .port ≤ 31) where
   pairs-fit : (held depth : ℕ) → leb (held + ps .count) depth ≡ true → depth ≤ 64 → PairsFit held ps
   pairs-fit held depth r d =
       record {
@@ -72,16 +90,17 @@ module _ (ps : Pairs) (size : length (listOf ps) ≡ ps .count) (inside : Inside
         few = rw size at few;
         room = le-trans (leb-true (held + ps .count) depth r) d;
         offsets = λ i k. offset i (rw size k);
+        ports = λ i k. (let h = port i (rw size k) in omega arith);
       }
 
 pub group-fits : (q : Queue) {g : Group} → Sized g → Inside (g .loads) × Inside (g .stores) → sound (contentsOf q) ≡ true → GroupRight (pairsOf g) → room (contentsOf q) (pairsOf g) ≡ true
-    → PairsFit (q .loads .count) (g .loads) × PairsFit (q .stores .count) (g .stores)
+    → PairsFit (q .frame .loads .count) (g .loads) × PairsFit (q .frame .stores .count) (g .stores)
 group-fits q {g} z (hl, hs) s right r =
-    let loads = leb (q .loads .count + g .loads .count) (q .loads .depth) in
-    let stores = leb (q .stores .count + g .stores .count) (q .stores .depth) in
+    let loads = leb (q .frame .loads .count + g .loads .count) (q .frame .loads .depth) in
+    let stores = leb (q .frame .stores .count + g .stores .count) (q .frame .stores .depth) in
     let both : loads && stores ≡ true = sym (room-record q z) ∙ r in (
-      pairs-fit (g .loads) (z .loads) hl (right .few-loads) (right .load-offset) (q .loads .count) (q .loads .depth) (and-left loads stores both) (load-depth-most q s),
-      pairs-fit (g .stores) (z .stores) hs (right .few-stores) (right .store-offset) (q .stores .count) (q .stores .depth) (and-right loads stores both) (store-depth-most q s),
+      pairs-fit (g .loads) (z .loads) hl (right .few-loads) (right .load-offset) (right .load-port) (q .frame .loads .count) (q .frame .loads .depth) (and-left loads stores both) (load-depth-most q s),
+      pairs-fit (g .stores) (z .stores) hs (right .few-stores) (right .store-offset) (right .store-port) (q .frame .stores .count) (q .frame .stores .depth) (and-right loads stores both) (store-depth-most q s),
     )
 
 -- ---- the call
@@ -90,13 +109,13 @@ unfolding activate
 activate-unsound q group s = rw s
 
 module _ (q : Queue) (group : ℕ) (s : sound (contentsOf q) ≡ true) where
-  pub activate-no-group : q .table .count ≤ group → activate (contentsOf q) group ≡ refuse noGroup
+  pub activate-no-group : q .frame .table .count ≤ group → activate (contentsOf q) group ≡ refuse noGroup
   unfolding activate contentsOf
   activate-no-group h =
-      let e : length (groupsOf (q .table)) ≤ group = rw (groups-size (q .table)) h in
-      rw (s, nth-past (groupsOf (q .table)) group e)
+      let e : length (groupsOf (q .frame .table)) ≤ group = rw (groups-size (q .frame .table)) h in
+      rw (s, nth-past (groupsOf (q .frame .table)) group e)
 
-  module _ (whole : length (q .table .groups) ≡ 16) (k : group < q .table .count) {g : Group} (a : g ≡ groupAt (q .table) group) where
+  module _ (whole : length (q .frame .table .groups) ≡ 16) (k : group < q .frame .table .count) {g : Group} (a : g ≡ groupAt (q .frame .table) group) where
     pub activate-group : activate (contentsOf q) group ≡ need (room (contentsOf q) (pairsOf g)) noPlace (accept (withGroup (contentsOf q) (pairsOf g)))
     unfolding activate contentsOf
-    activate-group = rw (s, group-nth (q .table) (groups-few (q .table) (table-right q s)) whole group k a)
+    activate-group = rw (s, group-nth (q .frame .table) (groups-few (q .frame .table) (table-right q s)) whole group k a)

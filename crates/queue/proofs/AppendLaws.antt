@@ -1,12 +1,12 @@
 -- Entries put behind those that a side holds.
-use Prim.Native.Nat.{ℕ, _+_, _≤_, _<_}
+use Prim.Native.Nat.{ℕ, zero, suc, _+_, _≤_, _<_}
 use native.Mathlib.Numerals.{add-one}
 use native.Mathlib.Nat.{le-trans, le-add-right}
+use native.Mathlib.Omega.{arith}
 use mathlib.Core.Path.{_≡_, refl, ap, _∙_}
 use mathlib.Core.List.{List, [], _∷_, _++_, map, map-append}
 use lib.ListN.{length, getD, take, set, length-map, List·getD-map}
 use lib.Seq.{paste, paste-zero, paste-suc, take-paste, length-paste}
-use Rattle.table.specs.Basics.{held}
 use Rattle.table.proofs.CheckLaws.{held-few}
 use Rattle.queue.specs.Internal.{sideOf}
 use Rattle.queue.proofs.Lists.{take-map}
@@ -30,16 +30,17 @@ module _ {A B : Type 0} {f : A → B} {d : List B} {n : ℕ} {s : List A} where
         let q : k ≤ length (map f s) = rw (length-map s f) hs in
         rw (w .is, e, take-paste d n (map f s) k hd q, take-map f k s)
 
--- what the side then holds: `new` is what an entry made by `f` holds
-pub side-appended : {A B C : Type 0} (h : B → C) (blank : B) (f : A → B) (new : A → C) {d : List B} {n : ℕ} {s : List A} {j : ℕ} {l : List B}
-    → ((x : A) → h (f x) ≡ new x) → Pasted f d n s j l → (k : ℕ) → j ≡ k → n + k ≤ length d → k ≤ length s
+-- what the side then holds: `new` is what an entry made by `f` holds, of each that was put there
+pub side-appended : {A B C : Type 0} (h : B → C) (blank : B) (f : A → B) (new : A → C) (z : A) {d : List B} {n : ℕ} {s : List A} {j : ℕ} {l : List B}
+    → Pasted f d n s j l → (k : ℕ) → j ≡ k → n + k ≤ length d → k ≤ length s → ((i : ℕ) → i < k → h (f (getD s i z)) ≡ new (getD s i z))
     → sideOf h blank (n + k) l ≡ sideOf h blank n d ++ map new (take k s)
-side-appended {A} {B} {C} h blank f new {d} {n} {s} {j} {l} e w k q hd hs =
+side-appended {A} {B} {C} h blank f new z {d} {n} {s} {j} {l} w k q hd hs e =
     let long : length l ≡ length d = rw (w .is, q) (length-paste d n (map f s) k hd (rw (length-map s f) hs)) in
     let hl : n + k ≤ length l = rw long hd in
     rw (held-few blank (n + k) l hl, held-few blank n d (le-trans (le-add-right n k) hd), pasted-front w k q (le-trans (le-add-right n k) hd) hs)
-    (map-append h (take n d) (map f (take k s)) ∙ ap (λ (t : List C). map h (take n d) ++ t) (same (take k s)))
+    (map-append h (take n d) (map f (take k s)) ∙ ap (λ (t : List C). map h (take n d) ++ t) (same k s e))
   where
-    same : (xs : List A) → map h (map f xs) ≡ map new xs
-    same [] = refl
-    same (x ∷ xs) = rw (e x, same xs)
+    same : (m : ℕ) (xs : List A) → ((i : ℕ) → i < m → h (f (getD xs i z)) ≡ new (getD xs i z)) → map h (map f (take m xs)) ≡ map new (take m xs)
+    same zero xs e = refl
+    same (suc m) [] e = refl
+    same (suc m) (x ∷ xs) e = rw (e 0 (omega arith), same m xs (λ i k. e (suc i) (omega arith)))

@@ -1,17 +1,16 @@
 -- The ready lists are exactly what serve and write would accept.
-use Prim.Native.Nat.{ℕ, zero, suc, _+_, _-_, _%_, _^_, _≤_, _<_}
+use Prim.Native.Nat.{ℕ, zero, suc, _+_, _-_, _^_, _≤_, _<_}
 use native.Mathlib.Nat.{le-trans}
 use native.Mathlib.Omega.{arith}
 use mathlib.Core.Path.{_≡_, refl, sym, ap, _∙_}
 use mathlib.Core.Bool.{Bool, true, false, _&&_, _||_}
 use mathlib.Core.List.{List, [], _∷_}
-use mathlib.Core.Option.{Option, none, some}
 use lib.Dec.{eqb, leb, ltb}
 use lib.ListN.{length}
-use borrow.Author.Tests.{eq-eqb, ne-eqb, eqb-true, eqb-false, lt-ltb, le-ltb, ltb-true, ltb-false, leb-true}
-use Rattle.table.specs.Basics.{pick, any, all, nth, filter}
+use borrow.Author.Tests.{eqb-true, eqb-false, lt-ltb, le-ltb, ltb-true, ltb-false, leb-true}
+use Rattle.table.specs.Basics.{pick, any, all, filter}
 use Rattle.table.specs.Table.{tableFault}
-use Rattle.queue.specs.Ruled.{accepted, number}
+use Rattle.queue.specs.Ruled.{number}
 use Rattle.queue.specs.Contents.{Contents, after, age, oldest, loadPlace, storePlace}
 use Rattle.queue.specs.Sound.{depthRight, memoryRight, loadRight, storeRight, sound}
 use Rattle.queue.specs.Serve.{serve}

@@ -4,8 +4,8 @@ use native.Mathlib.Nat.{le-trans}
 use native.Mathlib.Numerals.{add-one}
 use mathlib.Core.Path.{_≡_, sym, ap, _∙_}
 use mathlib.Core.Bool.{_&&_}
-use mathlib.Core.List.{List, [], _∷_}
-use mathlib.Core.Option.{Option, some}
+use mathlib.Core.List.{[], _∷_}
+use mathlib.Core.Option.{some}
 use lib.Dec.{leb}
 use lib.ListN.{length, getD, drop, drop-of-length-le}
 use lib.Seq.{drop-cons}
@@ -43,11 +43,11 @@ module _ (t : Table) (few : t .count ≤ 16) (whole : length (t .groups) ≡ 16)
 
   pub groups-here : drop i (groupsOf t) ≡ pairsOf g ∷ drop (i + 1) (groupsOf t)
   unfolding groupAt
-  groups-here = side-here (meantIn (t .loads) (t .stores)) blankSpan (t .count) (t .groups) in-table i k ∙ ap (λ (x : GroupPairs). x ∷ drop (i + 1) (groupsOf t)) (ap pairsOf (sym a))
+  groups-here = side-here (meantIn (t .loads) (t .stores)) blankSpan (t .count) (t .groups) i k ∙ ap (λ (x : GroupPairs). x ∷ drop (i + 1) (groupsOf t)) (ap pairsOf (sym a))
 
   pub group-nth : nth (groupsOf t) i ≡ some (pairsOf g)
   unfolding groupAt
-  group-nth = side-nth (meantIn (t .loads) (t .stores)) blankSpan (t .count) (t .groups) in-table i k ∙ ap (λ (x : GroupPairs). some x) (ap pairsOf (sym a))
+  group-nth = side-nth (meantIn (t .loads) (t .stores)) blankSpan (t .count) (t .groups) i k ∙ ap (λ (x : GroupPairs). some x) (ap pairsOf (sym a))
 
   pub group-right : tableFault (groupsOf t) ≡ 0 → GroupRight (pairsOf g)
   group-right right = rw (group-at t in-table i k (pairsOf g) a) at (table-group-right (groupsOf t) right i (pairsOf g) (rw (groups-size t) k))

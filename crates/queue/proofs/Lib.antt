@@ -3,6 +3,8 @@ pub mod Again
 pub mod Front
 -- what a record holds
 pub mod ContentsLaws
+-- entries and the numbers that hold them
+pub mod EntryLaws
 -- walks over a side's entries
 pub mod WalkLaws
 pub mod SoundLaws

@@ -7,12 +7,10 @@ use lib.Dec.{leb}
 use lib.ListN.{length}
 use borrow.Author.Tests.{le-leb}
 use Rattle.table.specs.Basics.{all}
-use Rattle.table.specs.Group.{GroupPairs}
 use Rattle.queue.specs.Contents.{Contents}
 use Rattle.queue.specs.Sound.{addressRight, loadRight, storeRight, sound}
-use Rattle.queue.specs.Calls.{Call}
-use Rattle.queue.specs.Call.{Machine, leaves}
-use Rattle.queue.specs.Demand3.{ReachedSound, Opening}
+use Rattle.queue.specs.Call.{leaves}
+use Rattle.queue.specs.Demand3.{ReachedSound}
 use Rattle.queue.proofs.Lists.{and-both, all-weaken, all-weaken₂}
 use Rattle.queue.proofs.Log.{Entry, loads, stores, ownIn, loads-stores, stores-loads}
 use Rattle.queue.proofs.Window.{window-before, before-queued, remembered-held}

@@ -1,36 +1,37 @@
 -- What serve and write accept goes by the entry and the entries before it, and not by the memory's words; and the serials that
 -- pass, gathered from the oldest.
-use Prim.Native.Nat.{ℕ, zero, suc, _+_, _-_, _%_, _^_, _≤_, _<_}
+use Prim.Native.Nat.{ℕ, zero, suc, _+_, _-_, _^_, _≤_, _<_}
 use native.Mathlib.Nat.{sub-zero, not-suc-le-zero, le-of-suc-le-suc}
 use native.Mathlib.Numerals.{add-one}
 use native.Mathlib.Omega.{arith}
 use mathlib.Core.Path.{_≡_, refl, sym, ap, _∙_}
-use mathlib.Core.Bool.{Bool, true, false, not, _&&_, _||_}
+use mathlib.Core.Bool.{Bool, true, false, not, _&&_}
 use mathlib.Core.List.{List, [], _∷_, _++_, append-assoc, append-nil}
 use mathlib.Core.Option.{Option, none, some}
-use lib.Dec.{eqb, ltb}
+use lib.Dec.{eqb}
 use lib.ListN.{length, getD, take, drop, set, length-append, length-drop, length-replicate}
 use lib.Seq.{length-take-le, take-append-seam}
 use borrow.Author.Tests.{not-true, lt-leb, le-leb}
-use Rattle.table.specs.Basics.{pick, any, all, nth, filter}
+use Rattle.table.specs.Basics.{pick, all, nth, filter}
 use Rattle.queue.specs.declared.serving.Supply.{Supply}
 use Rattle.queue.specs.declared.serving.Supply.the-variants.{Unknown, NoStore, NoWord, Forwarded}
 use Rattle.queue.specs.declared.ready.Serials.{Serials}
-use Rattle.queue.specs.declared.LoadEntry.{LoadEntry}
+use Rattle.queue.specs.declared.Entry.{Entry}
 use Rattle.queue.specs.declared.Queue.{Queue}
 use Rattle.queue.specs.declared.Readied.{Readied}
 use Rattle.table.specs.Refusal.{tooShort}
 use Rattle.queue.specs.Refusal.{unsound, noSerial, alreadyDone, noAddress, earlierStoreUnknown}
 use Rattle.queue.specs.Ruled.{Ruled, refuse, accept, need, have, andThen, accepted, isSome, number}
-use Rattle.queue.specs.Contents.{Load, Store, Contents, loadOf, storeOf, blankLoad, blankStore, contentsOf, after, age, oldest, loadPlace, storePlace}
+use Rattle.queue.specs.Contents.{Load, Store, Contents, loadOf, loadIn, storeIn, contentsOf, after, oldest, loadPlace, storePlace}
+use Rattle.queue.specs.Entry.{entryOf}
 use Rattle.queue.specs.Sound.{sound}
 use Rattle.queue.specs.Serve.{hasAddress, nearest, sourceOf, storesBefore, serve}
 use Rattle.queue.specs.Write.{loadGivesWay, storeGivesWay, write}
 use Rattle.queue.specs.Ready.{serials, anyMemory, wouldServe, wouldWrite, servable, writable, readyLoads, readyStores}
 use Rattle.queue.specs.ReadyOutcome.{ReadyWell, Readies, Fronts}
-use Rattle.queue.specs.Internal.{sideOf}
+use Rattle.queue.specs.Internal.{loadsIn, storesIn}
 use Rattle.queue.specs.InternalServe.{supplyFrom, servedWith, serveAt}
-use Rattle.queue.specs.InternalWrite.{Put, mayWrite, mayWriteAt, writtenWith, writeAt}
+use Rattle.queue.specs.InternalWrite.{mayWrite, mayWriteAt, writtenWith, writeAt}
 use Rattle.queue.specs.InternalReady.{supplyReady, addressReady, loadReady, loadReadyAt, storeReadyAt, listed, Noted, Lists}
 use Rattle.queue.proofs.ContentsLaws.{side-length, side-nth, side-take, loads-held, stores-held, load-place, store-place}
 use Rattle.queue.proofs.Refusals.{proper, need-proper, have-proper}
@@ -80,17 +81,17 @@ module _ (q : Contents) (right : sound q ≡ true) (serial : ℕ) where
   would-serve = serve-ready (anyMemory q) (length-replicate (q .memoryLength) 0)
 
 -- the load at a place of a record
-pub would-serve-at : (q : Queue) → sound (contentsOf q) ≡ true → q .loads .count ≤ length (q .loads .entries) → q .stores .count ≤ length (q .stores .entries)
-    → (i : ℕ) → i < q .loads .count → i < 2 ^ 32 → getD (q .loads .entries) i blankLoad .before ≤ q .stores .count
-    → wouldServe (contentsOf q) (after (oldest (q .loads .next) (q .loads .count)) i)
-    ≡ loadReadyAt (q .loads) (q .stores) i
-would-serve-at q right w v i k small b =
-    let e : LoadEntry = getD (q .loads .entries) i blankLoad in
-    let from : ℕ = oldest (q .loads .next) (q .loads .count) in
-    let p : loadPlace (contentsOf q) (after from i) ≡ i = load-place q (after from i) ∙ place-of-serial from i (oldest-small (q .loads .next) (q .loads .count)) small in
-    let here : nth (contentsOf q .loads) i ≡ some (loadOf e) = ap (λ (l : List Load). nth l i) (loads-held q) ∙ side-nth loadOf blankLoad (q .loads .count) (q .loads .entries) w i k in
-    let ss : take (e .before) (contentsOf q .stores) ≡ sideOf storeOf blankStore (e .before) (q .stores .entries) =
-    ap (take (e .before)) (stores-held q) ∙ side-take storeOf blankStore (q .stores .count) (q .stores .entries) v (e .before) b in
+pub would-serve-at : (q : Queue) → sound (contentsOf q) ≡ true
+    → (i : ℕ) → i < q .frame .loads .count → i < 2 ^ 32 → entryOf (getD (q .«load_entries») i 0) .before ≤ q .frame .stores .count
+    → wouldServe (contentsOf q) (after (oldest (q .frame .loads .next) (q .frame .loads .count)) i)
+    ≡ loadReadyAt (q .«load_entries») (q .«store_entries») i
+would-serve-at q right i k small b =
+    let e : Entry = entryOf (getD (q .«load_entries») i 0) in
+    let from : ℕ = oldest (q .frame .loads .next) (q .frame .loads .count) in
+    let p : loadPlace (contentsOf q) (after from i) ≡ i = load-place q (after from i) ∙ place-of-serial from i (oldest-small (q .frame .loads .next) (q .frame .loads .count)) small in
+    let here : nth (contentsOf q .loads) i ≡ some (loadOf e) = ap (λ (l : List Load). nth l i) (loads-held q) ∙ side-nth loadIn 0 (q .frame .loads .count) (q .«load_entries») i k in
+    let ss : take (e .before) (contentsOf q .stores) ≡ storesIn (e .before) (q .«store_entries») =
+    ap (take (e .before)) (stores-held q) ∙ side-take storeIn 0 (q .frame .stores .count) (q .«store_entries») (e .before) b in
     would-serve (contentsOf q) right (after from i)
     ∙ ap (λ (n : ℕ). readyIn (contentsOf q) (nth (contentsOf q .loads) n)) p
     ∙ ap (readyIn (contentsOf q)) here
@@ -133,18 +134,18 @@ may-proper ls ss s =
     need-proper (all (loadGivesWay a) ls) _ _ refl (need-proper (all (storeGivesWay a) ss) _ _ refl refl))
 
 -- the store at a place of a record
-pub would-write-at : (q : Queue) → sound (contentsOf q) ≡ true → q .loads .count ≤ length (q .loads .entries) → q .stores .count ≤ length (q .stores .entries)
-    → (i : ℕ) → i < q .stores .count → i < 2 ^ 32 → getD (q .stores .entries) i blankStore .before ≤ q .loads .count
-    → wouldWrite (contentsOf q) (after (oldest (q .stores .next) (q .stores .count)) i) ≡ storeReadyAt (q .loads) (q .stores) i
-would-write-at q right w v i k small b =
-    let from : ℕ = oldest (q .stores .next) (q .stores .count) in
-    let p : storePlace (contentsOf q) (after from i) ≡ i = store-place q (after from i) ∙ place-of-serial from i (oldest-small (q .stores .next) (q .stores .count)) small in
+pub would-write-at : (q : Queue) → sound (contentsOf q) ≡ true
+    → (i : ℕ) → i < q .frame .stores .count → i < 2 ^ 32 → entryOf (getD (q .«store_entries») i 0) .before ≤ q .frame .loads .count
+    → wouldWrite (contentsOf q) (after (oldest (q .frame .stores .next) (q .frame .stores .count)) i) ≡ storeReadyAt (q .«load_entries») (q .«store_entries») i
+would-write-at q right i k small b =
+    let from : ℕ = oldest (q .frame .stores .next) (q .frame .stores .count) in
+    let p : storePlace (contentsOf q) (after from i) ≡ i = store-place q (after from i) ∙ place-of-serial from i (oldest-small (q .frame .stores .next) (q .frame .stores .count)) small in
     let m : List ℕ = anyMemory (contentsOf q) in
     ap accepted (write-by-place (contentsOf q) m (after from i) right (length-replicate (contentsOf q .memoryLength) 0))
     ∙ ap (λ (n : ℕ). accepted (writeAt (contentsOf q) m n)) p
-    ∙ ap accepted (write-held q m i v w k b)
-    ∙ then-accepts (mayWriteAt (q .loads) (q .stores) i) (writtenWith (contentsOf q) m i)
-    ∙ accepted-number (mayWriteAt (q .loads) (q .stores) i) (may-proper (sideOf loadOf blankLoad (getD (q .stores .entries) i blankStore .before) (q .loads .entries)) (sideOf storeOf blankStore i (q .stores .entries)) (storeOf (getD (q .stores .entries) i blankStore)))
+    ∙ ap accepted (write-held q m i k b)
+    ∙ then-accepts (mayWriteAt (q .«load_entries») (q .«store_entries») i) (writtenWith (contentsOf q) m i)
+    ∙ accepted-number (mayWriteAt (q .«load_entries») (q .«store_entries») i) (may-proper (loadsIn (entryOf (getD (q .«store_entries») i 0) .before) (q .«load_entries»)) (storesIn i (q .«store_entries»)) (storeIn (getD (q .«store_entries») i 0)))
 
 -- ---- the serials that pass: i of n places have been looked at, `serial` is the next, and `s` has those that are ready. What
 -- passes is any test that says of a serial what `ready` says of its place.
@@ -218,15 +219,15 @@ module _ (q : Queue) {s : Serials} where
   lists : {l : List ℕ} → s .count ≤ 64 → length (s .numbers) ≡ 64 → listed s ≡ l → Lists l s
   lists {l} few long e = record { few = few; size = sym (length-take-le (s .count) (s .numbers) (omega arith)) ∙ ap length e; are = e }
 
-  pub servable-record : listed s ≡ filter (wouldServe (contentsOf q)) (serials (oldest (q .loads .next) (q .loads .count)) (q .loads .count)) → s .count ≤ 64 → length (s .numbers) ≡ 64
+  pub servable-record : listed s ≡ filter (wouldServe (contentsOf q)) (serials (oldest (q .frame .loads .next) (q .frame .loads .count)) (q .frame .loads .count)) → s .count ≤ 64 → length (s .numbers) ≡ 64
       → Lists (servable (contentsOf q)) s
   unfolding servable contentsOf
-  servable-record e few long = lists few long (rw (side-length loadOf blankLoad (q .loads .count) (q .loads .entries)) e)
+  servable-record e few long = lists few long (rw (side-length loadIn 0 (q .frame .loads .count) (q .«load_entries»)) e)
 
-  pub writable-record : listed s ≡ filter (wouldWrite (contentsOf q)) (serials (oldest (q .stores .next) (q .stores .count)) (q .stores .count)) → s .count ≤ 64 → length (s .numbers) ≡ 64
+  pub writable-record : listed s ≡ filter (wouldWrite (contentsOf q)) (serials (oldest (q .frame .stores .next) (q .frame .stores .count)) (q .frame .stores .count)) → s .count ≤ 64 → length (s .numbers) ≡ 64
       → Lists (writable (contentsOf q)) s
   unfolding writable contentsOf
-  writable-record e few long = lists few long (rw (side-length storeOf blankStore (q .stores .count) (q .stores .entries)) e)
+  writable-record e few long = lists few long (rw (side-length storeIn 0 (q .frame .stores .count) (q .«store_entries»)) e)
 
 -- ---- 40 and 10
 module _ (q : Contents) (run : List ℕ) where

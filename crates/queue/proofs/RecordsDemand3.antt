@@ -1,8 +1,8 @@
 -- A run of the records is the definitions' run of what they hold, so demand 3 carries over.
-use Prim.Native.Nat.{ℕ, _<_, _^_}
+use Prim.Native.Nat.{ℕ}
 use mathlib.Core.Path.{_≡_, refl, sym, ap, ap₂, _∙_}
-use mathlib.Core.List.{List, [], _∷_}
-use mathlib.Core.Option.{Option, none, some}
+use mathlib.Core.List.{List, _∷_}
+use mathlib.Core.Option.{Option, none}
 use lib.ListN.{length}
 use native.Mathlib.Omega.{arith}
 use Rattle.table.specs.declared.Table.{Table}
@@ -15,7 +15,6 @@ use Rattle.queue.specs.Open.{groupFits, opened, openQueue}
 use mathlib.Core.Bool.{Bool, true, false}
 use lib.Dec.{eqb}
 use borrow.Author.Tests.{eqb-false}
-use Rattle.queue.specs.declared.Value.the-variants.{Word, Nothing}
 use Rattle.queue.specs.declared.Queue.{Queue}
 use Rattle.queue.specs.declared.Counts.{Counts}
 use Rattle.queue.specs.declared.Outcome.{Outcome}
@@ -32,7 +31,7 @@ use Rattle.queue.specs.Outcome.{Moves, Takes, Serves, Writes, Opens}
 use Rattle.queue.specs.ReadyOutcome.{Readies}
 use Rattle.queue.specs.Calls.{Call, Activate, Give, Serve, Write, Take, Ready}
 use Rattle.queue.specs.Call.{Machine, Step, moved, served, written, taken, looked, give, ready, step, Answered, answers, leaves}
-use Rattle.queue.specs.Records.{valueIn, answered, Runs, done, activates, gives, serves, writes, takes, readies, machineOf, OpenedRecord, RecordsDemand3, AlikeRecords, RecordsSound}
+use Rattle.queue.specs.Records.{valueIn, Runs, done, activates, gives, serves, writes, takes, readies, machineOf, OpenedRecord, RecordsDemand3, AlikeRecords, RecordsSound}
 use Rattle.queue.specs.Demand3.{Opening}
 use Rattle.queue.proofs.ReachedSound.{reached-sound}
 use Rattle.queue.proofs.Demand3.{demand3, alike}

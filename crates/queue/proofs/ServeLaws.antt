@@ -1,25 +1,28 @@
 -- What serving the load at a place answers, by what the record holds there.
 use Prim.Native.Nat.{ℕ, _≤_, _<_}
-use native.Mathlib.Nat.{le-trans}
 use mathlib.Core.Path.{_≡_, refl, sym, ap, _∙_}
 use mathlib.Core.Bool.{Bool, true, false}
-use mathlib.Core.List.{List, map}
+use mathlib.Core.List.{List}
 use mathlib.Core.Option.{Option, none, some}
 use lib.ListN.{length, getD, take}
 use borrow.Author.Tests.{eq-eqb, ne-eqb}
 use Rattle.table.specs.Basics.{pick, all, nth}
 use Rattle.queue.specs.declared.serving.Supply.{Supply}
 use Rattle.queue.specs.declared.serving.Supply.the-variants.{Unknown, NoStore, NoWord, Forwarded}
-use Rattle.queue.specs.declared.LoadEntry.{LoadEntry}
+use Rattle.queue.specs.declared.Entry.{Entry}
 use Rattle.queue.specs.declared.Queue.{Queue}
+use Rattle.queue.specs.declared.Counts.{Counts}
+use Rattle.queue.specs.declared.serving.Service.{Service}
 use Rattle.queue.specs.Refusal.{unsound, wrongMemory, noSerial, alreadyDone, noAddress, earlierStoreUnknown, noData}
 use Rattle.queue.specs.Ruled.{Ruled, refuse, accept, need, andThen}
-use Rattle.queue.specs.Contents.{Store, Contents, loadOf, storeOf, blankLoad, blankStore, contentsOf, age, oldest, loadPlace}
+use Rattle.queue.specs.Contents.{Store, Contents, loadOf, loadIn, storeIn, contentsOf, age, oldest, loadPlace}
+use Rattle.queue.specs.Entry.{entryOf}
 use Rattle.queue.specs.Sound.{sound}
-use Rattle.queue.specs.Serve.{Served, hasAddress, nearest, sourceOf, serve}
-use Rattle.queue.specs.Internal.{sideOf}
-use Rattle.queue.specs.InternalServe.{wordIn, supplyOf, supplyFrom, servedWith, serveAt}
-use Rattle.queue.proofs.ContentsLaws.{nth-past, side-nth, side-take, loads-held, stores-held, loads-count, words-held, load-place}
+use Rattle.queue.specs.Serve.{Served, hasAddress, nearest, sourceOf, loadWithValue, serve}
+use Rattle.queue.specs.Outcome.{ServedWell}
+use Rattle.queue.specs.Internal.{storesIn, queueOf, Whole}
+use Rattle.queue.specs.InternalServe.{wordIn, supplyOf, supplyFrom, servedAs, Filled, countedOf, servedWith, serveAt}
+use Rattle.queue.proofs.ContentsLaws.{nth-past, side-nth, side-take, loads-held, stores-held, loads-count, words-held, load-place, load-anew}
 
 -- the answer by what the earlier stores supply
 abbrev pub bySupply : Contents → List ℕ → ℕ → ℕ → Supply → Ruled Served
@@ -43,25 +46,38 @@ by-supply q memory place a ss = go (all hasAddress ss) (nearest a none ss)
     go true (some s) = word s (s .word) refl
 
 module _ (q : Queue) (memory : List ℕ) (place : ℕ) where
-  pub serve-none : q .loads .count ≤ place → serveAt (contentsOf q) memory place ≡ refuse noSerial
+  pub serve-none : q .frame .loads .count ≤ place → serveAt (contentsOf q) memory place ≡ refuse noSerial
   serve-none h = rw (nth-past (contentsOf q .loads) place (rw (loads-count q) h))
 
-  module _ (w : q .loads .count ≤ length (q .loads .entries)) (k : place < q .loads .count) (e : LoadEntry) (is : getD (q .loads .entries) place blankLoad ≡ e) where
+  module _ (k : place < q .frame .loads .count) (e : Entry) (is : entryOf (getD (q .«load_entries») place 0) ≡ e) where
     here : nth (contentsOf q .loads) place ≡ some (loadOf e)
-    here = rw (loads-held q) (side-nth loadOf blankLoad (q .loads .count) (q .loads .entries) w place k ∙ rw is)
+    here = rw (loads-held q) (side-nth loadIn 0 (q .frame .loads .count) (q .«load_entries») place k ∙ rw is)
 
-    pub serve-done : e .served ≡ true → serveAt (contentsOf q) memory place ≡ refuse alreadyDone
+    pub serve-done : e .filled ≡ true → serveAt (contentsOf q) memory place ≡ refuse alreadyDone
     serve-done s = rw (here, s)
 
-    pub serve-no-address : e .served ≡ false → e .addressed ≡ false → serveAt (contentsOf q) memory place ≡ refuse noAddress
+    pub serve-no-address : e .filled ≡ false → e .addressed ≡ false → serveAt (contentsOf q) memory place ≡ refuse noAddress
     serve-no-address s a = rw (here, s, a)
 
-    pub serve-supplied : e .served ≡ false → e .addressed ≡ true → e .before ≤ q .stores .count → q .stores .count ≤ length (q .stores .entries)
-        → serveAt (contentsOf q) memory place ≡ bySupply (contentsOf q) memory place (e .address) (supplyFrom (e .address) (sideOf storeOf blankStore (e .before) (q .stores .entries)))
-    serve-supplied s a b v =
-        let t : take (e .before) (contentsOf q .stores) ≡ sideOf storeOf blankStore (e .before) (q .stores .entries) =
-        ap (take (e .before)) (stores-held q) ∙ side-take storeOf blankStore (q .stores .count) (q .stores .entries) v (e .before) b in
-        rw (here, s, a, t) (by-supply (contentsOf q) memory place (e .address) (sideOf storeOf blankStore (e .before) (q .stores .entries)))
+    pub serve-supplied : e .filled ≡ false → e .addressed ≡ true → e .before ≤ q .frame .stores .count
+        → serveAt (contentsOf q) memory place ≡ bySupply (contentsOf q) memory place (e .address) (supplyFrom (e .address) (storesIn (e .before) (q .«store_entries»)))
+    serve-supplied s a b =
+        let t : take (e .before) (contentsOf q .stores) ≡ storesIn (e .before) (q .«store_entries») =
+        ap (take (e .before)) (stores-held q) ∙ side-take storeIn 0 (q .frame .stores .count) (q .«store_entries») (e .before) b in
+        rw (here, s, a, t) (by-supply (contentsOf q) memory place (e .address) (storesIn (e .before) (q .«store_entries»)))
+
+-- ---- an accepted serve: the load at the place has its value
+pub served-well : (q : Queue) (counts : Counts) (place word : ℕ) (forwarded : Bool) {r : Service} {left : List ℕ} → Whole (q .«load_entries») → q .frame .loads .count ≤ 64 → place < q .frame .loads .count
+    → r ≡ servedAs word forwarded counts → Filled place word (q .«load_entries») left
+    → ServedWell (servedWith (contentsOf q) place word forwarded) counts (countedOf r (queueOf (q .frame) left (q .«store_entries»)))
+served-well q counts place word forwarded {r} {left} whole few k e f =
+    let w : q .frame .loads .count ≤ length (q .«load_entries») = rw whole few in
+    record {
+      answer = ap (λ (s : Service). s .answer) e;
+      gives = ap (λ (s : Service). s .value) e;
+      holds = ap (λ (l : List ℕ). contentsOf (queueOf (q .frame) l (q .«store_entries»))) (f .leaves) ∙ load-anew q (loadWithValue word) place (f .number) w k (f .holds);
+      counts = ap (λ (s : Service). s .counts) e;
+    }
 
 -- ---- 40 and 30, and the place that a serial names
 pub serve-by-place : (q : Contents) (memory : List ℕ) (serial : ℕ) → sound q ≡ true → length memory ≡ q .memoryLength
@@ -75,11 +91,11 @@ module _ (q : Queue) (memory : List ℕ) (serial : ℕ) where
   serve-unsound e = rw e
 
   module _ (right : sound (contentsOf q) ≡ true) where
-    pub serve-memory : (length memory ≡ q .words → ⊥) → serve (contentsOf q) memory serial ≡ refuse wrongMemory
+    pub serve-memory : (length memory ≡ q .frame .words → ⊥) → serve (contentsOf q) memory serial ≡ refuse wrongMemory
     unfolding serve
-    serve-memory e = rw (right, words-held q, ne-eqb (length memory) (q .words) e)
+    serve-memory e = rw (right, words-held q, ne-eqb (length memory) (q .frame .words) e)
 
-    pub serve-place : length memory ≡ q .words → serve (contentsOf q) memory serial ≡ serveAt (contentsOf q) memory (age (oldest (q .loads .next) (q .loads .count)) serial)
+    pub serve-place : length memory ≡ q .frame .words → serve (contentsOf q) memory serial ≡ serveAt (contentsOf q) memory (age (oldest (q .frame .loads .next) (q .frame .loads .count)) serial)
     serve-place e =
         serve-by-place (contentsOf q) memory serial right (e ∙ sym (words-held q))
         ∙ ap (serveAt (contentsOf q) memory) (load-place q serial)

@@ -8,16 +8,17 @@ use mathlib.Core.Bool.{Bool, true, false}
 use mathlib.Core.List.{List, [], _∷_, _++_, map, map-map}
 use lib.ListN.{length, getD, take, drop, set, length-map, length-append, length-drop}
 use lib.Seq.{getD-drop, getD-append-add, length-take-le, take-at, take-nil}
-use Rattle.table.specs.declared.Table.{Table}
 use Rattle.table.specs.Basics.{pick, takeWhile, dropWhile}
-use Rattle.queue.specs.declared.Loads.{Loads}
-use Rattle.queue.specs.declared.Stores.{Stores}
-use Rattle.queue.specs.Contents.{contentsOf}
+use Rattle.queue.specs.declared.Frame.{Frame}
+use Rattle.queue.specs.declared.Entry.{Entry}
+use Rattle.queue.specs.Entry.{entryOf, numberOf, Small}
+use Rattle.queue.specs.Contents.{loadOf, storeOf, contentsOf}
 use Rattle.queue.specs.Write.{leaving, loadFinished, storeFinished, loadAfterLeaving, storeAfterLeaving, settle}
-use Rattle.queue.specs.Internal.{sideOf, loadsOf, storesOf}
-use Rattle.queue.specs.InternalWrite.{LoadsMoved, StoresMoved}
+use Rattle.queue.specs.Internal.{sideOf, entriesIn, loadsIn, storesIn, queueOf, finished}
+use Rattle.queue.specs.InternalWrite.{Shifted, shorter, lowered}
 use Rattle.queue.proofs.Lists.{map-same}
 use Rattle.queue.proofs.ContentsLaws.{side-few, side-length}
+use Rattle.queue.proofs.EntryLaws.{entry-small, entry-number, side-holds, side-leaving-same}
 
 -- ---- how many leave
 module _ {A : Type 0} (p : A → Bool) where
@@ -101,17 +102,40 @@ module _ {A : Type 0} {g : A → A} {k : ℕ} {old : List A} where
         ∙ rw (front, map-map f g, side-few f blank n old hn, drop-map, map-map h f)
         (map-same (λ (x : A). f (g x)) (λ (x : A). h (f x)) same (drop k (take n old)))
 
+-- the number of an entry that remembers fewer of the other kind
+pub lowered-number : (others n : ℕ) → entryOf (numberOf (lowered others (entryOf n))) ≡ lowered others (entryOf n)
+lowered-number others n =
+    let s : Small (entryOf n) = entry-small n in
+    let fewer : entryOf n .before - others < 256 = omega (arith, s .before) in
+    entry-number (lowered others (entryOf n)) (record { port = s .port; before = fewer; address = s .address; word = s .word })
+
 -- ---- both sides
 pub side-leaving : {A B : Type 0} (p : B → Bool) (f : A → B) (blank : A) (n : ℕ) (l : List A) → leaving p (sideOf f blank n l) ≤ n
 side-leaving p f blank n l = omega (arith, leaving-most p (sideOf f blank n l), side-length f blank n l)
 
-pub settle-sides : (table : Table) (words : ℕ) {loads ls : Loads} {stores ss : Stores} {l s : ℕ}
-    → l ≡ leaving loadFinished (loadsOf loads) → s ≡ leaving storeFinished (storesOf stores)
-    → LoadsMoved loads l s ls → StoresMoved stores s l ss
-    → contentsOf (record { table = table; words = words; loads = ls; stores = ss })
-    ≡ settle (contentsOf (record { table = table; words = words; loads = loads; stores = stores }))
+-- a side once its finished entries have left: `f` says what an entry holds, `h` how that changes as others leave
+side-settled : {B : Type 0} (f : Entry → B) (h : B → B) (p : B → Bool) (others : ℕ) → ((e : Entry) → f (lowered others e) ≡ h (f e)) → ((e : Entry) → p (f e) ≡ finished e)
+    → (n l : ℕ) {old new : List ℕ} → l ≡ leaving finished (entriesIn n old) → Shifted l (n - l) others old new
+    → sideOf (λ (x : ℕ). f (entryOf x)) 0 (n - l) new ≡ map h (dropWhile p (sideOf (λ (x : ℕ). f (entryOf x)) 0 n old))
+side-settled f h p others same is n l {old} {new} e w =
+    let k : l + (n - l) ≡ n = (let m : l ≤ n = rw e (side-leaving finished entryOf 0 n old) in omega arith) in
+    let gone : leaving p (sideOf (λ (x : ℕ). f (entryOf x)) 0 n old) ≡ l = side-leaving-same f p finished is n old ∙ sym e in
+    side-holds f (n - l) new
+    ∙ rw (w .holds, k, map-map f (lowered others), ← drop-leaving p (sideOf (λ (x : ℕ). f (entryOf x)) 0 n old), gone, side-holds f n old, drop-map f l (entriesIn n old), map-map h f)
+    (map-same (λ (x : Entry). f (lowered others x)) (λ (x : Entry). h (f x)) same (drop l (entriesIn n old)))
+
+pub settle-sides : (frame : Frame) {loads stores ls ss : List ℕ} {l s : ℕ}
+    → l ≡ leaving finished (entriesIn (frame .loads .count) loads) → s ≡ leaving finished (entriesIn (frame .stores .count) stores)
+    → Shifted l (frame .loads .count - l) s loads ls → Shifted s (frame .stores .count - s) l stores ss
+    → contentsOf (queueOf (record { table = frame .table; words = frame .words; loads = shorter (frame .loads) l; stores = shorter (frame .stores) s }) ls ss)
+    ≡ settle (contentsOf (queueOf frame loads stores))
 unfolding contentsOf
-settle-sides table words {loads} {ls} {stores} {ss} {l} {s} el es ml ms =
-    let hl : loadsOf ls ≡ map (loadAfterLeaving (leaving storeFinished (storesOf stores))) (dropWhile loadFinished (loadsOf loads)) = ml .holds ∙ rw (el, es, drop-leaving) in
-    let hs : storesOf ss ≡ map (storeAfterLeaving (leaving loadFinished (loadsOf loads))) (dropWhile storeFinished (storesOf stores)) = ms .holds ∙ rw (es, el, drop-leaving) in
-    rw (ml .depth, ml .next, ms .depth, ms .next, hl, hs)
+settle-sides frame {loads} {stores} {ls} {ss} {l} {s} el es ml ms =
+    let left : leaving loadFinished (loadsIn (frame .loads .count) loads) ≡ l = side-leaving-same loadOf loadFinished finished (λ e. refl) (frame .loads .count) loads ∙ sym el in
+    let right : leaving storeFinished (storesIn (frame .stores .count) stores) ≡ s = side-leaving-same storeOf storeFinished finished (λ e. refl) (frame .stores .count) stores ∙ sym es in
+    rw (
+      left,
+      right,
+      side-settled loadOf (loadAfterLeaving s) loadFinished s (λ e. refl) (λ e. refl) (frame .loads .count) l el ml,
+      side-settled storeOf (storeAfterLeaving l) storeFinished l (λ e. refl) (λ e. refl) (frame .stores .count) s es ms,
+    )

@@ -11,11 +11,13 @@ use borrow.Author.Tests.{leb-true, ltb-true, eqb-true}
 use Rattle.table.specs.Basics.{pick, all, within}
 use Rattle.table.specs.Table.{groupsOf, tableFault}
 use Rattle.queue.specs.declared.Queue.{Queue}
-use Rattle.queue.specs.Contents.{loadOf, storeOf, blankLoad, blankStore, contentsOf}
+use Rattle.queue.specs.Contents.{loadOf, storeOf, loadIn, storeIn, contentsOf}
+use Rattle.queue.specs.Entry.{entryOf}
 use Rattle.queue.specs.Sound.{depthRight, memoryRight, addressRight, loadRight, storeRight, sound}
-use Rattle.queue.specs.Internal.{sideOf, loadsOf, storesOf}
+use Rattle.queue.specs.Internal.{sideOf, loadsIn, storesIn, entriesIn, entryRight}
 use Rattle.queue.proofs.Lists.{false-true, and-left, and-right}
 use Rattle.queue.proofs.ContentsLaws.{side-length, side-at}
+use Rattle.queue.proofs.EntryLaws.{side-all-same, load-right, store-right}
 
 pub within-least : (lo hi n : ℕ) → within lo hi n ≡ true → lo ≤ n
 within-least lo hi n h = leb-true lo n (and-left (leb lo n) (leb n hi) h)
@@ -26,16 +28,51 @@ within-most lo hi n h = leb-true n hi (and-right (leb lo n) (leb n hi) h)
 -- the check, on the record
 pub sound-record : (q : Queue) →
     sound (contentsOf q) ≡
-    (depthRight (q .loads .depth)
-    && depthRight (q .stores .depth)
-    && memoryRight (q .words)
-    && leb (q .loads .count) (q .loads .depth)
-    && leb (q .stores .count) (q .stores .depth)
-    && all (loadRight (q .words) (q .stores .count)) (loadsOf (q .loads))
-    && all (storeRight (q .words) (q .loads .count)) (storesOf (q .stores))
-    && eqb (tableFault (groupsOf (q .table))) 0)
+    (depthRight (q .frame .loads .depth)
+    && depthRight (q .frame .stores .depth)
+    && memoryRight (q .frame .words)
+    && leb (q .frame .loads .count) (q .frame .loads .depth)
+    && leb (q .frame .stores .count) (q .frame .stores .depth)
+    && all (loadRight (q .frame .words) (q .frame .stores .count)) (loadsIn (q .frame .loads .count) (q .«load_entries»))
+    && all (storeRight (q .frame .words) (q .frame .loads .count)) (storesIn (q .frame .stores .count) (q .«store_entries»))
+    && eqb (tableFault (groupsOf (q .frame .table))) 0)
 unfolding sound contentsOf
-sound-record q = rw (side-length loadOf blankLoad (q .loads .count) (q .loads .entries), side-length storeOf blankStore (q .stores .count) (q .stores .entries))
+sound-record q = rw (side-length loadIn 0 (q .frame .loads .count) (q .«load_entries»), side-length storeIn 0 (q .frame .stores .count) (q .«store_entries»))
+
+-- the same, side by side and on the entries, in the order in which the code checks
+regroup : (a b c d e : Bool) → (a && b && c && d && e) ≡ ((a && d) && (b && e) && c)
+regroup false b c d e = refl
+regroup true false c false e = refl
+regroup true false c true e = refl
+regroup true true false false e = refl
+regroup true true false true false = refl
+regroup true true false true true = refl
+regroup true true true false e = refl
+regroup true true true true false = refl
+regroup true true true true true = refl
+
+pub sound-sides : (q : Queue) →
+    sound (contentsOf q) ≡
+    ((depthRight (q .frame .loads .depth) && leb (q .frame .loads .count) (q .frame .loads .depth))
+    && (depthRight (q .frame .stores .depth) && leb (q .frame .stores .count) (q .frame .stores .depth))
+    && memoryRight (q .frame .words)
+    && all (entryRight (q .frame .words) (q .frame .stores .count)) (entriesIn (q .frame .loads .count) (q .«load_entries»))
+    && all (entryRight (q .frame .words) (q .frame .loads .count)) (entriesIn (q .frame .stores .count) (q .«store_entries»))
+    && eqb (tableFault (groupsOf (q .frame .table))) 0)
+sound-sides q =
+    let words : ℕ = q .frame .words in
+    let n : ℕ = q .frame .loads .count in
+    let m : ℕ = q .frame .stores .count in
+    rw (
+      sound-record q,
+      regroup (depthRight (q .frame .loads .depth)) (depthRight (q .frame .stores .depth)) (memoryRight words) (leb n (q .frame .loads .depth)) (leb m (q .frame .stores .depth)),
+      side-all-same loadOf (loadRight words m) (entryRight words m) (λ e. load-right e words m) n (q .«load_entries»),
+      side-all-same storeOf (storeRight words n) (entryRight words n) (λ e. store-right e words n) m (q .«store_entries»),
+    )
+
+-- a side whose depth is right and that holds no more
+pub side-few : (depth n : ℕ) → (depthRight depth && leb n depth) ≡ true → n ≤ 64
+side-few depth n h = le-trans (leb-true n depth (and-right (depthRight depth) (leb n depth) h)) (within-most 1 64 depth (and-left (depthRight depth) (leb n depth) h))
 
 -- every element passes, so the ith does
 pub all-at : {A : Type 0} (p : A → Bool) (l : List A) → all p l ≡ true → (i : ℕ) (d : A) → i < length l → p (getD l i d) ≡ true
@@ -43,8 +80,8 @@ all-at p [] h i d k = absurd (not-suc-le-zero k)
 all-at p (x ∷ l) h zero d k = and-left (p x) (all p l) h
 all-at p (x ∷ l) h (suc i) d k = all-at p l (and-right (p x) (all p l) h) i d (le-of-suc-le-suc k)
 
-side-all : {A B : Type 0} (p : B → Bool) (f : A → B) (blank : A) (n : ℕ) (l : List A) → all p (sideOf f blank n l) ≡ true → n ≤ length l → (i : ℕ) → i < n → p (f (getD l i blank)) ≡ true
-side-all p f blank n l h w i k = rw (← side-at f blank n l w i k) (all-at p (sideOf f blank n l) h i (f blank) (rw (side-length f blank n l) k))
+side-all : {A B : Type 0} (p : B → Bool) (f : A → B) (blank : A) (n : ℕ) (l : List A) → all p (sideOf f blank n l) ≡ true → (i : ℕ) → i < n → p (f (getD l i blank)) ≡ true
+side-all p f blank n l h i k = rw (← side-at f blank n l i k) (all-at p (sideOf f blank n l) h i (f blank) (rw (side-length f blank n l) k))
 
 -- an address that is filled in
 filled-in : (words a : ℕ) (addressed : Bool) → addressRight words (pick addressed (some a) none) ≡ true → addressed ≡ true → a < words
@@ -74,66 +111,57 @@ parts false b c d e f g h z = false-true z
 
 module _ (q : Queue) (s : sound (contentsOf q) ≡ true) where
   parted : Parts
-      (depthRight (q .loads .depth))
-      (depthRight (q .stores .depth))
-      (memoryRight (q .words))
-      (leb (q .loads .count) (q .loads .depth))
-      (leb (q .stores .count) (q .stores .depth))
-      (all (loadRight (q .words) (q .stores .count)) (loadsOf (q .loads)))
-      (all (storeRight (q .words) (q .loads .count)) (storesOf (q .stores)))
-      (eqb (tableFault (groupsOf (q .table))) 0)
+      (depthRight (q .frame .loads .depth))
+      (depthRight (q .frame .stores .depth))
+      (memoryRight (q .frame .words))
+      (leb (q .frame .loads .count) (q .frame .loads .depth))
+      (leb (q .frame .stores .count) (q .frame .stores .depth))
+      (all (loadRight (q .frame .words) (q .frame .stores .count)) (loadsIn (q .frame .loads .count) (q .«load_entries»)))
+      (all (storeRight (q .frame .words) (q .frame .loads .count)) (storesIn (q .frame .stores .count) (q .«store_entries»)))
+      (eqb (tableFault (groupsOf (q .frame .table))) 0)
   parted = parts _ _ _ _ _ _ _ _ (sym (sound-record q) ∙ s)
 
-  pub load-depth-least : 1 ≤ q .loads .depth
-  load-depth-least = within-least 1 64 (q .loads .depth) (parted .part1)
+  pub load-depth-most : q .frame .loads .depth ≤ 64
+  load-depth-most = within-most 1 64 (q .frame .loads .depth) (parted .part1)
 
-  pub load-depth-most : q .loads .depth ≤ 64
-  load-depth-most = within-most 1 64 (q .loads .depth) (parted .part1)
+  pub store-depth-most : q .frame .stores .depth ≤ 64
+  store-depth-most = within-most 1 64 (q .frame .stores .depth) (parted .part2)
 
-  pub store-depth-least : 1 ≤ q .stores .depth
-  store-depth-least = within-least 1 64 (q .stores .depth) (parted .part2)
+  pub words-most : q .frame .words ≤ 4096
+  words-most = within-most 1 4096 (q .frame .words) (parted .part3)
 
-  pub store-depth-most : q .stores .depth ≤ 64
-  store-depth-most = within-most 1 64 (q .stores .depth) (parted .part2)
-
-  pub words-least : 1 ≤ q .words
-  words-least = within-least 1 4096 (q .words) (parted .part3)
-
-  pub words-most : q .words ≤ 4096
-  words-most = within-most 1 4096 (q .words) (parted .part3)
-
-  pub loads-in-depth : q .loads .count ≤ q .loads .depth
+  pub loads-in-depth : q .frame .loads .count ≤ q .frame .loads .depth
   loads-in-depth = leb-true _ _ (parted .part4)
 
-  pub stores-in-depth : q .stores .count ≤ q .stores .depth
+  pub stores-in-depth : q .frame .stores .count ≤ q .frame .stores .depth
   stores-in-depth = leb-true _ _ (parted .part5)
 
-  pub loads-few : q .loads .count ≤ 64
+  pub loads-few : q .frame .loads .count ≤ 64
   loads-few = le-trans loads-in-depth load-depth-most
 
-  pub stores-few : q .stores .count ≤ 64
+  pub stores-few : q .frame .stores .count ≤ 64
   stores-few = le-trans stores-in-depth store-depth-most
 
-  pub table-right : tableFault (groupsOf (q .table)) ≡ 0
+  pub table-right : tableFault (groupsOf (q .frame .table)) ≡ 0
   table-right = eqb-true _ 0 (parted .part8)
 
-  module _ (w : q .loads .count ≤ length (q .loads .entries)) (i : ℕ) (k : i < q .loads .count) where
-    load-right-at : loadRight (q .words) (q .stores .count) (loadOf (getD (q .loads .entries) i blankLoad)) ≡ true
-    load-right-at = side-all (loadRight (q .words) (q .stores .count)) loadOf blankLoad (q .loads .count) (q .loads .entries) (parted .part6) w i k
+  module _ (i : ℕ) (k : i < q .frame .loads .count) where
+    load-right-at : loadRight (q .frame .words) (q .frame .stores .count) (loadIn (getD (q .«load_entries») i 0)) ≡ true
+    load-right-at = side-all (loadRight (q .frame .words) (q .frame .stores .count)) loadIn 0 (q .frame .loads .count) (q .«load_entries») (parted .part6) i k
 
     -- it remembers no more stores than are held
-    pub load-before : getD (q .loads .entries) i blankLoad .before ≤ q .stores .count
-    load-before = leb-true _ _ (and-left (leb (getD (q .loads .entries) i blankLoad .before) (q .stores .count)) _ load-right-at)
+    pub load-before : entryOf (getD (q .«load_entries») i 0) .before ≤ q .frame .stores .count
+    load-before = leb-true _ _ (and-left (leb (entryOf (getD (q .«load_entries») i 0) .before) (q .frame .stores .count)) _ load-right-at)
 
-    pub load-address : getD (q .loads .entries) i blankLoad .addressed ≡ true → getD (q .loads .entries) i blankLoad .address < q .words
-    load-address e = filled-in (q .words) _ (getD (q .loads .entries) i blankLoad .addressed) (and-right (leb (getD (q .loads .entries) i blankLoad .before) (q .stores .count)) _ load-right-at) e
+    pub load-address : entryOf (getD (q .«load_entries») i 0) .addressed ≡ true → entryOf (getD (q .«load_entries») i 0) .address < q .frame .words
+    load-address e = filled-in (q .frame .words) _ (entryOf (getD (q .«load_entries») i 0) .addressed) (and-right (leb (entryOf (getD (q .«load_entries») i 0) .before) (q .frame .stores .count)) _ load-right-at) e
 
-  module _ (w : q .stores .count ≤ length (q .stores .entries)) (i : ℕ) (k : i < q .stores .count) where
-    store-right-at : storeRight (q .words) (q .loads .count) (storeOf (getD (q .stores .entries) i blankStore)) ≡ true
-    store-right-at = side-all (storeRight (q .words) (q .loads .count)) storeOf blankStore (q .stores .count) (q .stores .entries) (parted .part7) w i k
+  module _ (i : ℕ) (k : i < q .frame .stores .count) where
+    store-right-at : storeRight (q .frame .words) (q .frame .loads .count) (storeIn (getD (q .«store_entries») i 0)) ≡ true
+    store-right-at = side-all (storeRight (q .frame .words) (q .frame .loads .count)) storeIn 0 (q .frame .stores .count) (q .«store_entries») (parted .part7) i k
 
-    pub store-before : getD (q .stores .entries) i blankStore .before ≤ q .loads .count
-    store-before = leb-true _ _ (and-left (leb (getD (q .stores .entries) i blankStore .before) (q .loads .count)) _ store-right-at)
+    pub store-before : entryOf (getD (q .«store_entries») i 0) .before ≤ q .frame .loads .count
+    store-before = leb-true _ _ (and-left (leb (entryOf (getD (q .«store_entries») i 0) .before) (q .frame .loads .count)) _ store-right-at)
 
-    pub store-address : getD (q .stores .entries) i blankStore .addressed ≡ true → getD (q .stores .entries) i blankStore .address < q .words
-    store-address e = filled-in (q .words) _ (getD (q .stores .entries) i blankStore .addressed) (and-right (leb (getD (q .stores .entries) i blankStore .before) (q .loads .count)) _ store-right-at) e
+    pub store-address : entryOf (getD (q .«store_entries») i 0) .addressed ≡ true → entryOf (getD (q .«store_entries») i 0) .address < q .frame .words
+    store-address e = filled-in (q .frame .words) _ (entryOf (getD (q .«store_entries») i 0) .addressed) (and-right (leb (entryOf (getD (q .«store_entries») i 0) .before) (q .frame .loads .count)) _ store-right-at) e

@@ -9,16 +9,16 @@ use borrow.Author.Tests.{not-true, not-false}
 use Rattle.table.specs.Basics.{pick, all}
 use Rattle.queue.specs.declared.serving.Supply.{Supply}
 use Rattle.queue.specs.declared.serving.Supply.the-variants.{Unknown, NoStore}
-use Rattle.queue.specs.declared.StoreEntry.{StoreEntry}
+use Rattle.queue.specs.declared.Entry.{Entry}
 use Rattle.queue.specs.Contents.{Store, storeOf}
 use Rattle.queue.specs.Serve.{hasAddress, supplies, nearest}
 use Rattle.queue.specs.InternalServe.{wordFrom, supplyOf, supplyFrom}
 
 -- an entry's address
-pub address-lacking : (e : StoreEntry) → not (e .addressed) ≡ true → hasAddress (storeOf e) ≡ false
+pub address-lacking : (e : Entry) → not (e .addressed) ≡ true → hasAddress (storeOf e) ≡ false
 address-lacking e h = rw (not-true (e .addressed) h)
 
-pub address-known : (e : StoreEntry) → not (e .addressed) ≡ false → hasAddress (storeOf e) ≡ true
+pub address-known : (e : Entry) → not (e .addressed) ≡ false → hasAddress (storeOf e) ≡ true
 address-known e h = rw (not-false (e .addressed) h)
 
 -- the latest supply, where `found` was found before

@@ -1,6 +1,5 @@
 -- What writing the store at a place answers, by what the record holds there.
 use Prim.Native.Nat.{ℕ, _≤_, _<_}
-use native.Mathlib.Nat.{le-trans}
 use native.Mathlib.Omega.{arith}
 use mathlib.Core.Path.{_≡_, refl, sym, ap, _∙_}
 use mathlib.Core.Bool.{Bool, true, false, not}
@@ -9,15 +8,16 @@ use mathlib.Core.Option.{Option, none, some}
 use lib.ListN.{length, getD, take}
 use borrow.Author.Tests.{eq-eqb, ne-eqb}
 use Rattle.table.specs.Basics.{all, nth}
-use Rattle.queue.specs.declared.StoreEntry.{StoreEntry}
+use Rattle.queue.specs.declared.Entry.{Entry}
 use Rattle.queue.specs.declared.Queue.{Queue}
 use Rattle.queue.specs.Refusal.{unsound, wrongMemory, noSerial, alreadyDone, noAddress, noData, earlierLoadInWay, earlierStoreInWay}
 use Rattle.queue.specs.Ruled.{Ruled, refuse, accept, need, have, andThen, number}
-use Rattle.queue.specs.Contents.{Load, Store, Contents, loadOf, storeOf, blankLoad, blankStore, contentsOf, age, oldest, storePlace}
+use Rattle.queue.specs.Contents.{Load, Store, Contents, storeOf, loadIn, storeIn, contentsOf, age, oldest, storePlace}
+use Rattle.queue.specs.Entry.{entryOf}
 use Rattle.queue.specs.Sound.{sound}
-use Rattle.queue.specs.Write.{Written, loadGivesWay, storeGivesWay, write}
-use Rattle.queue.specs.Internal.{sideOf}
-use Rattle.queue.specs.InternalWrite.{Put, mayWrite, mayWriteAt, writtenWith, writeAt}
+use Rattle.queue.specs.Write.{loadGivesWay, storeGivesWay, write}
+use Rattle.queue.specs.Internal.{loadsIn, storesIn}
+use Rattle.queue.specs.InternalWrite.{mayWrite, mayWriteAt, writtenWith, writeAt}
 use Rattle.queue.proofs.ContentsLaws.{nth-past, side-nth, side-take, loads-held, stores-held, stores-count, words-held, store-place}
 
 -- ---- an answer that is no 0 refuses with it
@@ -26,11 +26,11 @@ refused-number (refuse n) h = refl
 refused-number (accept a) h = absurd (h refl)
 
 -- ---- 26, 27, 29, 31, 32, in the order of checking
-module _ (ls : List Load) (ss : List Store) (e : StoreEntry) where
-  pub may-not-again : e .written ≡ true → alreadyDone ≡ number (mayWrite ls ss (storeOf e))
+module _ (ls : List Load) (ss : List Store) (e : Entry) where
+  pub may-not-again : e .finished ≡ true → alreadyDone ≡ number (mayWrite ls ss (storeOf e))
   may-not-again w = rw w
 
-  module _ (w : e .written ≡ false) where
+  module _ (w : e .finished ≡ false) where
     pub may-no-address : e .addressed ≡ false → noAddress ≡ number (mayWrite ls ss (storeOf e))
     may-no-address a = rw (w, a)
 
@@ -51,15 +51,15 @@ module _ (ls : List Load) (ss : List Store) (e : StoreEntry) where
 
   -- answered 0, it has an address and data, and puts them
   pub record Puts : Type 0 where
-    pub unwritten : e .written ≡ false
+    pub unwritten : e .finished ≡ false
     pub addressed : e .addressed ≡ true
     pub filled : e .filled ≡ true
     pub put : mayWrite ls ss (storeOf e) ≡ accept (record { address = e .address; word = e .word })
 
   pub may-puts : number (mayWrite ls ss (storeOf e)) ≡ 0 → Puts
-  may-puts h = go (e .written) (e .addressed) (e .filled) (all (loadGivesWay (e .address)) ls) (all (storeGivesWay (e .address)) ss) refl refl refl refl refl
+  may-puts h = go (e .finished) (e .addressed) (e .filled) (all (loadGivesWay (e .address)) ls) (all (storeGivesWay (e .address)) ss) refl refl refl refl refl
     where
-      go : (w a f l s : Bool) → e .written ≡ w → e .addressed ≡ a → e .filled ≡ f → all (loadGivesWay (e .address)) ls ≡ l → all (storeGivesWay (e .address)) ss ≡ s → Puts
+      go : (w a f l s : Bool) → e .finished ≡ w → e .addressed ≡ a → e .filled ≡ f → all (loadGivesWay (e .address)) ls ≡ l → all (storeGivesWay (e .address)) ss ≡ s → Puts
       go true a f l s ew ea ef el es = let z = may-not-again ew ∙ h in absurd (omega arith)
       go false false f l s ew ea ef el es = let z = may-no-address ew ea ∙ h in absurd (omega arith)
       go false true false l s ew ea ef el es = let z = may-no-data ew ea ef ∙ h in absurd (omega arith)
@@ -115,22 +115,22 @@ write-rest q memory place none = refl
 write-rest q memory place (some s) = write-tail q memory place (take (s .before) (q .loads)) (take place (q .stores)) s
 
 module _ (q : Queue) (memory : List ℕ) (place : ℕ) where
-  pub write-none : q .stores .count ≤ place → writeAt (contentsOf q) memory place ≡ refuse noSerial
+  pub write-none : q .frame .stores .count ≤ place → writeAt (contentsOf q) memory place ≡ refuse noSerial
   write-none h = rw (nth-past (contentsOf q .stores) place (rw (stores-count q) h))
 
-  module _ (w : q .stores .count ≤ length (q .stores .entries)) (v : q .loads .count ≤ length (q .loads .entries)) (k : place < q .stores .count)
-      (b : getD (q .stores .entries) place blankStore .before ≤ q .loads .count) where
-    pub write-held : writeAt (contentsOf q) memory place ≡ andThen (mayWriteAt (q .loads) (q .stores) place) λ p. accept (writtenWith (contentsOf q) memory place p)
+  module _ (k : place < q .frame .stores .count)
+      (b : entryOf (getD (q .«store_entries») place 0) .before ≤ q .frame .loads .count) where
+    pub write-held : writeAt (contentsOf q) memory place ≡ andThen (mayWriteAt (q .«load_entries») (q .«store_entries») place) λ p. accept (writtenWith (contentsOf q) memory place p)
     write-held =
-        let e : StoreEntry = getD (q .stores .entries) place blankStore in
-        let here : nth (contentsOf q .stores) place ≡ some (storeOf e) = ap (λ (l : List Store). nth l place) (stores-held q) ∙ side-nth storeOf blankStore (q .stores .count) (q .stores .entries) w place k in
-        let ls : take (e .before) (contentsOf q .loads) ≡ sideOf loadOf blankLoad (e .before) (q .loads .entries) =
-        ap (take (e .before)) (loads-held q) ∙ side-take loadOf blankLoad (q .loads .count) (q .loads .entries) v (e .before) b in
-        let ss : take place (contentsOf q .stores) ≡ sideOf storeOf blankStore place (q .stores .entries) =
-        ap (take place) (stores-held q) ∙ side-take storeOf blankStore (q .stores .count) (q .stores .entries) w place (omega arith) in
+        let e : Entry = entryOf (getD (q .«store_entries») place 0) in
+        let here : nth (contentsOf q .stores) place ≡ some (storeOf e) = ap (λ (l : List Store). nth l place) (stores-held q) ∙ side-nth storeIn 0 (q .frame .stores .count) (q .«store_entries») place k in
+        let ls : take (e .before) (contentsOf q .loads) ≡ loadsIn (e .before) (q .«load_entries») =
+        ap (take (e .before)) (loads-held q) ∙ side-take loadIn 0 (q .frame .loads .count) (q .«load_entries») (e .before) b in
+        let ss : take place (contentsOf q .stores) ≡ storesIn place (q .«store_entries») =
+        ap (take place) (stores-held q) ∙ side-take storeIn 0 (q .frame .stores .count) (q .«store_entries») place (omega arith) in
         ap (λ (o : Option Store). have o noSerial λ s. andThen (mayWrite (take (s .before) (contentsOf q .loads)) (take place (contentsOf q .stores)) s) λ p. accept (writtenWith (contentsOf q) memory place p)) here
         ∙ ap (λ (l : List Load). andThen (mayWrite l (take place (contentsOf q .stores)) (storeOf e)) λ p. accept (writtenWith (contentsOf q) memory place p)) ls
-        ∙ ap (λ (l : List Store). andThen (mayWrite (sideOf loadOf blankLoad (e .before) (q .loads .entries)) l (storeOf e)) λ p. accept (writtenWith (contentsOf q) memory place p)) ss
+        ∙ ap (λ (l : List Store). andThen (mayWrite (loadsIn (e .before) (q .«load_entries»)) l (storeOf e)) λ p. accept (writtenWith (contentsOf q) memory place p)) ss
 
 -- ---- 40 and 30, and the place that a serial names
 pub write-by-place : (q : Contents) (memory : List ℕ) (serial : ℕ) → sound q ≡ true → length memory ≡ q .memoryLength
@@ -145,11 +145,11 @@ module _ (q : Queue) (memory : List ℕ) (serial : ℕ) where
   write-unsound e = rw e
 
   module _ (right : sound (contentsOf q) ≡ true) where
-    pub write-memory : (length memory ≡ q .words → ⊥) → write (contentsOf q) memory serial ≡ refuse wrongMemory
+    pub write-memory : (length memory ≡ q .frame .words → ⊥) → write (contentsOf q) memory serial ≡ refuse wrongMemory
     unfolding write
-    write-memory e = rw (right, words-held q, ne-eqb (length memory) (q .words) e)
+    write-memory e = rw (right, words-held q, ne-eqb (length memory) (q .frame .words) e)
 
-    pub write-place : length memory ≡ q .words → write (contentsOf q) memory serial ≡ writeAt (contentsOf q) memory (age (oldest (q .stores .next) (q .stores .count)) serial)
+    pub write-place : length memory ≡ q .frame .words → write (contentsOf q) memory serial ≡ writeAt (contentsOf q) memory (age (oldest (q .frame .stores .next) (q .frame .stores .count)) serial)
     write-place e =
         write-by-place (contentsOf q) memory serial right (e ∙ sym (words-held q))
         ∙ ap (writeAt (contentsOf q) memory) (store-place q serial)

@@ -1,9 +1,9 @@
 -- "Activation gives the group's loads the next load serials and its stores the next store serials." "Each entry remembers
 -- how many queued entries of the other kind come before it." "Activate: 20 no such group; 21 too few free places on either side."
 use Prim.Native.Nat.{ℕ, suc, _+_}
-use mathlib.Core.Bool.{Bool, true, false, _&&_}
+use mathlib.Core.Bool.{Bool, false, _&&_}
 use mathlib.Core.List.{List, [], _∷_, _++_}
-use mathlib.Core.Option.{Option, none, some}
+use mathlib.Core.Option.{none}
 use lib.Dec.{leb}
 use lib.ListN.{length}
 use Rattle.table.specs.Basics.{nth}

@@ -2,16 +2,16 @@
 -- Document 01, "How the queue moves": "a queue holds its table, both depths, the memory length, and for each side the
 -- next serial and the entries from the oldest, whose serials run without a gap up to that next one".
 use Prim.Native.Nat.{ℕ, zero, suc, _+_, _-_, _%_, _^_}
-use mathlib.Core.Bool.{Bool, true, false}
+use mathlib.Core.Bool.{Bool}
 use mathlib.Core.List.{List, [], _∷_, map}
 use mathlib.Core.Option.{Option, none, some}
 use lib.ListN.{length}
 use Rattle.table.specs.Basics.{pick, held}
 use Rattle.table.specs.Group.{GroupPairs}
 use Rattle.table.specs.Table.{groupsOf}
-use Rattle.queue.specs.declared.LoadEntry.{LoadEntry}
-use Rattle.queue.specs.declared.StoreEntry.{StoreEntry}
+use Rattle.queue.specs.declared.Entry.{Entry}
 use Rattle.queue.specs.declared.Queue.{Queue}
+use Rattle.queue.specs.Entry.{entryOf}
 
 -- "A load entry holds port, address or none, served or not, value, taken or not", and how many queued stores come before it.
 -- A served load has the value that it was served.
@@ -40,42 +40,43 @@ pub record Contents : Type 0 where
   pub nextStore : ℕ
   pub stores : List Store
 
--- what an entry's record holds
-abbrev pub loadOf : LoadEntry → Load
+-- what an entry holds, as a load and as a store
+abbrev pub loadOf : Entry → Load
 loadOf e = record {
   port = e .port;
   address = pick (e .addressed) (some (e .address)) none;
-  value = pick (e .served) (some (e .value)) none;
-  taken = e .taken;
+  value = pick (e .filled) (some (e .word)) none;
+  taken = e .finished;
   before = e .before;
 }
 
-abbrev pub storeOf : StoreEntry → Store
+abbrev pub storeOf : Entry → Store
 storeOf e = record {
   port = e .port;
   address = pick (e .addressed) (some (e .address)) none;
   word = pick (e .filled) (some (e .word)) none;
-  written = e .written;
+  written = e .finished;
   before = e .before;
 }
 
-abbrev pub blankLoad : LoadEntry
-blankLoad = record { port = 0; before = 0; addressed = false; served = false; taken = false; address = 0; value = 0 }
+-- what a number of a queue's record holds
+abbrev pub loadIn : ℕ → Load
+loadIn n = loadOf (entryOf n)
 
-abbrev pub blankStore : StoreEntry
-blankStore = record { port = 0; before = 0; addressed = false; filled = false; written = false; address = 0; word = 0 }
+abbrev pub storeIn : ℕ → Store
+storeIn n = storeOf (entryOf n)
 
 -- what a queue's record holds
 unfoldable pub contentsOf : Queue → Contents
 contentsOf q = record {
-  groups = groupsOf (q .table);
-  memoryLength = q .words;
-  loadDepth = q .loads .depth;
-  nextLoad = q .loads .next;
-  loads = map loadOf (held blankLoad (q .loads .count) (q .loads .entries));
-  storeDepth = q .stores .depth;
-  nextStore = q .stores .next;
-  stores = map storeOf (held blankStore (q .stores .count) (q .stores .entries));
+  groups = groupsOf (q .frame .table);
+  memoryLength = q .frame .words;
+  loadDepth = q .frame .loads .depth;
+  nextLoad = q .frame .loads .next;
+  loads = map loadIn (held 0 (q .frame .loads .count) (q .«load_entries»));
+  storeDepth = q .frame .stores .depth;
+  nextStore = q .frame .stores .next;
+  stores = map storeIn (held 0 (q .frame .stores .count) (q .«store_entries»));
 }
 
 -- the same queue with other entries

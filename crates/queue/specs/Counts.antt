@@ -1,8 +1,8 @@
 -- "The counts record is lent to each serve and updated there: loads served, and loads forwarded. When either stands at
 -- 4294967295 both stop. The share is thousandths of loads that were forwarded, to the nearest, half going up; it is 0 for
 -- no loads."
-use Prim.Native.Nat.{ℕ, suc, _+_, _*_, _/_}
-use mathlib.Core.Bool.{Bool, true, false, _||_}
+use Prim.Native.Nat.{ℕ, _+_, _*_, _/_}
+use mathlib.Core.Bool.{Bool, _||_}
 use lib.Dec.{eqb}
 use Rattle.table.specs.Basics.{pick}
 use Rattle.queue.specs.declared.Counts.{Counts}

@@ -16,7 +16,6 @@ use lib.ListN.{length}
 use Rattle.table.specs.Basics.{pick, count, nth}
 use Rattle.table.specs.Group.{GroupPairs, Access, load, store}
 use Rattle.queue.specs.Ruled.{accept, number}
-use Rattle.queue.specs.Contents.{Contents}
 use Rattle.queue.specs.Sound.{sound}
 use Rattle.queue.specs.Open.{openQueue}
 use Rattle.queue.specs.Serve.{serve}

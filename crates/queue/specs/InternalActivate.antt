@@ -2,16 +2,17 @@
 -- an entry's offset is the number of the other kind before it in the group, so this is what the program order gives.
 use Prim.Native.Nat.{ℕ, _+_, _≤_, _<_}
 use mathlib.Core.Path.{_≡_}
-use mathlib.Core.List.{_++_, map}
+use mathlib.Core.Bool.{false}
+use mathlib.Core.List.{List, _++_, map}
 use lib.ListN.{length, getD}
 use Rattle.table.specs.declared.Pair.{Pair}
 use Rattle.table.specs.declared.Pairs.{Pairs}
 use Rattle.table.specs.Group.{GroupPairs, blankPair, listOf, Inside}
-use Rattle.queue.specs.declared.Loads.{Loads}
-use Rattle.queue.specs.declared.Stores.{Stores}
+use Rattle.queue.specs.declared.Entry.{Entry}
+use Rattle.queue.specs.declared.Side.{Side}
 use Rattle.queue.specs.Contents.{Load, Store, Contents, after}
 use Rattle.queue.specs.Activate.{newLoad, newStore}
-use Rattle.queue.specs.Internal.{loadsOf, storesOf}
+use Rattle.queue.specs.Internal.{entriesIn}
 
 -- the entry of a pair, where so many of the other kind are held
 abbrev pub loadAfter : ℕ → Pair → Load
@@ -20,22 +21,25 @@ loadAfter stores p = newLoad (p .port) (stores + p .offset)
 abbrev pub storeAfter : ℕ → Pair → Store
 storeAfter loads p = newStore (p .port) (loads + p .offset)
 
--- so many entries are held, and there is place for the pairs; what a new entry remembers fits its byte
+-- so many entries are held, there is place for the pairs, and what their entries hold has room in a number
 pub record PairsFit (held : ℕ) (ps : Pairs) : Type 0 where
   pub inside : Inside ps
   pub few : ps .count ≤ 16
   pub room : held + ps .count ≤ 64
   pub offsets : (i : ℕ) → i < ps .count → getD (listOf ps) i blankPair .offset ≤ 16
+  pub ports : (i : ℕ) → i < ps .count → getD (listOf ps) i blankPair .port < 32
 
-pub record LoadsAppended (loads : Loads) (ps : Pairs) (stores : ℕ) (r : Loads) : Type 0 where
-  pub depth : r .depth ≡ loads .depth
-  pub next : r .next ≡ after (loads .next) (ps .count)
-  pub holds : loadsOf r ≡ loadsOf loads ++ map (loadAfter stores) (listOf ps)
+-- the entry of a pair, on either side
+abbrev pub entryAfter : ℕ → Pair → Entry
+entryAfter others p = record { port = p .port; before = others + p .offset; addressed = false; filled = false; finished = false; address = 0; word = 0 }
 
-pub record StoresAppended (stores : Stores) (ps : Pairs) (loads : ℕ) (r : Stores) : Type 0 where
-  pub depth : r .depth ≡ stores .depth
-  pub next : r .next ≡ after (stores .next) (ps .count)
-  pub holds : storesOf r ≡ storesOf stores ++ map (storeAfter loads) (listOf ps)
+-- the pairs' entries stand behind those held
+pub record Appended (held : ℕ) (ps : Pairs) (others : ℕ) (l left : List ℕ) : Type 0 where
+  pub holds : entriesIn (held + ps .count) left ≡ entriesIn held l ++ map (entryAfter others) (listOf ps)
+
+-- a side that holds so many more
+abbrev pub longer : Side → ℕ → Side
+longer side more = record { depth = side .depth; count = side .count + more; next = after (side .next) more }
 
 -- a queue with a group's entries, by their offsets
 abbrev pub withPairs : Contents → GroupPairs → Contents

@@ -10,11 +10,10 @@ use Rattle.table.specs.Basics.{pick}
 use Rattle.queue.specs.declared.serving.Supply.{Supply}
 use Rattle.queue.specs.declared.serving.Supply.the-variants.{Unknown, NoStore, NoWord, Forwarded}
 use Rattle.queue.specs.declared.ready.Serials.{Serials}
-use Rattle.queue.specs.declared.Loads.{Loads}
-use Rattle.queue.specs.declared.Stores.{Stores}
+use Rattle.queue.specs.Entry.{entryOf}
 use Rattle.queue.specs.Ruled.{isSome, number}
-use Rattle.queue.specs.Contents.{Load, Store, loadOf, storeOf, blankLoad, blankStore}
-use Rattle.queue.specs.Internal.{sideOf}
+use Rattle.queue.specs.Contents.{Load, Store, loadIn}
+use Rattle.queue.specs.Internal.{storesIn}
 use Rattle.queue.specs.InternalServe.{supplyFrom}
 use Rattle.queue.specs.InternalWrite.{mayWriteAt}
 
@@ -34,11 +33,10 @@ abbrev pub loadReady : List Store → Load → Bool
 loadReady ss l = not (isSome (l .value)) && addressReady ss (l .address)
 
 -- the load, the store, at a place: would it be served, would it be written
-abbrev pub loadReadyAt : Loads → Stores → ℕ → Bool
-loadReadyAt loads stores i =
-    loadReady (sideOf storeOf blankStore (getD (loads .entries) i blankLoad .before) (stores .entries)) (loadOf (getD (loads .entries) i blankLoad))
+abbrev pub loadReadyAt : List ℕ → List ℕ → ℕ → Bool
+loadReadyAt loads stores i = loadReady (storesIn (entryOf (getD loads i 0) .before) stores) (loadIn (getD loads i 0))
 
-abbrev pub storeReadyAt : Loads → Stores → ℕ → Bool
+abbrev pub storeReadyAt : List ℕ → List ℕ → ℕ → Bool
 storeReadyAt loads stores i = eqb (number (mayWriteAt loads stores i)) 0
 
 -- serials in an array

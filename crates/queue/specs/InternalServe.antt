@@ -2,17 +2,21 @@
 use Prim.Native.Nat.{ℕ}
 use mathlib.Core.Bool.{Bool, not}
 use mathlib.Core.List.{List}
+use mathlib.Core.Path.{_≡_}
 use mathlib.Core.Option.{Option, none, some}
+use lib.ListN.{getD, set}
 use Rattle.table.specs.Basics.{pick, all, nth}
 use Rattle.queue.specs.declared.serving.Supply.{Supply}
 use Rattle.queue.specs.declared.serving.Supply.the-variants.{Unknown, NoStore, NoWord, Forwarded}
-use Rattle.queue.specs.declared.Value.the-variants.{Nothing}
+use Rattle.queue.specs.declared.Value.the-variants.{Word, Nothing}
+use Rattle.queue.specs.declared.serving.Service.{Service}
 use Rattle.queue.specs.declared.Queue.{Queue}
 use Rattle.queue.specs.declared.Counts.{Counts}
 use Rattle.queue.specs.declared.Counted.{Counted}
-use Rattle.queue.specs.Contents.{Store, Contents, withLoads, updateAt}
+use Rattle.queue.specs.Contents.{Store, Contents, loadIn, withLoads, updateAt}
 use Rattle.queue.specs.Serve.{hasAddress, nearest, sourceOf, storesBefore, loadWithValue, Served}
 use Rattle.queue.specs.Refusal.{noSerial, alreadyDone, noAddress, earlierStoreUnknown}
+use Rattle.queue.specs.Counts.{counted}
 use Rattle.queue.specs.Ruled.{Ruled, accept, need, have, andThen, isSome}
 
 abbrev pub wordIn : Option ℕ → Supply
@@ -31,9 +35,22 @@ supplyOf (some s) = wordFrom s
 abbrev pub supplyFrom : ℕ → List Store → Supply
 supplyFrom a ss = pick (all hasAddress ss) (supplyOf (nearest a none ss)) Unknown
 
--- a refused serve
-abbrev pub unserved : Queue → Counts → ℕ → Counted
-unserved q counts n = record { answer = n; value = Nothing; queue = q; counts = counts }
+-- a refused serve, and an accepted one
+abbrev pub unserved : ℕ → Counts → Service
+unserved n counts = record { answer = n; value = Nothing; counts = counts }
+
+abbrev pub servedAs : ℕ → Bool → Counts → Service
+servedAs word forwarded counts = record { answer = 0; value = Word word; counts = counted forwarded counts }
+
+-- the load at a place has its value, and nothing else is changed
+pub record Filled (at word : ℕ) (l left : List ℕ) : Type 0 where
+  pub number : ℕ
+  pub holds : loadIn number ≡ loadWithValue word (loadIn (getD l at 0))
+  pub leaves : left ≡ set l at number
+
+-- what a serve gave, and the queue that it left
+abbrev pub countedOf : Service → Queue → Counted
+countedOf s q = record { answer = s .answer; value = s .value; queue = q; counts = s .counts }
 
 -- the load at a place is served
 abbrev pub servedWith : Contents → ℕ → ℕ → Bool → Served

@@ -1,28 +1,37 @@
 -- What the code that writes a store, and the code that lets finished entries go, are written with.
-use Prim.Native.Nat.{ℕ, _-_}
+use Prim.Native.Nat.{ℕ, _+_, _-_}
 use mathlib.Core.Path.{_≡_}
-use mathlib.Core.Bool.{not}
+use mathlib.Core.Bool.{Bool, false, not, _||_}
 use mathlib.Core.List.{List, map}
+use lib.Dec.{eqb}
 use lib.ListN.{getD, take, drop, set}
-use Rattle.table.specs.Basics.{all, nth}
-use Rattle.queue.specs.declared.Loads.{Loads}
-use Rattle.queue.specs.declared.Stores.{Stores}
+use Rattle.table.specs.Basics.{pick, all, nth}
+use Rattle.queue.specs.declared.Entry.{Entry}
+use Rattle.queue.specs.declared.Side.{Side}
+use Rattle.queue.specs.declared.entries.Mark.{Mark}
+use Rattle.queue.specs.Entry.{entryOf}
 use Rattle.queue.specs.Refusal.{noSerial, alreadyDone, noAddress, noData, earlierLoadInWay, earlierStoreInWay}
 use Rattle.queue.specs.Ruled.{Ruled, accept, need, have, andThen}
-use Rattle.queue.specs.Contents.{Load, Store, Contents, loadOf, storeOf, blankLoad, blankStore, withStores, updateAt}
-use Rattle.queue.specs.Write.{Written, loadGivesWay, storeGivesWay, storeDone, loadAfterLeaving, storeAfterLeaving, settle}
-use Rattle.queue.specs.Internal.{sideOf, loadsOf, storesOf}
+use Rattle.queue.specs.Contents.{Load, Store, Contents, storeIn, withStores, updateAt}
+use Rattle.queue.specs.Write.{Written, loadGivesWay, storeGivesWay, storeDone, settle}
+use Rattle.queue.specs.Internal.{entriesIn, loadsIn, storesIn, has}
 
--- `side` without its first `gone` entries, after so many of the other kind have left
-pub record LoadsMoved (side : Loads) (gone stores : ℕ) (r : Loads) : Type 0 where
-  pub depth : r .depth ≡ side .depth
-  pub next : r .next ≡ side .next
-  pub holds : loadsOf r ≡ map (loadAfterLeaving stores) (drop gone (loadsOf side))
+-- an entry that is done with the memory (a served load, a written store), or is known to be of another word
+abbrev pub givesWay : Mark → ℕ → Entry → Bool
+givesWay done a e = has done e || pick (e .addressed) (not (eqb (e .address) a)) false
 
-pub record StoresMoved (side : Stores) (gone loads : ℕ) (r : Stores) : Type 0 where
-  pub depth : r .depth ≡ side .depth
-  pub next : r .next ≡ side .next
-  pub holds : storesOf r ≡ map (storeAfterLeaving loads) (drop gone (storesOf side))
+-- an entry after so many of the other kind have left
+abbrev pub lowered : ℕ → Entry → Entry
+lowered n e =
+    record { port = e .port; before = e .before - n; addressed = e .addressed; filled = e .filled; finished = e .finished; address = e .address; word = e .word }
+
+-- the `left` entries behind the first `gone` stand at the front, after so many of the other kind have left
+pub record Shifted (gone left others : ℕ) (l after : List ℕ) : Type 0 where
+  pub holds : entriesIn left after ≡ map (lowered others) (drop gone (entriesIn (gone + left) l))
+
+-- a side that holds so many fewer
+abbrev pub shorter : Side → ℕ → Side
+shorter side gone = record { depth = side .depth; count = side .count - gone; next = side .next }
 
 -- a word and the address that it is put at
 pub record Put : Type 0 where
@@ -40,12 +49,9 @@ mayWrite ls ss s =
     (accept (record { address = a; word = w }))))
 
 -- the same of the store at a place
-abbrev pub mayWriteAt : Loads → Stores → ℕ → Ruled Put
+abbrev pub mayWriteAt : List ℕ → List ℕ → ℕ → Ruled Put
 mayWriteAt loads stores at =
-    mayWrite
-    (sideOf loadOf blankLoad (getD (stores .entries) at blankStore .before) (loads .entries))
-    (sideOf storeOf blankStore at (stores .entries))
-    (storeOf (getD (stores .entries) at blankStore))
+    mayWrite (loadsIn (entryOf (getD stores at 0) .before) loads) (storesIn at stores) (storeIn (getD stores at 0))
 
 -- the store at a place is written
 abbrev pub writtenWith : Contents → List ℕ → ℕ → Put → Written

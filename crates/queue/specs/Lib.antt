@@ -1,6 +1,7 @@
 -- What the calls of the queue mean, and demand 3, in the order of document 01.
 pub mod Refusal
 pub mod Ruled
+pub mod Entry
 pub mod Contents
 pub mod Sound
 pub mod Open

@@ -1,6 +1,6 @@
 -- The one-after-another run, or plain run. Document 01, "One access after another". It is fed the table, the opening memory,
 -- the list's calls, and which of them were answered 0; nothing of the queue's record. Of the table it uses the program order.
-use Prim.Native.Nat.{ℕ, zero, suc}
+use Prim.Native.Nat.{ℕ, suc}
 use mathlib.Core.Bool.{Bool, true, false, _&&_}
 use mathlib.Core.List.{List, [], _∷_, _++_}
 use mathlib.Core.Option.{Option, none, some}

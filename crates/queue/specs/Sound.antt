@@ -2,7 +2,7 @@
 -- its depth, an entry remembers more of the other kind than are held, a filled-in address is not below the memory length,
 -- or the table meets one of 4 to 8."
 use Prim.Native.Nat.{ℕ}
-use mathlib.Core.Bool.{Bool, true, false, _&&_}
+use mathlib.Core.Bool.{Bool, true, _&&_}
 use mathlib.Core.Option.{Option, none, some}
 use lib.Dec.{leb, ltb, eqb}
 use lib.ListN.{length}

@@ -2,8 +2,6 @@
 -- oldest is not served."
 use Prim.Native.Nat.{ℕ}
 use mathlib.Core.Bool.{Bool, true, not, _&&_}
-use mathlib.Core.List.{List}
-use mathlib.Core.Option.{Option}
 use lib.Dec.{eqb}
 use Rattle.table.specs.Basics.{any, nth}
 use Rattle.queue.specs.Refusal.{unsound, noPort, noneUntaken, notServed}

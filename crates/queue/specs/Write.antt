@@ -2,16 +2,16 @@
 -- has no address or the same one; 32 an earlier unwritten store has no address or the same one."
 -- "After each write or take, finished entries (stores written, loads taken) leave each side from its oldest end until an
 -- unfinished one is oldest." "The number falls as those leave and then stays 0."
-use Prim.Native.Nat.{ℕ, suc, _-_}
-use mathlib.Core.Bool.{Bool, true, false, not, _&&_, _||_}
-use mathlib.Core.List.{List, [], _∷_, map}
+use Prim.Native.Nat.{ℕ, _-_}
+use mathlib.Core.Bool.{Bool, true, false, not, _||_}
+use mathlib.Core.List.{List, map}
 use mathlib.Core.Option.{Option, none, some}
 use lib.Dec.{eqb}
-use lib.ListN.{length, take, drop, set}
-use Rattle.table.specs.Basics.{pick, all, nth, takeWhile, dropWhile}
+use lib.ListN.{length, take, set}
+use Rattle.table.specs.Basics.{all, nth, takeWhile, dropWhile}
 use Rattle.queue.specs.Refusal.{unsound, wrongMemory, noSerial, alreadyDone, noAddress, noData, earlierLoadInWay, earlierStoreInWay}
 use Rattle.queue.specs.Ruled.{Ruled, accept, need, have, isSome}
-use Rattle.queue.specs.Contents.{Load, Store, Contents, withLoads, withStores, updateAt, storePlace}
+use Rattle.queue.specs.Contents.{Load, Store, Contents, withStores, updateAt, storePlace}
 use Rattle.queue.specs.Sound.{sound}
 
 -- what an accepted write gives

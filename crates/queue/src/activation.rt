@@ -1,19 +1,22 @@
 // Activation: "gives the group's loads the next load serials and its stores the next store serials".
 ghost use mathlib.Core.Path.{_≡_};
+ghost use mathlib.Core.Bool.{_&&_};
 ghost use Prim.Native.Nat.{_+_, _≤_};
 ghost use lib.Dec.{leb};
-ghost use Rattle.table.specs.Group.{pairsOf, Inside};
 ghost use Rattle.queue.specs.Contents.{contentsOf};
-ghost use Rattle.queue.specs.Activate.{room, activate};
+ghost use Rattle.queue.specs.Activate.{activate};
 ghost use Rattle.queue.specs.Outcome.{Moves};
-ghost use Rattle.queue.specs.InternalActivate.{PairsFit, LoadsAppended, StoresAppended, withPairs};
-use crate::LoadEntry;
-use crate::Loads;
+ghost use Rattle.queue.specs.Internal.{queueOf, outcomeOf, Whole};
+ghost use Rattle.queue.specs.InternalActivate.{PairsFit, Appended, longer};
+use crate::Entry;
+use crate::Frame;
 use crate::Outcome;
 use crate::Queue;
-use crate::StoreEntry;
-use crate::Stores;
+use crate::Side;
 use crate::Value;
+use crate::answering::Step;
+use crate::answering::refused;
+use crate::entries::pack;
 use crate::refusal::NO_GROUP;
 use crate::refusal::NO_PLACE;
 use crate::refusal::UNSOUND;
@@ -29,117 +32,120 @@ fn side_has_room(count: u8, more: u8, depth: u8) -> bool
     count as u32 + more as u32 <= depth as u32
 }
 
-// Puts the group's loads behind those held. A load comes after all stores held and the group's stores that its offset counts.
-fn append_loads(mut loads: Loads, pairs: Pairs, stores: u8) -> Loads
-    requires { ⌜ PairsFit (loads .count) pairs × (stores ≤ 64) ⌝ }
-    ensures { λ r. ⌜ LoadsAppended loads pairs stores r ⌝ }
+// Enough free places on both sides.
+fn has_room(loads: Side, stores: Side, group: Group) -> bool
+    ensures { λ r. ⌜ r ≡ leb (loads .count + group .loads .count) (loads .depth) && leb (stores .count + group .stores .count) (stores .depth) ⌝ }
 {
-    let held = loads.count as usize;
-    let more = pairs.count as usize;
-    let first = pairs.first as usize;
-    let mut j: usize = 0;
-    while j < more {
-        let pair = pairs.places[first + j];
-        loads.entries[held + j] = LoadEntry {
-            port: pair.port,
-            before: stores + pair.offset,
-            addressed: false,
-            served: false,
-            taken: false,
-            address: 0,
-            value: 0,
-        };
-        j += 1;
+    let new_loads = group.loads;
+    let new_stores = group.stores;
+    if !side_has_room(loads.count, new_loads.count, loads.depth) {
+        return false;
     }
-    loads.count = loads.count + pairs.count;
-    loads.next = std::num::wrapping_add_u32(loads.next, pairs.count as u32);
-    loads
+    side_has_room(stores.count, new_stores.count, stores.depth)
 }
 
-// The group's stores, likewise.
-fn append_stores(mut stores: Stores, pairs: Pairs, loads: u8) -> Stores
-    requires { ⌜ PairsFit (stores .count) pairs × (loads ≤ 64) ⌝ }
-    ensures { λ r. ⌜ StoresAppended stores pairs loads r ⌝ }
+// Puts a group's entries of one kind behind those held. An entry comes after all of the other kind that are held and those of
+// its group that its offset counts.
+fn append(entries: &mut [u64; 64], held: u8, pairs: Pairs, others: u8)
+    requires { ⌜ PairsFit held pairs × (others ≤ 64) × Whole (now entries) ⌝ }
+    ensures { λ _. ⌜ Appended held pairs others (now (entries .entry)) (now (entries .exit)) ⌝ }
 {
-    let held = stores.count as usize;
+    let start = held as usize;
     let more = pairs.count as usize;
     let first = pairs.first as usize;
     let mut j: usize = 0;
     while j < more {
         let pair = pairs.places[first + j];
-        stores.entries[held + j] = StoreEntry {
+        let entry = Entry {
             port: pair.port,
-            before: loads + pair.offset,
+            before: others + pair.offset,
             addressed: false,
             filled: false,
-            written: false,
+            finished: false,
             address: 0,
             word: 0,
         };
+        entries[start + j] = pack(entry);
         j += 1;
     }
-    stores.count = stores.count + pairs.count;
-    stores.next = std::num::wrapping_add_u32(stores.next, pairs.count as u32);
-    stores
+}
+
+// A side that holds so many more entries: their serials are the next ones.
+fn longer(side: Side, more: u8) -> Side
+    requires { ⌜ side .count + more ≤ 64 ⌝ }
+    ensures { λ r. ⌜ r ≡ longer side more ⌝ }
+{
+    Side {
+        depth: side.depth,
+        count: side.count + more,
+        next: std::num::wrapping_add_u32(side.next, more as u32),
+    }
+}
+
+// Activate on a queue's parts: 40, 20, 21. Each side goes by the other's count before the activation.
+fn activate_in(
+    frame: Frame,
+    load_entries: &mut [u64; 64],
+    store_entries: &mut [u64; 64],
+    group: u32,
+) -> Step
+    requires { ⌜ Whole (now «load_entries») × Whole (now «store_entries») ⌝ }
+    ensures { λ r. ⌜ Moves (queueOf frame (now («load_entries» .entry)) (now («store_entries» .entry)))
+        (activate (contentsOf (queueOf frame (now («load_entries» .entry)) (now («store_entries» .entry)))) group)
+        (outcomeOf r (now («load_entries» .exit)) (now («store_entries» .exit))) ⌝ }
+{
+    if !parts_sound(frame, load_entries, store_entries) {
+        return refused(UNSOUND, frame);
+    }
+    let table = frame.table;
+    if table.count as u32 <= group {
+        return refused(NO_GROUP, frame);
+    }
+    let at = group as usize;
+    let chosen = group_at(table, at);
+    let loads = frame.loads;
+    let stores = frame.stores;
+    if !has_room(loads, stores, chosen) {
+        return refused(NO_PLACE, frame);
+    }
+    let new_loads = chosen.loads;
+    let new_stores = chosen.stores;
+    append(load_entries, loads.count, new_loads, stores.count);
+    append(store_entries, stores.count, new_stores, loads.count);
+    let more_loads = longer(loads, new_loads.count);
+    let more_stores = longer(stores, new_stores.count);
+    let after = Frame {
+        table,
+        words: frame.words,
+        loads: more_loads,
+        stores: more_stores,
+    };
+    Step {
+        answer: 0,
+        value: Value::Nothing,
+        frame: after,
+    }
 }
 
 impl Queue {
-    fn has_room(self, group: Group) -> bool
-        requires { ⌜ Inside (group .loads) × Inside (group .stores) ⌝ }
-        ensures { λ r. ⌜ r ≡ room (contentsOf self) (pairsOf group) ⌝ }
-    {
-        let loads = self.loads;
-        let new_loads = group.loads;
-        if !side_has_room(loads.count, new_loads.count, loads.depth) {
-            return false;
-        }
-        let stores = self.stores;
-        let new_stores = group.stores;
-        side_has_room(stores.count, new_stores.count, stores.depth)
-    }
-
-    // Each side goes by the other's count before the activation.
-    fn with_group(self, group: Group) -> Queue
-        requires { ⌜ PairsFit (self .loads .count) (group .loads) × PairsFit (self .stores .count) (group .stores) ⌝ }
-        ensures { λ r. ⌜ contentsOf r ≡ withPairs (contentsOf self) (pairsOf group) ⌝ }
-    {
-        let held_loads = self.loads;
-        let held_stores = self.stores;
-        let new_loads = group.loads;
-        let new_stores = group.stores;
-        let table = self.table;
-        let loads = append_loads(held_loads, new_loads, held_stores.count);
-        let stores = append_stores(held_stores, new_stores, held_loads.count);
-        Queue {
-            table,
-            words: self.words,
-            loads,
-            stores,
-        }
-    }
-
     // Queues the group's accesses, with no argument yet.
     pub fn activate(self, group: u32) -> Outcome
         ensures { λ r. ⌜ Moves self (activate (contentsOf self) group) r ⌝ }
     {
-        let table = self.table;
-        let loads = self.loads;
-        let stores = self.stores;
-        if !parts_sound(table, self.words, loads, stores) {
-            return self.refused(UNSOUND);
-        }
-        if table.count as u32 <= group {
-            return self.refused(NO_GROUP);
-        }
-        let at = group as usize;
-        let chosen = group_at(table, at);
-        if !self.has_room(chosen) {
-            return self.refused(NO_PLACE);
-        }
-        let queue = self.with_group(chosen);
+        let frame = self.frame;
+        let mut load_entries = self.load_entries;
+        let mut store_entries = self.store_entries;
+        let step = activate_in(frame, &mut load_entries, &mut store_entries, group);
+        let value = step.value;
+        let after = step.frame;
+        let queue = Queue {
+            frame: after,
+            load_entries,
+            store_entries,
+        };
         Outcome {
-            answer: 0,
-            value: Value::Nothing,
+            answer: step.answer,
+            value,
             queue,
         }
     }

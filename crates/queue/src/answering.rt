@@ -1,19 +1,23 @@
-// What the calls on a queue hand back.
+// What the calls on a queue work with: they are handed the frame, and the entries are lent to them.
 ghost use mathlib.Core.Path.{_≡_};
-ghost use Rattle.queue.specs.Outcome.{refused};
-use crate::Outcome;
-use crate::Queue;
+ghost use Rattle.queue.specs.Internal.{refusedStep};
+use crate::Frame;
 use crate::Value;
 
-impl Queue {
-    // A refused call hands back its number and the very queue that it was handed.
-    pub(crate) fn refused(self, answer: u8) -> Outcome
-        ensures { λ r. ⌜ r ≡ refused answer self ⌝ }
-    {
-        Outcome {
-            answer,
-            value: Value::Nothing,
-            queue: self,
-        }
+// What a call that may change the frame gives: its answer and value, and the frame that follows.
+pub struct Step {
+    pub answer: u8,
+    pub value: Value,
+    pub frame: Frame,
+}
+
+// A refused call gives back the very frame that it was handed.
+pub(crate) fn refused(answer: u8, frame: Frame) -> Step
+    ensures { λ r. ⌜ r ≡ refusedStep answer frame ⌝ }
+{
+    Step {
+        answer,
+        value: Value::Nothing,
+        frame,
     }
 }

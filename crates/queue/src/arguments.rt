@@ -1,146 +1,174 @@
 // Arguments: "an argument goes to its port's oldest entry that lacks it".
 ghost use mathlib.Core.Path.{_≡_};
-ghost use Prim.Native.Nat.{_≤_, _<_};
-ghost use Rattle.queue.specs.Contents.{loadOf, storeOf, contentsOf, withLoads, withStores, updateAt, firstPlace};
-ghost use Rattle.queue.specs.Arguments.{loadLacksAddress, loadWithAddress, storeWithAddress, storeWithWord, loadAddress, storeAddress, storeData};
+ghost use Prim.Native.Nat.{_≤_};
+ghost use Rattle.queue.specs.Contents.{contentsOf};
+ghost use Rattle.queue.specs.Arguments.{loadAddress, storeAddress, storeData};
 ghost use Rattle.queue.specs.Outcome.{Moves};
-ghost use Rattle.queue.specs.Internal.{loadsOf, storesOf};
-ghost use Rattle.queue.specs.InternalArguments.{storeLacks};
-use crate::LoadEntry;
-use crate::Loads;
+ghost use Rattle.queue.specs.Internal.{queueOf, answered, Whole};
+ghost use Rattle.queue.specs.InternalArguments.{markOf, withArgument, Given};
+use crate::Entry;
+use crate::Frame;
 use crate::Outcome;
 use crate::Queue;
-use crate::StoreEntry;
-use crate::Stores;
 use crate::Value;
-use crate::ports::has_load_port;
-use crate::ports::has_store_port;
+use crate::entries::Mark;
+use crate::entries::oldest_without;
+use crate::entries::pack;
+use crate::entries::unpack;
+use crate::ports::has_port;
 use crate::refusal::BAD_ADDRESS;
 use crate::refusal::NO_PORT;
 use crate::refusal::NONE_WAITS;
 use crate::refusal::UNSOUND;
 use crate::sound::parts_sound;
 
-// A load of the port that has no address.
-fn load_waits(load: LoadEntry, port: u32) -> bool
-    ensures { λ r. ⌜ r ≡ loadLacksAddress port (loadOf load) ⌝ }
-{
-    if load.port as u32 != port {
-        return false;
-    }
-    !load.addressed
+// What an entry waits for.
+pub enum Argument {
+    Address(u16),
+    Word(u32),
 }
 
-// A store of the port that has no data, or no address.
-fn store_waits(store: StoreEntry, port: u32, filling: bool) -> bool
-    ensures { λ r. ⌜ r ≡ storeLacks filling port (storeOf store) ⌝ }
+// The mark of an entry that has the argument.
+fn mark_of(argument: Argument) -> Mark
+    ensures { λ r. ⌜ r ≡ markOf argument ⌝ }
 {
-    if store.port as u32 != port {
-        return false;
+    match argument {
+        Argument::Address(_) => Mark::Addressed,
+        Argument::Word(_) => Mark::Filled,
     }
-    if filling {
-        return !store.filled;
-    }
-    !store.addressed
 }
 
-// The place of the oldest load that waits, or the count where none does.
-fn waiting_load(loads: Loads, port: u32) -> usize
-    requires { ⌜ loads .count ≤ 64 ⌝ }
-    ensures { λ r. ⌜ r ≡ firstPlace (loadLacksAddress port) (loadsOf loads) ⌝ }
+// The entry with the argument.
+pub(crate) fn with_argument(mut entry: Entry, argument: Argument) -> Entry
+    ensures { λ r. ⌜ r ≡ withArgument argument entry ⌝ }
 {
-    let count = loads.count as usize;
-    let mut i: usize = 0;
-    while i < count {
-        let load = loads.entries[i];
-        if load_waits(load, port) {
-            return i;
+    match argument {
+        Argument::Address(address) => {
+            entry.addressed = true;
+            entry.address = address;
+            entry
         }
-        i += 1;
+        Argument::Word(word) => {
+            entry.filled = true;
+            entry.word = word;
+            entry
+        }
     }
-    i
 }
 
-// The place of the oldest store that waits, or the count where none does.
-fn waiting_store(stores: Stores, port: u32, filling: bool) -> usize
-    requires { ⌜ stores .count ≤ 64 ⌝ }
-    ensures { λ r. ⌜ r ≡ firstPlace (storeLacks filling port) (storesOf stores) ⌝ }
+// Gives the argument to the port's oldest entry that lacks it, and answers 0; or 24, and changes nothing.
+fn give(entries: &mut [u64; 64], held: u8, port: u32, argument: Argument) -> u8
+    requires { ⌜ held ≤ 64 ⌝ }
+    ensures { λ r. ⌜ Given held port argument (now (entries .entry)) r (now (entries .exit)) ⌝ }
 {
-    let count = stores.count as usize;
-    let mut i: usize = 0;
-    while i < count {
-        let store = stores.entries[i];
-        if store_waits(store, port, filling) {
-            return i;
-        }
-        i += 1;
+    let mark = mark_of(argument);
+    let at = oldest_without(entries, held, port, mark);
+    if held as usize <= at {
+        return NONE_WAITS;
     }
-    i
+    let entry = unpack(entries[at]);
+    let after = with_argument(entry, argument);
+    entries[at] = pack(after);
+    0
+}
+
+// Load address on a queue's parts: 40, 22, 23, 24.
+fn load_address_in(
+    frame: Frame,
+    load_entries: &mut [u64; 64],
+    store_entries: &[u64; 64],
+    port: u32,
+    address: u32,
+) -> u8
+    requires { ⌜ Whole (now «load_entries») ⌝ }
+    ensures { λ r. ⌜ Moves (queueOf frame (now («load_entries» .entry)) (now («store_entries» .entry)))
+        (loadAddress (contentsOf (queueOf frame (now («load_entries» .entry)) (now («store_entries» .entry)))) port address)
+        (answered r (queueOf frame (now («load_entries» .exit)) (now («store_entries» .entry)))) ⌝ }
+{
+    if !parts_sound(frame, load_entries, store_entries) {
+        return UNSOUND;
+    }
+    let table = frame.table;
+    if !has_port(table, false, port) {
+        return NO_PORT;
+    }
+    if frame.words as u32 <= address {
+        return BAD_ADDRESS;
+    }
+    let loads = frame.loads;
+    let argument = Argument::Address(address as u16);
+    give(load_entries, loads.count, port, argument)
+}
+
+// Store address on a queue's parts: 40, 22, 23, 24.
+fn store_address_in(
+    frame: Frame,
+    load_entries: &[u64; 64],
+    store_entries: &mut [u64; 64],
+    port: u32,
+    address: u32,
+) -> u8
+    requires { ⌜ Whole (now «store_entries») ⌝ }
+    ensures { λ r. ⌜ Moves (queueOf frame (now («load_entries» .entry)) (now («store_entries» .entry)))
+        (storeAddress (contentsOf (queueOf frame (now («load_entries» .entry)) (now («store_entries» .entry)))) port address)
+        (answered r (queueOf frame (now («load_entries» .entry)) (now («store_entries» .exit)))) ⌝ }
+{
+    if !parts_sound(frame, load_entries, store_entries) {
+        return UNSOUND;
+    }
+    let table = frame.table;
+    if !has_port(table, true, port) {
+        return NO_PORT;
+    }
+    if frame.words as u32 <= address {
+        return BAD_ADDRESS;
+    }
+    let stores = frame.stores;
+    let argument = Argument::Address(address as u16);
+    give(store_entries, stores.count, port, argument)
+}
+
+// Store data on a queue's parts: 40, 22, 24.
+fn store_data_in(
+    frame: Frame,
+    load_entries: &[u64; 64],
+    store_entries: &mut [u64; 64],
+    port: u32,
+    word: u32,
+) -> u8
+    requires { ⌜ Whole (now «store_entries») ⌝ }
+    ensures { λ r. ⌜ Moves (queueOf frame (now («load_entries» .entry)) (now («store_entries» .entry)))
+        (storeData (contentsOf (queueOf frame (now («load_entries» .entry)) (now («store_entries» .entry)))) port word)
+        (answered r (queueOf frame (now («load_entries» .entry)) (now («store_entries» .exit)))) ⌝ }
+{
+    if !parts_sound(frame, load_entries, store_entries) {
+        return UNSOUND;
+    }
+    let table = frame.table;
+    if !has_port(table, true, port) {
+        return NO_PORT;
+    }
+    let stores = frame.stores;
+    let argument = Argument::Word(word);
+    give(store_entries, stores.count, port, argument)
 }
 
 impl Queue {
-    fn with_load_address(mut self, place: usize, address: u16) -> Queue
-        requires { ⌜ (place < self .loads .count) × (self .loads .count ≤ 64) ⌝ }
-        ensures { λ r. ⌜ contentsOf r ≡ withLoads (contentsOf self) (updateAt (loadWithAddress address) place (contentsOf self .loads)) ⌝ }
-    {
-        let mut loads = self.loads;
-        let mut load = loads.entries[place];
-        load.addressed = true;
-        load.address = address;
-        loads.entries[place] = load;
-        self.loads = loads;
-        self
-    }
-
-    fn with_store_address(mut self, place: usize, address: u16) -> Queue
-        requires { ⌜ (place < self .stores .count) × (self .stores .count ≤ 64) ⌝ }
-        ensures { λ r. ⌜ contentsOf r ≡ withStores (contentsOf self) (updateAt (storeWithAddress address) place (contentsOf self .stores)) ⌝ }
-    {
-        let mut stores = self.stores;
-        let mut store = stores.entries[place];
-        store.addressed = true;
-        store.address = address;
-        stores.entries[place] = store;
-        self.stores = stores;
-        self
-    }
-
-    fn with_store_data(mut self, place: usize, word: u32) -> Queue
-        requires { ⌜ (place < self .stores .count) × (self .stores .count ≤ 64) ⌝ }
-        ensures { λ r. ⌜ contentsOf r ≡ withStores (contentsOf self) (updateAt (storeWithWord word) place (contentsOf self .stores)) ⌝ }
-    {
-        let mut stores = self.stores;
-        let mut store = stores.entries[place];
-        store.filled = true;
-        store.word = word;
-        stores.entries[place] = store;
-        self.stores = stores;
-        self
-    }
-
     // Gives an address to the port's oldest load that has none.
     pub fn load_address(self, port: u32, address: u32) -> Outcome
         ensures { λ r. ⌜ Moves self (loadAddress (contentsOf self) port address) r ⌝ }
     {
-        let table = self.table;
-        let loads = self.loads;
-        let stores = self.stores;
-        if !parts_sound(table, self.words, loads, stores) {
-            return self.refused(UNSOUND);
-        }
-        if !has_load_port(table, port) {
-            return self.refused(NO_PORT);
-        }
-        if self.words as u32 <= address {
-            return self.refused(BAD_ADDRESS);
-        }
-        let place = waiting_load(loads, port);
-        if loads.count as usize <= place {
-            return self.refused(NONE_WAITS);
-        }
-        let queue = self.with_load_address(place, address as u16);
+        let frame = self.frame;
+        let mut load_entries = self.load_entries;
+        let store_entries = self.store_entries;
+        let answer = load_address_in(frame, &mut load_entries, &store_entries, port, address);
+        let queue = Queue {
+            frame,
+            load_entries,
+            store_entries,
+        };
         Outcome {
-            answer: 0,
+            answer,
             value: Value::Nothing,
             queue,
         }
@@ -150,25 +178,17 @@ impl Queue {
     pub fn store_address(self, port: u32, address: u32) -> Outcome
         ensures { λ r. ⌜ Moves self (storeAddress (contentsOf self) port address) r ⌝ }
     {
-        let table = self.table;
-        let loads = self.loads;
-        let stores = self.stores;
-        if !parts_sound(table, self.words, loads, stores) {
-            return self.refused(UNSOUND);
-        }
-        if !has_store_port(table, port) {
-            return self.refused(NO_PORT);
-        }
-        if self.words as u32 <= address {
-            return self.refused(BAD_ADDRESS);
-        }
-        let place = waiting_store(stores, port, false);
-        if stores.count as usize <= place {
-            return self.refused(NONE_WAITS);
-        }
-        let queue = self.with_store_address(place, address as u16);
+        let frame = self.frame;
+        let load_entries = self.load_entries;
+        let mut store_entries = self.store_entries;
+        let answer = store_address_in(frame, &load_entries, &mut store_entries, port, address);
+        let queue = Queue {
+            frame,
+            load_entries,
+            store_entries,
+        };
         Outcome {
-            answer: 0,
+            answer,
             value: Value::Nothing,
             queue,
         }
@@ -178,22 +198,17 @@ impl Queue {
     pub fn store_data(self, port: u32, word: u32) -> Outcome
         ensures { λ r. ⌜ Moves self (storeData (contentsOf self) port word) r ⌝ }
     {
-        let table = self.table;
-        let loads = self.loads;
-        let stores = self.stores;
-        if !parts_sound(table, self.words, loads, stores) {
-            return self.refused(UNSOUND);
-        }
-        if !has_store_port(table, port) {
-            return self.refused(NO_PORT);
-        }
-        let place = waiting_store(stores, port, true);
-        if stores.count as usize <= place {
-            return self.refused(NONE_WAITS);
-        }
-        let queue = self.with_store_data(place, word);
+        let frame = self.frame;
+        let load_entries = self.load_entries;
+        let mut store_entries = self.store_entries;
+        let answer = store_data_in(frame, &load_entries, &mut store_entries, port, word);
+        let queue = Queue {
+            frame,
+            load_entries,
+            store_entries,
+        };
         Outcome {
-            answer: 0,
+            answer,
             value: Value::Nothing,
             queue,
         }

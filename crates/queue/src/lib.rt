@@ -6,6 +6,7 @@ pub mod activation;
 pub mod answering;
 pub mod arguments;
 pub mod counting;
+pub mod entries;
 pub mod opening;
 pub mod ports;
 pub mod ready;
@@ -16,52 +17,41 @@ pub mod sound;
 pub mod taking;
 pub mod writing;
 
-// A load that was activated. The address means something only where `addressed`, the value only where `served`.
-pub struct LoadEntry {
+// An access that was activated, a load or a store. A queue holds it packed into a number (`entries`).
+pub struct Entry {
     pub port: u8,
-    // how many queued stores come before it
+    // how many queued entries of the other kind come before it
     pub before: u8,
+    // it has its address, which means something only then
     pub addressed: bool,
-    pub served: bool,
-    pub taken: bool,
-    pub address: u16,
-    pub value: u32,
-}
-
-// A store that was activated. The address means something only where `addressed`, the word only where `filled`.
-pub struct StoreEntry {
-    pub port: u8,
-    // how many queued loads come before it
-    pub before: u8,
-    pub addressed: bool,
+    // it has its word, which means something only then: the value of a served load, a store's data
     pub filled: bool,
-    pub written: bool,
+    // a load was taken, a store was written
+    pub finished: bool,
     pub address: u16,
     pub word: u32,
 }
 
-// The load side: its depth, the next serial, and the entries from the oldest. Places beyond the count mean nothing.
-pub struct Loads {
+// One side of a queue: its depth, how many entries it holds, and the next serial.
+pub struct Side {
     pub depth: u8,
     pub count: u8,
     pub next: u32,
-    pub entries: [LoadEntry; 64],
 }
 
-// The store side, likewise.
-pub struct Stores {
-    pub depth: u8,
-    pub count: u8,
-    pub next: u32,
-    pub entries: [StoreEntry; 64],
-}
-
-// A queue: its table, the memory length that it was opened for, and both sides.
-pub struct Queue {
+// All of a queue but its entries: its table, the memory length that it was opened for, and both sides.
+pub struct Frame {
     pub table: Table,
     pub words: u16,
-    pub loads: Loads,
-    pub stores: Stores,
+    pub loads: Side,
+    pub stores: Side,
+}
+
+// A queue: its frame, and each side's entries from the oldest, packed. Places beyond a side's count mean nothing.
+pub struct Queue {
+    pub frame: Frame,
+    pub load_entries: [u64; 64],
+    pub store_entries: [u64; 64],
 }
 
 // Loads served, and loads forwarded.

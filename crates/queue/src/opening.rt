@@ -5,14 +5,12 @@ ghost use Rattle.table.specs.Basics.{all};
 ghost use Rattle.table.specs.Group.{pairsOf, Inside};
 ghost use Rattle.table.specs.Table.{groupsOf};
 ghost use Rattle.queue.specs.Open.{groupFits, openQueue};
-ghost use Rattle.queue.specs.NoQueue.{freshLoads, freshStores, freshQueue, noQueue};
+ghost use Rattle.queue.specs.NoQueue.{freshQueue, noQueue};
 ghost use Rattle.queue.specs.Outcome.{Opens};
-use crate::LoadEntry;
-use crate::Loads;
+use crate::Frame;
 use crate::Opened;
 use crate::Queue;
-use crate::StoreEntry;
-use crate::Stores;
+use crate::Side;
 use crate::refusal::BAD_LOAD_DEPTH;
 use crate::refusal::BAD_MEMORY_LENGTH;
 use crate::refusal::BAD_STORE_DEPTH;
@@ -25,57 +23,30 @@ use table::check::table_fault;
 use table::parts::group_at;
 use table::read::no_table;
 
-fn no_loads(depth: u8, first: u32) -> Loads
-    ensures { λ r. ⌜ r ≡ freshLoads depth first ⌝ }
-{
-    let blank = LoadEntry {
-        port: 0,
-        before: 0,
-        addressed: false,
-        served: false,
-        taken: false,
-        address: 0,
-        value: 0,
-    };
-    Loads {
-        depth,
-        count: 0,
-        next: first,
-        entries: [blank; 64],
-    }
-}
-
-fn no_stores(depth: u8, first: u32) -> Stores
-    ensures { λ r. ⌜ r ≡ freshStores depth first ⌝ }
-{
-    let blank = StoreEntry {
-        port: 0,
-        before: 0,
-        addressed: false,
-        filled: false,
-        written: false,
-        address: 0,
-        word: 0,
-    };
-    Stores {
-        depth,
-        count: 0,
-        next: first,
-        entries: [blank; 64],
-    }
-}
-
 // A queue that holds no entry: "both series begin at the first serial".
 fn fresh_queue(table: Table, load_depth: u8, store_depth: u8, first: u32, words: u16) -> Queue
     ensures { λ r. ⌜ r ≡ freshQueue table «load_depth» «store_depth» first words ⌝ }
 {
-    let loads = no_loads(load_depth, first);
-    let stores = no_stores(store_depth, first);
-    Queue {
+    let loads = Side {
+        depth: load_depth,
+        count: 0,
+        next: first,
+    };
+    let stores = Side {
+        depth: store_depth,
+        count: 0,
+        next: first,
+    };
+    let frame = Frame {
         table,
         words,
         loads,
         stores,
+    };
+    Queue {
+        frame,
+        load_entries: [0; 64],
+        store_entries: [0; 64],
     }
 }
 

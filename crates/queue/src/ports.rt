@@ -1,9 +1,11 @@
 // Which ports a table names: load ports and store ports are two separate series.
 ghost use mathlib.Core.Path.{_≡_};
-ghost use Rattle.table.specs.Basics.{any};
+ghost use Rattle.table.specs.Basics.{pick, any};
 ghost use Rattle.table.specs.Group.{listOf, Inside};
 ghost use Rattle.table.specs.Table.{groupsOf, tableFault};
-ghost use Rattle.queue.specs.Arguments.{isPort, isLoadPort, isStorePort};
+ghost use Rattle.queue.specs.InternalArguments.{namesPort};
+ghost use Rattle.queue.specs.Arguments.{isPort};
+use table::Group;
 use table::Pairs;
 use table::Table;
 use table::parts::group_at;
@@ -26,35 +28,29 @@ fn names_port(pairs: Pairs, port: u32) -> bool
     false
 }
 
-// Does the table name the load port?
-pub(crate) fn has_load_port(table: Table, port: u32) -> bool
-    requires { ⌜ tableFault (groupsOf table) ≡ 0 ⌝ }
-    ensures { λ r. ⌜ r ≡ any (isLoadPort port) (groupsOf table) ⌝ }
+// A group's loads, or its stores.
+fn pairs_of(group: Group, storing: bool) -> Pairs
+    ensures { λ r. ⌜ r ≡ pick storing (group .stores) (group .loads) ⌝ }
 {
-    let count = table.count as usize;
-    let mut i: usize = 0;
-    while i < count {
-        let group = group_at(table, i);
-        let loads = group.loads;
-        if names_port(loads, port) {
-            return true;
-        }
-        i += 1;
+    let loads = group.loads;
+    let stores = group.stores;
+    if storing {
+        return stores;
     }
-    false
+    loads
 }
 
-// Does the table name the store port?
-pub(crate) fn has_store_port(table: Table, port: u32) -> bool
+// Does the table name the port, among its store ports or among its load ports?
+pub(crate) fn has_port(table: Table, storing: bool, port: u32) -> bool
     requires { ⌜ tableFault (groupsOf table) ≡ 0 ⌝ }
-    ensures { λ r. ⌜ r ≡ any (isStorePort port) (groupsOf table) ⌝ }
+    ensures { λ r. ⌜ r ≡ any (namesPort storing port) (groupsOf table) ⌝ }
 {
     let count = table.count as usize;
     let mut i: usize = 0;
     while i < count {
         let group = group_at(table, i);
-        let stores = group.stores;
-        if names_port(stores, port) {
+        let pairs = pairs_of(group, storing);
+        if names_port(pairs, port) {
             return true;
         }
         i += 1;

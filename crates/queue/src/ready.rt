@@ -4,18 +4,19 @@ ghost use mathlib.Core.Bool.{true};
 ghost use mathlib.Core.List.{_++_};
 ghost use Prim.Native.Nat.{_≤_, _<_};
 ghost use lib.ListN.{length, drop};
-ghost use Rattle.queue.specs.Contents.{loadOf, storeOf, blankStore, contentsOf};
+ghost use Rattle.queue.specs.Contents.{loadOf, contentsOf};
 ghost use Rattle.queue.specs.Sound.{sound};
 ghost use Rattle.queue.specs.Ready.{servable, writable, readyLoads, readyStores};
 ghost use Rattle.queue.specs.ReadyOutcome.{unready, Readies, Fronts};
 ghost use denote.Ref.{ptr};
-ghost use Rattle.queue.specs.Internal.{sideOf};
+ghost use Rattle.queue.specs.Internal.{storesIn, queueOf};
 ghost use Rattle.queue.specs.InternalReady.{loadReady, listed, Noted, Lists};
-use crate::LoadEntry;
+use crate::Entry;
+use crate::Frame;
 use crate::Queue;
 use crate::Readied;
 use crate::ReadySerials;
-use crate::Stores;
+use crate::entries::unpack;
 use crate::refusal::UNSOUND;
 use crate::serial::oldest_serial;
 use crate::serving::Supply;
@@ -31,17 +32,17 @@ pub struct Serials {
 }
 
 // Would the load be served now?
-fn load_ready(load: LoadEntry, stores: Stores) -> bool
+fn load_ready(load: Entry, store_entries: &[u64; 64]) -> bool
     requires { ⌜ load .before ≤ 64 ⌝ }
-    ensures { λ r. ⌜ r ≡ loadReady (sideOf storeOf blankStore (load .before) (stores .entries)) (loadOf load) ⌝ }
+    ensures { λ r. ⌜ r ≡ loadReady (storesIn (load .before) (now («store_entries» .entry))) (loadOf load) ⌝ }
 {
-    if load.served {
+    if load.filled {
         return false;
     }
     if !load.addressed {
         return false;
     }
-    match supply_for(stores, load.before as usize, load.address) {
+    match supply_for(store_entries, load.before as usize, load.address) {
         Supply::Unknown => false,
         Supply::NoStore => true,
         Supply::NoWord => false,
@@ -77,54 +78,52 @@ fn put_serials(serials: Serials, out: &mut [u32])
     }
 }
 
+// The serials of the loads that would be served now.
+fn servable_loads(frame: Frame, load_entries: &[u64; 64], store_entries: &[u64; 64]) -> Serials
+    requires { ⌜ sound (contentsOf (queueOf frame (now «load_entries») (now «store_entries»))) ≡ true ⌝ }
+    ensures { λ r. ⌜ Lists (servable (contentsOf (queueOf frame (now («load_entries» .entry)) (now («store_entries» .entry))))) r ⌝ }
+{
+    let loads = frame.loads;
+    let count = loads.count as usize;
+    let mut found = Serials {
+        count: 0,
+        numbers: [0; 64],
+    };
+    let mut serial = oldest_serial(loads.next, loads.count);
+    let mut i: usize = 0;
+    while i < count {
+        let load = unpack(load_entries[i]);
+        let ready = load_ready(load, store_entries);
+        found = noted(found, serial, ready);
+        serial = std::num::wrapping_add_u32(serial, 1);
+        i += 1;
+    }
+    found
+}
+
+// The serials of the stores that would be written now.
+fn writable_stores(frame: Frame, load_entries: &[u64; 64], store_entries: &[u64; 64]) -> Serials
+    requires { ⌜ sound (contentsOf (queueOf frame (now «load_entries») (now «store_entries»))) ≡ true ⌝ }
+    ensures { λ r. ⌜ Lists (writable (contentsOf (queueOf frame (now («load_entries» .entry)) (now («store_entries» .entry))))) r ⌝ }
+{
+    let stores = frame.stores;
+    let count = stores.count as usize;
+    let mut found = Serials {
+        count: 0,
+        numbers: [0; 64],
+    };
+    let mut serial = oldest_serial(stores.next, stores.count);
+    let mut i: usize = 0;
+    while i < count {
+        let fault = write_fault(load_entries, store_entries, i);
+        found = noted(found, serial, fault == 0);
+        serial = std::num::wrapping_add_u32(serial, 1);
+        i += 1;
+    }
+    found
+}
+
 impl Queue {
-    // The serials of the loads that would be served now.
-    fn servable_loads(self) -> Serials
-        requires { ⌜ sound (contentsOf self) ≡ true ⌝ }
-        ensures { λ r. ⌜ Lists (servable (contentsOf self)) r ⌝ }
-    {
-        let loads = self.loads;
-        let stores = self.stores;
-        let count = loads.count as usize;
-        let mut found = Serials {
-            count: 0,
-            numbers: [0; 64],
-        };
-        let mut serial = oldest_serial(loads.next, loads.count);
-        let mut i: usize = 0;
-        while i < count {
-            let load = loads.entries[i];
-            let ready = load_ready(load, stores);
-            found = noted(found, serial, ready);
-            serial = std::num::wrapping_add_u32(serial, 1);
-            i += 1;
-        }
-        found
-    }
-
-    // The serials of the stores that would be written now.
-    fn writable_stores(self) -> Serials
-        requires { ⌜ sound (contentsOf self) ≡ true ⌝ }
-        ensures { λ r. ⌜ Lists (writable (contentsOf self)) r ⌝ }
-    {
-        let loads = self.loads;
-        let stores = self.stores;
-        let count = stores.count as usize;
-        let mut found = Serials {
-            count: 0,
-            numbers: [0; 64],
-        };
-        let mut serial = oldest_serial(stores.next, stores.count);
-        let mut i: usize = 0;
-        while i < count {
-            let fault = write_fault(loads, stores, i);
-            found = noted(found, serial, fault == 0);
-            serial = std::num::wrapping_add_u32(serial, 1);
-            i += 1;
-        }
-        found
-    }
-
     // A refused ready call.
     fn unready(self, answer: u8) -> Readied
         ensures { λ r. ⌜ r ≡ unready answer self ⌝ }
@@ -140,13 +139,13 @@ impl Queue {
     pub fn ready_loads_into(self, out: &mut [u32]) -> Readied
         ensures { λ r. ⌜ Readies self (now (out .entry)) (readyLoads (contentsOf self) (now (out .entry))) r (now (out .exit)) ⌝ }
     {
-        let table = self.table;
-        let loads = self.loads;
-        let stores = self.stores;
-        if !parts_sound(table, self.words, loads, stores) {
+        let frame = self.frame;
+        let load_entries = self.load_entries;
+        let store_entries = self.store_entries;
+        if !parts_sound(frame, &load_entries, &store_entries) {
             return self.unready(UNSOUND);
         }
-        let found = self.servable_loads();
+        let found = servable_loads(frame, &load_entries, &store_entries);
         let count = found.count;
         if out.len() < count {
             return self.unready(TOO_SHORT);
@@ -163,13 +162,13 @@ impl Queue {
     pub fn ready_stores_into(self, out: &mut [u32]) -> Readied
         ensures { λ r. ⌜ Readies self (now (out .entry)) (readyStores (contentsOf self) (now (out .entry))) r (now (out .exit)) ⌝ }
     {
-        let table = self.table;
-        let loads = self.loads;
-        let stores = self.stores;
-        if !parts_sound(table, self.words, loads, stores) {
+        let frame = self.frame;
+        let load_entries = self.load_entries;
+        let store_entries = self.store_entries;
+        if !parts_sound(frame, &load_entries, &store_entries) {
             return self.unready(UNSOUND);
         }
-        let found = self.writable_stores();
+        let found = writable_stores(frame, &load_entries, &store_entries);
         let count = found.count;
         if out.len() < count {
             return self.unready(TOO_SHORT);

@@ -2,23 +2,27 @@
 // with no such store it gets the memory word".
 ghost use mathlib.Core.Path.{_≡_};
 ghost use Prim.Native.Nat.{_≤_, _<_};
-ghost use Rattle.queue.specs.Contents.{storeOf, blankStore, contentsOf, withLoads, updateAt};
 ghost use mathlib.Core.Bool.{true};
 ghost use lib.ListN.{length};
+ghost use Rattle.queue.specs.Contents.{storeOf, contentsOf};
 ghost use Rattle.queue.specs.Sound.{sound};
-ghost use Rattle.queue.specs.Serve.{supplies, loadWithValue, serve};
-ghost use Rattle.queue.specs.Outcome.{Serves, ServedWell};
+ghost use Rattle.queue.specs.Serve.{supplies, serve};
+ghost use Rattle.queue.specs.Outcome.{Serves};
 ghost use Rattle.queue.specs.ServeLent.{withCounts};
-ghost use Rattle.queue.specs.Internal.{sideOf};
-ghost use Rattle.queue.specs.InternalServe.{wordFrom, supplyFrom, unserved, servedWith, serveAt};
+ghost use Rattle.queue.specs.Internal.{storesIn, queueOf, Whole};
+ghost use Rattle.queue.specs.InternalServe.{wordFrom, supplyFrom, unserved, servedAs, Filled, countedOf, serveAt};
 use crate::Counted;
 use crate::Counts;
+use crate::Entry;
+use crate::Frame;
 use crate::Outcome;
 use crate::Queue;
-use crate::StoreEntry;
-use crate::Stores;
 use crate::Value;
+use crate::arguments::Argument;
+use crate::arguments::with_argument;
 use crate::counting::counted;
+use crate::entries::pack;
+use crate::entries::unpack;
 use crate::refusal::ALREADY_DONE;
 use crate::refusal::EARLIER_STORE_UNKNOWN;
 use crate::refusal::NO_ADDRESS;
@@ -41,7 +45,7 @@ pub enum Supply {
 }
 
 // What a store that supplies the address has for a load.
-fn word_from(store: StoreEntry) -> Supply
+fn word_from(store: Entry) -> Supply
     ensures { λ r. ⌜ r ≡ wordFrom (storeOf store) ⌝ }
 {
     if store.filled {
@@ -52,10 +56,10 @@ fn word_from(store: StoreEntry) -> Supply
 }
 
 // Is it an unwritten store to the address, where it has one?
-fn supplies_address(store: StoreEntry, address: u16) -> bool
+fn supplies_address(store: Entry, address: u16) -> bool
     ensures { λ r. ⌜ r ≡ supplies address (storeOf store) ⌝ }
 {
-    if store.written {
+    if store.finished {
         return false;
     }
     if !store.addressed {
@@ -65,15 +69,15 @@ fn supplies_address(store: StoreEntry, address: u16) -> bool
 }
 
 // What the first n stores have for a load of the address. They are walked from the oldest: a later store that supplies the
-// address takes the place of an earlier one, or the load would get another tally.
-pub(crate) fn supply_for(stores: Stores, n: usize, address: u16) -> Supply
+// address takes the place of an earlier one, or the load would get a stale word.
+pub(crate) fn supply_for(entries: &[u64; 64], n: usize, address: u16) -> Supply
     requires { ⌜ n ≤ 64 ⌝ }
-    ensures { λ r. ⌜ r ≡ supplyFrom address (sideOf storeOf blankStore n (stores .entries)) ⌝ }
+    ensures { λ r. ⌜ r ≡ supplyFrom address (storesIn n (now (entries .entry))) ⌝ }
 {
     let mut found = Supply::NoStore;
     let mut i: usize = 0;
     while i < n {
-        let store = stores.entries[i];
+        let store = unpack(entries[i]);
         if !store.addressed {
             return Supply::Unknown;
         }
@@ -87,87 +91,140 @@ pub(crate) fn supply_for(stores: Stores, n: usize, address: u16) -> Supply
     found
 }
 
-impl Queue {
-    // A refused serve: the counts stay as they are.
-    fn unserved(self, counts: Counts, answer: u8) -> Counted
-        ensures { λ r. ⌜ r ≡ unserved self counts answer ⌝ }
-    {
-        Counted {
-            answer,
-            value: Value::Nothing,
-            queue: self,
+// What a serve gives beside the queue: its answer and value, and the counts that follow.
+pub struct Service {
+    pub answer: u8,
+    pub value: Value,
+    pub counts: Counts,
+}
+
+// A refused serve: the counts stay as they are.
+fn unserved(answer: u8, counts: Counts) -> Service
+    ensures { λ r. ⌜ r ≡ unserved answer counts ⌝ }
+{
+    Service {
+        answer,
+        value: Value::Nothing,
+        counts,
+    }
+}
+
+// The load at a place gets its value: an accepted serve.
+fn served(
+    load_entries: &mut [u64; 64],
+    at: usize,
+    word: u32,
+    forwarded: bool,
+    counts: Counts,
+) -> Service
+    requires { ⌜ at < 64 ⌝ }
+    ensures { λ r. ⌜ (r ≡ servedAs word forwarded counts) × Filled at word (now («load_entries» .entry)) (now («load_entries» .exit)) ⌝ }
+{
+    let load = unpack(load_entries[at]);
+    let after = with_argument(load, Argument::Word(word));
+    load_entries[at] = pack(after);
+    Service {
+        answer: 0,
+        value: Value::Word(word),
+        counts: counted(counts, forwarded),
+    }
+}
+
+// Serve the load at a place: 25, 26, 27, 28, 29.
+fn serve_at(
+    frame: Frame,
+    load_entries: &mut [u64; 64],
+    store_entries: &[u64; 64],
+    memory: &[u32],
+    counts: Counts,
+    place: u32,
+) -> Service
+    requires { ⌜ (sound (contentsOf (queueOf frame (now «load_entries») (now «store_entries»))) ≡ true) × (length (now memory) ≡ frame .words)
+        × Whole (now «load_entries») ⌝ }
+    ensures { λ r. ⌜ Serves (queueOf frame (now («load_entries» .entry)) (now («store_entries» .entry))) counts
+        (serveAt (contentsOf (queueOf frame (now («load_entries» .entry)) (now («store_entries» .entry)))) (now (memory .entry)) place)
+        (countedOf r (queueOf frame (now («load_entries» .exit)) (now («store_entries» .entry)))) ⌝ }
+{
+    let loads = frame.loads;
+    if loads.count as u32 <= place {
+        return unserved(NO_SERIAL, counts);
+    }
+    let at = place as usize;
+    let load = unpack(load_entries[at]);
+    if load.filled {
+        return unserved(ALREADY_DONE, counts);
+    }
+    if !load.addressed {
+        return unserved(NO_ADDRESS, counts);
+    }
+    match supply_for(store_entries, load.before as usize, load.address) {
+        Supply::Unknown => unserved(EARLIER_STORE_UNKNOWN, counts),
+        Supply::NoStore => served(
+            load_entries,
+            at,
+            memory[load.address as usize],
+            false,
             counts,
-        }
+        ),
+        Supply::NoWord => unserved(NO_DATA, counts),
+        Supply::Forwarded(word) => served(load_entries, at, word, true, counts),
     }
+}
 
-    // The load at a place gets its value.
-    fn with_value(mut self, place: usize, value: u32) -> Queue
-        requires { ⌜ (place < self .loads .count) × (self .loads .count ≤ 64) ⌝ }
-        ensures { λ r. ⌜ contentsOf r ≡ withLoads (contentsOf self) (updateAt (loadWithValue value) place (contentsOf self .loads)) ⌝ }
-    {
-        let mut loads = self.loads;
-        let mut load = loads.entries[place];
-        load.served = true;
-        load.value = value;
-        loads.entries[place] = load;
-        self.loads = loads;
-        self
+// Serve on a queue's parts: 40, 30, and then as `serve_at`.
+fn serve_in(
+    frame: Frame,
+    load_entries: &mut [u64; 64],
+    store_entries: &[u64; 64],
+    memory: &[u32],
+    counts: Counts,
+    serial: u32,
+) -> Service
+    requires { ⌜ Whole (now «load_entries») ⌝ }
+    ensures { λ r. ⌜ Serves (queueOf frame (now («load_entries» .entry)) (now («store_entries» .entry))) counts
+        (serve (contentsOf (queueOf frame (now («load_entries» .entry)) (now («store_entries» .entry)))) (now (memory .entry)) serial)
+        (countedOf r (queueOf frame (now («load_entries» .exit)) (now («store_entries» .entry)))) ⌝ }
+{
+    if !parts_sound(frame, load_entries, store_entries) {
+        return unserved(UNSOUND, counts);
     }
-
-    // An accepted serve.
-    fn served(self, counts: Counts, place: usize, value: u32, forwarded: bool) -> Counted
-        requires { ⌜ (place < self .loads .count) × (self .loads .count ≤ 64) ⌝ }
-        ensures { λ r. ⌜ ServedWell (servedWith (contentsOf self) place value forwarded) counts r ⌝ }
-    {
-        Counted {
-            answer: 0,
-            value: Value::Word(value),
-            queue: self.with_value(place, value),
-            counts: counted(counts, forwarded),
-        }
+    if memory.len() != frame.words as usize {
+        return unserved(WRONG_MEMORY, counts);
     }
+    let loads = frame.loads;
+    let place = place_of(loads.next, loads.count, serial);
+    serve_at(frame, load_entries, store_entries, memory, counts, place)
+}
 
-    // Serve the load at a place: 25, 26, 27, 28, 29.
-    fn serve_at(self, memory: &[u32], counts: Counts, place: u32) -> Counted
-        requires { ⌜ (sound (contentsOf self) ≡ true) × (length (now memory) ≡ self .words) ⌝ }
-        ensures { λ r. ⌜ Serves self counts (serveAt (contentsOf self) (now (memory .entry)) place) r ⌝ }
-    {
-        let loads = self.loads;
-        if loads.count as u32 <= place {
-            return self.unserved(counts, NO_SERIAL);
-        }
-        let at = place as usize;
-        let load = loads.entries[at];
-        if load.served {
-            return self.unserved(counts, ALREADY_DONE);
-        }
-        if !load.addressed {
-            return self.unserved(counts, NO_ADDRESS);
-        }
-        let stores = self.stores;
-        match supply_for(stores, load.before as usize, load.address) {
-            Supply::Unknown => self.unserved(counts, EARLIER_STORE_UNKNOWN),
-            Supply::NoStore => self.served(counts, at, memory[load.address as usize], false),
-            Supply::NoWord => self.unserved(counts, NO_DATA),
-            Supply::Forwarded(word) => self.served(counts, at, word, true),
-        }
-    }
-
+impl Queue {
     // Serve the load with this serial. The counts go in and come out by value.
     pub fn serve_counted(self, memory: &[u32], counts: Counts, serial: u32) -> Counted
         ensures { λ r. ⌜ Serves self counts (serve (contentsOf self) (now (memory .entry)) serial) r ⌝ }
     {
-        let table = self.table;
-        let loads = self.loads;
-        let stores = self.stores;
-        if !parts_sound(table, self.words, loads, stores) {
-            return self.unserved(counts, UNSOUND);
+        let frame = self.frame;
+        let mut load_entries = self.load_entries;
+        let store_entries = self.store_entries;
+        let service = serve_in(
+            frame,
+            &mut load_entries,
+            &store_entries,
+            memory,
+            counts,
+            serial,
+        );
+        let value = service.value;
+        let after = service.counts;
+        let queue = Queue {
+            frame,
+            load_entries,
+            store_entries,
+        };
+        Counted {
+            answer: service.answer,
+            value,
+            queue,
+            counts: after,
         }
-        if memory.len() != self.words as usize {
-            return self.unserved(counts, WRONG_MEMORY);
-        }
-        let place = place_of(loads.next, loads.count, serial);
-        self.serve_at(memory, counts, place)
     }
 
     // The same with the counts lent, and changed in place.

@@ -1,16 +1,17 @@
 // "Every call on a queue: first 40": is the record one that the rules speak of? It may come from anywhere.
 ghost use mathlib.Core.Path.{_≡_};
+ghost use mathlib.Core.Bool.{_&&_};
 ghost use Prim.Native.Nat.{_≤_};
+ghost use lib.Dec.{leb};
 ghost use Rattle.table.specs.Basics.{all};
-ghost use Rattle.queue.specs.Contents.{loadOf, storeOf, contentsOf};
-ghost use Rattle.queue.specs.Sound.{depthRight, memoryRight, loadRight, storeRight, sound};
-ghost use Rattle.queue.specs.Internal.{loadsOf, storesOf};
-use crate::LoadEntry;
-use crate::Loads;
+ghost use Rattle.queue.specs.Contents.{contentsOf};
+ghost use Rattle.queue.specs.Sound.{depthRight, memoryRight, sound};
+ghost use Rattle.queue.specs.Internal.{queueOf, entriesIn, entryRight};
+use crate::Entry;
+use crate::Frame;
 use crate::Queue;
-use crate::StoreEntry;
-use crate::Stores;
-use table::Table;
+use crate::Side;
+use crate::entries::unpack;
 use table::check::table_fault;
 
 // A depth is 1 to 64.
@@ -33,11 +34,11 @@ pub(crate) fn memory_right(words: u32) -> bool
     words <= 4096
 }
 
-// A load remembers no more stores than are held, and its address, where filled in, is below the memory length.
-fn load_right(entry: LoadEntry, words: u16, stores: u8) -> bool
-    ensures { λ r. ⌜ r ≡ loadRight words stores (loadOf entry) ⌝ }
+// An entry remembers no more of the other kind than are held, and its address, where filled in, is below the memory length.
+fn entry_right(entry: Entry, words: u16, others: u8) -> bool
+    ensures { λ r. ⌜ r ≡ entryRight words others entry ⌝ }
 {
-    if stores < entry.before {
+    if others < entry.before {
         return false;
     }
     if entry.addressed {
@@ -46,29 +47,16 @@ fn load_right(entry: LoadEntry, words: u16, stores: u8) -> bool
     true
 }
 
-// A store, likewise.
-fn store_right(entry: StoreEntry, words: u16, loads: u8) -> bool
-    ensures { λ r. ⌜ r ≡ storeRight words loads (storeOf entry) ⌝ }
+// Is every entry held right?
+fn entries_right(entries: &[u64; 64], held: u8, words: u16, others: u8) -> bool
+    requires { ⌜ held ≤ 64 ⌝ }
+    ensures { λ r. ⌜ r ≡ all (entryRight words others) (entriesIn held (now (entries .entry))) ⌝ }
 {
-    if loads < entry.before {
-        return false;
-    }
-    if entry.addressed {
-        return entry.address < words;
-    }
-    true
-}
-
-// Is every load held right?
-fn loads_right(loads: Loads, words: u16, stores: u8) -> bool
-    requires { ⌜ loads .count ≤ 64 ⌝ }
-    ensures { λ r. ⌜ r ≡ all (loadRight words stores) (loadsOf loads) ⌝ }
-{
-    let count = loads.count as usize;
+    let count = held as usize;
     let mut i: usize = 0;
     while i < count {
-        let entry = loads.entries[i];
-        if !load_right(entry, words, stores) {
+        let entry = unpack(entries[i]);
+        if !entry_right(entry, words, others) {
             return false;
         }
         i += 1;
@@ -76,49 +64,39 @@ fn loads_right(loads: Loads, words: u16, stores: u8) -> bool
     true
 }
 
-// Is every store held right?
-fn stores_right(stores: Stores, words: u16, loads: u8) -> bool
-    requires { ⌜ stores .count ≤ 64 ⌝ }
-    ensures { λ r. ⌜ r ≡ all (storeRight words loads) (storesOf stores) ⌝ }
+// A depth within its limits, and no more entries than it.
+fn side_right(side: Side) -> bool
+    ensures { λ r. ⌜ r ≡ depthRight (side .depth) && leb (side .count) (side .depth) ⌝ }
 {
-    let count = stores.count as usize;
-    let mut i: usize = 0;
-    while i < count {
-        let entry = stores.entries[i];
-        if !store_right(entry, words, loads) {
-            return false;
-        }
-        i += 1;
+    if !depth_right(side.depth as u32) {
+        return false;
     }
-    true
+    side.count <= side.depth
 }
 
-// Is the queue of these parts sound? A call hands over the parts that it holds, so that the record is not copied as a whole.
-// The cheap tests come first: the loops are safe only once the counts are known, and the table takes longest.
-pub(crate) fn parts_sound(table: Table, words: u16, loads: Loads, stores: Stores) -> bool
-    ensures { λ r. ⌜ r ≡ sound (contentsOf (record { table = table; words = words; loads = loads; stores = stores })) ⌝ }
+// Is the queue of these parts sound? The entries are lent, so that they are not copied. The cheap tests come first: the loops
+// are safe only once the counts are known, and the table takes longest.
+pub(crate) fn parts_sound(frame: Frame, load_entries: &[u64; 64], store_entries: &[u64; 64]) -> bool
+    ensures { λ r. ⌜ r ≡ sound (contentsOf (queueOf frame (now («load_entries» .entry)) (now («store_entries» .entry)))) ⌝ }
 {
-    if !depth_right(loads.depth as u32) {
+    let loads = frame.loads;
+    let stores = frame.stores;
+    if !side_right(loads) {
         return false;
     }
-    if !depth_right(stores.depth as u32) {
+    if !side_right(stores) {
         return false;
     }
-    if !memory_right(words as u32) {
+    if !memory_right(frame.words as u32) {
         return false;
     }
-    if loads.depth < loads.count {
+    if !entries_right(load_entries, loads.count, frame.words, stores.count) {
         return false;
     }
-    if stores.depth < stores.count {
+    if !entries_right(store_entries, stores.count, frame.words, loads.count) {
         return false;
     }
-    if !loads_right(loads, words, stores.count) {
-        return false;
-    }
-    if !stores_right(stores, words, loads.count) {
-        return false;
-    }
+    let table = frame.table;
     table_fault(table) == 0
 }
 
@@ -127,9 +105,9 @@ impl Queue {
     pub fn sound(self) -> bool
         ensures { λ r. ⌜ r ≡ sound (contentsOf self) ⌝ }
     {
-        let table = self.table;
-        let loads = self.loads;
-        let stores = self.stores;
-        parts_sound(table, self.words, loads, stores)
+        let frame = self.frame;
+        let load_entries = self.load_entries;
+        let store_entries = self.store_entries;
+        parts_sound(frame, &load_entries, &store_entries)
     }
 }

@@ -1,98 +1,85 @@
 // Taking values: "take gives the value of the port's oldest untaken load". Letting one port's results overtake each other
 // would misplace them.
-ghost use mathlib.Core.Path.{_≡_};
-ghost use Prim.Native.Nat.{_≤_, _<_};
-ghost use Rattle.queue.specs.Contents.{loadOf, contentsOf, withLoads, updateAt, firstPlace};
-ghost use Rattle.queue.specs.Write.{settle};
-ghost use Rattle.queue.specs.Take.{untaken, loadTaken, take};
-ghost use Rattle.queue.specs.Outcome.{Accepted, Takes};
-ghost use Rattle.queue.specs.Internal.{loadsOf};
-use crate::LoadEntry;
-use crate::Loads;
+ghost use Rattle.queue.specs.Contents.{contentsOf};
+ghost use Rattle.queue.specs.Take.{take};
+ghost use Rattle.queue.specs.Outcome.{Takes};
+ghost use Rattle.queue.specs.Internal.{queueOf, outcomeOf, Whole};
+use crate::Frame;
 use crate::Outcome;
 use crate::Queue;
 use crate::Value;
-use crate::ports::has_load_port;
+use crate::answering::Step;
+use crate::answering::refused;
+use crate::entries::Mark;
+use crate::entries::oldest_without;
+use crate::entries::pack;
+use crate::entries::unpack;
+use crate::ports::has_port;
 use crate::refusal::NO_PORT;
 use crate::refusal::NONE_UNTAKEN;
 use crate::refusal::NOT_SERVED;
 use crate::refusal::UNSOUND;
 use crate::sound::parts_sound;
-use crate::writing::finished_loads;
-use crate::writing::finished_stores;
-use crate::writing::move_loads;
-use crate::writing::move_stores;
+use crate::writing::settle;
 
-// Is it an untaken load of the port?
-fn is_untaken(load: LoadEntry, port: u32) -> bool
-    ensures { λ r. ⌜ r ≡ untaken port (loadOf load) ⌝ }
+// Take on a queue's parts: 40, 22, 33, 34.
+fn take_in(
+    frame: Frame,
+    load_entries: &mut [u64; 64],
+    store_entries: &mut [u64; 64],
+    port: u32,
+) -> Step
+    requires { ⌜ Whole (now «load_entries») × Whole (now «store_entries») ⌝ }
+    ensures { λ r. ⌜ Takes (queueOf frame (now («load_entries» .entry)) (now («store_entries» .entry)))
+        (take (contentsOf (queueOf frame (now («load_entries» .entry)) (now («store_entries» .entry)))) port)
+        (outcomeOf r (now («load_entries» .exit)) (now («store_entries» .exit))) ⌝ }
 {
-    if load.port as u32 != port {
-        return false;
+    if !parts_sound(frame, load_entries, store_entries) {
+        return refused(UNSOUND, frame);
     }
-    !load.taken
-}
-
-// The place of the port's oldest untaken load, or the count where there is none.
-fn oldest_untaken(loads: Loads, port: u32) -> usize
-    requires { ⌜ loads .count ≤ 64 ⌝ }
-    ensures { λ r. ⌜ r ≡ firstPlace (untaken port) (loadsOf loads) ⌝ }
-{
-    let count = loads.count as usize;
-    let mut i: usize = 0;
-    while i < count {
-        let load = loads.entries[i];
-        if is_untaken(load, port) {
-            return i;
-        }
-        i += 1;
+    let table = frame.table;
+    if !has_port(table, false, port) {
+        return refused(NO_PORT, frame);
     }
-    i
+    let loads = frame.loads;
+    let at = oldest_without(load_entries, loads.count, port, Mark::Finished);
+    if loads.count as usize <= at {
+        return refused(NONE_UNTAKEN, frame);
+    }
+    let mut load = unpack(load_entries[at]);
+    if !load.filled {
+        return refused(NOT_SERVED, frame);
+    }
+    load.finished = true;
+    load_entries[at] = pack(load);
+    let after = settle(frame, load_entries, store_entries);
+    Step {
+        answer: 0,
+        value: Value::Word(load.word),
+        frame: after,
+    }
 }
 
 impl Queue {
-    // The load at a place is taken, and finished entries leave, each side by itself as after a write.
-    fn taken(mut self, at: usize, value: u32) -> Outcome
-        requires { ⌜ (at < self .loads .count) × (self .loads .count ≤ 64) × (self .stores .count ≤ 64) ⌝ }
-        ensures { λ r. ⌜ Accepted (Value.Word value) (settle (withLoads (contentsOf self) (updateAt loadTaken at (contentsOf self .loads)))) r ⌝ }
-    {
-        let mut loads = self.loads;
-        let mut load = loads.entries[at];
-        load.taken = true;
-        loads.entries[at] = load;
-        let stores = self.stores;
-        let loads_gone = finished_loads(loads);
-        let stores_gone = finished_stores(stores);
-        self.loads = move_loads(loads, loads_gone, stores_gone);
-        self.stores = move_stores(stores, stores_gone, loads_gone);
-        Outcome {
-            answer: 0,
-            value: Value::Word(value),
-            queue: self,
-        }
-    }
-
     // Take the value of the port's oldest untaken load.
     pub fn take(self, port: u32) -> Outcome
         ensures { λ r. ⌜ Takes self (take (contentsOf self) port) r ⌝ }
     {
-        let table = self.table;
-        let loads = self.loads;
-        let stores = self.stores;
-        if !parts_sound(table, self.words, loads, stores) {
-            return self.refused(UNSOUND);
+        let frame = self.frame;
+        let mut load_entries = self.load_entries;
+        let mut store_entries = self.store_entries;
+        let step = take_in(frame, &mut load_entries, &mut store_entries, port);
+        let value = step.value;
+        let after = step.frame;
+        let queue = Queue {
+            frame: after,
+            load_entries,
+            store_entries,
+        };
+        Outcome {
+            answer: step.answer,
+            value,
+            queue,
         }
-        if !has_load_port(table, port) {
-            return self.refused(NO_PORT);
-        }
-        let at = oldest_untaken(loads, port);
-        if loads.count as usize <= at {
-            return self.refused(NONE_UNTAKEN);
-        }
-        let load = loads.entries[at];
-        if !load.served {
-            return self.refused(NOT_SERVED);
-        }
-        self.taken(at, load.value)
     }
 }

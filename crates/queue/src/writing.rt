@@ -2,23 +2,29 @@
 // finished entries (stores written, loads taken) leave each side from its oldest end until an unfinished one is oldest".
 ghost use mathlib.Core.Path.{_≡_};
 ghost use mathlib.Core.Bool.{true};
-ghost use Prim.Native.Nat.{_≤_, _<_, _-_};
+ghost use Prim.Native.Nat.{_+_, _≤_, _<_, _-_};
 ghost use lib.ListN.{length, getD};
 ghost use Rattle.table.specs.Basics.{all};
-ghost use Rattle.queue.specs.Contents.{loadOf, storeOf, blankLoad, blankStore, contentsOf, withStores, updateAt};
-ghost use Rattle.queue.specs.Write.{loadGivesWay, storeGivesWay, loadFinished, storeFinished, leaving, storeDone, settle, write};
+ghost use Rattle.queue.specs.Entry.{entryOf};
+ghost use Rattle.queue.specs.Contents.{contentsOf};
+ghost use Rattle.queue.specs.Write.{leaving, settle, write};
 ghost use Rattle.queue.specs.Sound.{sound};
 ghost use Rattle.queue.specs.Ruled.{number};
-ghost use Rattle.queue.specs.Outcome.{Accepted, Writes};
-ghost use Rattle.queue.specs.Internal.{sideOf, loadsOf, storesOf};
-ghost use Rattle.queue.specs.InternalWrite.{LoadsMoved, StoresMoved, mayWriteAt, writeAt};
-use crate::LoadEntry;
-use crate::Loads;
+ghost use Rattle.queue.specs.Outcome.{Writes};
+ghost use Rattle.queue.specs.Internal.{queueOf, outcomeOf, entriesIn, finished, Whole};
+ghost use Rattle.queue.specs.InternalWrite.{givesWay, Shifted, shorter, mayWriteAt, writeAt};
+use crate::Entry;
+use crate::Frame;
 use crate::Outcome;
 use crate::Queue;
-use crate::StoreEntry;
-use crate::Stores;
+use crate::Side;
 use crate::Value;
+use crate::answering::Step;
+use crate::answering::refused;
+use crate::entries::Mark;
+use crate::entries::has;
+use crate::entries::pack;
+use crate::entries::unpack;
 use crate::refusal::ALREADY_DONE;
 use crate::refusal::EARLIER_LOAD_IN_WAY;
 use crate::refusal::EARLIER_STORE_IN_WAY;
@@ -30,58 +36,29 @@ use crate::refusal::WRONG_MEMORY;
 use crate::serial::place_of;
 use crate::sound::parts_sound;
 
-// A load that is served, or is known to be of another word, gives way to a write to the address. Writing past an unserved
-// load of the word would spoil that load.
-fn load_gives_way(load: LoadEntry, address: u16) -> bool
-    ensures { λ r. ⌜ r ≡ loadGivesWay address (loadOf load) ⌝ }
+// An entry that is done with the memory (a served load, a written store), or is known to be of another word, gives way to a
+// write to the address. Writing past an unserved load of the word would spoil that load.
+fn gives_way(entry: Entry, done: Mark, address: u16) -> bool
+    ensures { λ r. ⌜ r ≡ givesWay done address entry ⌝ }
 {
-    if load.served {
+    if has(entry, done) {
         return true;
     }
-    if !load.addressed {
+    if !entry.addressed {
         return false;
     }
-    load.address != address
+    entry.address != address
 }
 
-// A store that is written, or is known to be to another word, likewise.
-fn store_gives_way(store: StoreEntry, address: u16) -> bool
-    ensures { λ r. ⌜ r ≡ storeGivesWay address (storeOf store) ⌝ }
-{
-    if store.written {
-        return true;
-    }
-    if !store.addressed {
-        return false;
-    }
-    store.address != address
-}
-
-// Do the first n loads give way to a write to the address?
-fn loads_give_way(loads: Loads, n: usize, address: u16) -> bool
+// Do the first n entries give way to a write to the address?
+fn all_give_way(entries: &[u64; 64], n: usize, done: Mark, address: u16) -> bool
     requires { ⌜ n ≤ 64 ⌝ }
-    ensures { λ r. ⌜ r ≡ all (loadGivesWay address) (sideOf loadOf blankLoad n (loads .entries)) ⌝ }
+    ensures { λ r. ⌜ r ≡ all (givesWay done address) (entriesIn n (now (entries .entry))) ⌝ }
 {
     let mut i: usize = 0;
     while i < n {
-        let load = loads.entries[i];
-        if !load_gives_way(load, address) {
-            return false;
-        }
-        i += 1;
-    }
-    true
-}
-
-// Do the first n stores?
-fn stores_give_way(stores: Stores, n: usize, address: u16) -> bool
-    requires { ⌜ n ≤ 64 ⌝ }
-    ensures { λ r. ⌜ r ≡ all (storeGivesWay address) (sideOf storeOf blankStore n (stores .entries)) ⌝ }
-{
-    let mut i: usize = 0;
-    while i < n {
-        let store = stores.entries[i];
-        if !store_gives_way(store, address) {
+        let entry = unpack(entries[i]);
+        if !gives_way(entry, done, address) {
             return false;
         }
         i += 1;
@@ -90,12 +67,12 @@ fn stores_give_way(stores: Stores, n: usize, address: u16) -> bool
 }
 
 // Why the store at a place may not be written, or 0: 26, 27, 29, 31, 32.
-pub(crate) fn write_fault(loads: Loads, stores: Stores, at: usize) -> u8
-    requires { ⌜ (at < 64) × (getD (stores .entries) at blankStore .before ≤ 64) ⌝ }
-    ensures { λ r. ⌜ r ≡ number (mayWriteAt loads stores at) ⌝ }
+pub(crate) fn write_fault(load_entries: &[u64; 64], store_entries: &[u64; 64], at: usize) -> u8
+    requires { ⌜ (at < 64) × (entryOf (getD (now «store_entries») at 0) .before ≤ 64) ⌝ }
+    ensures { λ r. ⌜ r ≡ number (mayWriteAt (now («load_entries» .entry)) (now («store_entries» .entry)) at) ⌝ }
 {
-    let store = stores.entries[at];
-    if store.written {
+    let store = unpack(store_entries[at]);
+    if store.finished {
         return ALREADY_DONE;
     }
     if !store.addressed {
@@ -104,42 +81,30 @@ pub(crate) fn write_fault(loads: Loads, stores: Stores, at: usize) -> u8
     if !store.filled {
         return NO_DATA;
     }
-    if !loads_give_way(loads, store.before as usize, store.address) {
+    if !all_give_way(
+        load_entries,
+        store.before as usize,
+        Mark::Filled,
+        store.address,
+    ) {
         return EARLIER_LOAD_IN_WAY;
     }
-    if !stores_give_way(stores, at, store.address) {
+    if !all_give_way(store_entries, at, Mark::Finished, store.address) {
         return EARLIER_STORE_IN_WAY;
     }
     0
 }
 
-// How many loads at the oldest end are taken. A taken load behind an untaken one keeps its place.
-pub(crate) fn finished_loads(loads: Loads) -> u8
-    requires { ⌜ loads .count ≤ 64 ⌝ }
-    ensures { λ r. ⌜ r ≡ leaving loadFinished (loadsOf loads) ⌝ }
+// How many entries at the oldest end are finished. A finished entry behind an unfinished one keeps its place.
+fn finished(entries: &[u64; 64], held: u8) -> u8
+    requires { ⌜ held ≤ 64 ⌝ }
+    ensures { λ r. ⌜ r ≡ leaving finished (entriesIn held (now (entries .entry))) ⌝ }
 {
-    let count = loads.count;
     let mut i: u8 = 0;
-    while i < count {
+    while i < held {
         let at = i as usize;
-        if !loads.entries[at].taken {
-            return i;
-        }
-        i += 1;
-    }
-    i
-}
-
-// How many stores at the oldest end are written.
-pub(crate) fn finished_stores(stores: Stores) -> u8
-    requires { ⌜ stores .count ≤ 64 ⌝ }
-    ensures { λ r. ⌜ r ≡ leaving storeFinished (storesOf stores) ⌝ }
-{
-    let count = stores.count;
-    let mut i: u8 = 0;
-    while i < count {
-        let at = i as usize;
-        if !stores.entries[at].written {
+        let entry = unpack(entries[at]);
+        if !entry.finished {
             return i;
         }
         i += 1;
@@ -148,107 +113,146 @@ pub(crate) fn finished_stores(stores: Stores) -> u8
 }
 
 // "The number falls as those leave and then stays 0."
-fn less(before: u8, left: u8) -> u8
-    ensures { λ r. ⌜ r ≡ before - left ⌝ }
+fn less(before: u8, gone: u8) -> u8
+    ensures { λ r. ⌜ r ≡ before - gone ⌝ }
 {
-    if left <= before { before - left } else { 0 }
+    if gone <= before { before - gone } else { 0 }
 }
 
-// The load side after its first `gone` entries and `stores` stores have left.
-pub(crate) fn move_loads(mut loads: Loads, gone: u8, stores: u8) -> Loads
-    requires { ⌜ (gone ≤ loads .count) × (loads .count ≤ 64) ⌝ }
-    ensures { λ r. ⌜ LoadsMoved loads gone stores r ⌝ }
+// Moves the `left` entries behind the first `gone` to the front; each forgets `others`, as many of the other kind as go too.
+fn shift(entries: &mut [u64; 64], gone: u8, left: u8, others: u8)
+    requires { ⌜ (gone + left ≤ 64) × Whole (now entries) ⌝ }
+    ensures { λ _. ⌜ Shifted gone left others (now (entries .entry)) (now (entries .exit)) ⌝ }
 {
     let from = gone as usize;
-    let left = loads.count - gone;
     let count = left as usize;
     let mut i: usize = 0;
     while i < count {
-        let mut load = loads.entries[i + from];
-        load.before = less(load.before, stores);
-        loads.entries[i] = load;
+        let mut entry = unpack(entries[i + from]);
+        entry.before = less(entry.before, others);
+        entries[i] = pack(entry);
         i += 1;
     }
-    loads.count = left;
-    loads
 }
 
-// The store side, likewise.
-pub(crate) fn move_stores(mut stores: Stores, gone: u8, loads: u8) -> Stores
-    requires { ⌜ (gone ≤ stores .count) × (stores .count ≤ 64) ⌝ }
-    ensures { λ r. ⌜ StoresMoved stores gone loads r ⌝ }
+// A side that holds so many fewer entries.
+fn shorter(side: Side, gone: u8) -> Side
+    requires { ⌜ gone ≤ side .count ⌝ }
+    ensures { λ r. ⌜ r ≡ shorter side gone ⌝ }
 {
-    let from = gone as usize;
-    let left = stores.count - gone;
-    let count = left as usize;
-    let mut i: usize = 0;
-    while i < count {
-        let mut store = stores.entries[i + from];
-        store.before = less(store.before, loads);
-        stores.entries[i] = store;
-        i += 1;
+    Side {
+        depth: side.depth,
+        count: side.count - gone,
+        next: side.next,
     }
-    stores.count = left;
-    stores
+}
+
+// Finished entries leave; one that stays forgets those of the other kind that left.
+pub(crate) fn settle(
+    frame: Frame,
+    load_entries: &mut [u64; 64],
+    store_entries: &mut [u64; 64],
+) -> Frame
+    requires { ⌜ (frame .loads .count ≤ 64) × (frame .stores .count ≤ 64) × Whole (now «load_entries») × Whole (now «store_entries») ⌝ }
+    ensures { λ r. ⌜ contentsOf (queueOf r (now («load_entries» .exit)) (now («store_entries» .exit)))
+        ≡ settle (contentsOf (queueOf frame (now («load_entries» .entry)) (now («store_entries» .entry)))) ⌝ }
+{
+    let loads = frame.loads;
+    let stores = frame.stores;
+    let loads_gone = finished(load_entries, loads.count);
+    let stores_gone = finished(store_entries, stores.count);
+    let loads_left = shorter(loads, loads_gone);
+    let stores_left = shorter(stores, stores_gone);
+    shift(load_entries, loads_gone, loads_left.count, stores_gone);
+    shift(store_entries, stores_gone, stores_left.count, loads_gone);
+    let table = frame.table;
+    Frame {
+        table,
+        words: frame.words,
+        loads: loads_left,
+        stores: stores_left,
+    }
+}
+
+// Write the store at a place: 25, 26, 27, 29, 31, 32.
+fn write_at(
+    frame: Frame,
+    load_entries: &mut [u64; 64],
+    store_entries: &mut [u64; 64],
+    memory: &mut [u32],
+    place: u32,
+) -> Step
+    requires { ⌜ (sound (contentsOf (queueOf frame (now «load_entries») (now «store_entries»))) ≡ true) × (length (now memory) ≡ frame .words)
+        × Whole (now «load_entries») × Whole (now «store_entries») ⌝ }
+    ensures { λ r. ⌜ Writes (queueOf frame (now («load_entries» .entry)) (now («store_entries» .entry))) (now (memory .entry))
+        (writeAt (contentsOf (queueOf frame (now («load_entries» .entry)) (now («store_entries» .entry)))) (now (memory .entry)) place)
+        (outcomeOf r (now («load_entries» .exit)) (now («store_entries» .exit))) (now (memory .exit)) ⌝ }
+{
+    let stores = frame.stores;
+    if stores.count as u32 <= place {
+        return refused(NO_SERIAL, frame);
+    }
+    let at = place as usize;
+    let answer = write_fault(load_entries, store_entries, at);
+    if answer != 0 {
+        return refused(answer, frame);
+    }
+    let mut store = unpack(store_entries[at]);
+    memory[store.address as usize] = store.word;
+    store.finished = true;
+    store_entries[at] = pack(store);
+    let after = settle(frame, load_entries, store_entries);
+    Step {
+        answer: 0,
+        value: Value::Nothing,
+        frame: after,
+    }
+}
+
+// Write on a queue's parts: 40, 30, and then as `write_at`.
+fn write_in(
+    frame: Frame,
+    load_entries: &mut [u64; 64],
+    store_entries: &mut [u64; 64],
+    memory: &mut [u32],
+    serial: u32,
+) -> Step
+    requires { ⌜ Whole (now «load_entries») × Whole (now «store_entries») ⌝ }
+    ensures { λ r. ⌜ Writes (queueOf frame (now («load_entries» .entry)) (now («store_entries» .entry))) (now (memory .entry))
+        (write (contentsOf (queueOf frame (now («load_entries» .entry)) (now («store_entries» .entry)))) (now (memory .entry)) serial)
+        (outcomeOf r (now («load_entries» .exit)) (now («store_entries» .exit))) (now (memory .exit)) ⌝ }
+{
+    if !parts_sound(frame, load_entries, store_entries) {
+        return refused(UNSOUND, frame);
+    }
+    if memory.len() != frame.words as usize {
+        return refused(WRONG_MEMORY, frame);
+    }
+    let stores = frame.stores;
+    let place = place_of(stores.next, stores.count, serial);
+    write_at(frame, load_entries, store_entries, memory, place)
 }
 
 impl Queue {
-    // The store at a place is written, and finished entries leave; one that stays forgets those of the other kind that left.
-    // Each side is moved by itself, so that the record is not copied as a whole.
-    fn written(mut self, at: usize) -> Outcome
-        requires { ⌜ (at < self .stores .count) × (self .loads .count ≤ 64) × (self .stores .count ≤ 64) ⌝ }
-        ensures { λ r. ⌜ Accepted Value.Nothing (settle (withStores (contentsOf self) (updateAt storeDone at (contentsOf self .stores)))) r ⌝ }
-    {
-        let mut stores = self.stores;
-        let mut store = stores.entries[at];
-        store.written = true;
-        stores.entries[at] = store;
-        let loads = self.loads;
-        let loads_gone = finished_loads(loads);
-        let stores_gone = finished_stores(stores);
-        self.loads = move_loads(loads, loads_gone, stores_gone);
-        self.stores = move_stores(stores, stores_gone, loads_gone);
-        Outcome {
-            answer: 0,
-            value: Value::Nothing,
-            queue: self,
-        }
-    }
-
-    // Write the store at a place: 25, 26, 27, 29, 31, 32.
-    fn write_at(self, memory: &mut [u32], place: u32) -> Outcome
-        requires { ⌜ (sound (contentsOf self) ≡ true) × (length (now memory) ≡ self .words) ⌝ }
-        ensures { λ r. ⌜ Writes self (now (memory .entry)) (writeAt (contentsOf self) (now (memory .entry)) place) r (now (memory .exit)) ⌝ }
-    {
-        let stores = self.stores;
-        if stores.count as u32 <= place {
-            return self.refused(NO_SERIAL);
-        }
-        let at = place as usize;
-        let loads = self.loads;
-        let answer = write_fault(loads, stores, at);
-        if answer != 0 {
-            return self.refused(answer);
-        }
-        let store = stores.entries[at];
-        memory[store.address as usize] = store.word;
-        self.written(at)
-    }
-
     // Write the store with this serial: its data goes to memory, and finished entries leave.
     pub fn write(self, memory: &mut [u32], serial: u32) -> Outcome
         ensures { λ r. ⌜ Writes self (now (memory .entry)) (write (contentsOf self) (now (memory .entry)) serial) r (now (memory .exit)) ⌝ }
     {
-        let table = self.table;
-        let loads = self.loads;
-        let stores = self.stores;
-        if !parts_sound(table, self.words, loads, stores) {
-            return self.refused(UNSOUND);
+        let frame = self.frame;
+        let mut load_entries = self.load_entries;
+        let mut store_entries = self.store_entries;
+        let step = write_in(frame, &mut load_entries, &mut store_entries, memory, serial);
+        let value = step.value;
+        let after = step.frame;
+        let queue = Queue {
+            frame: after,
+            load_entries,
+            store_entries,
+        };
+        Outcome {
+            answer: step.answer,
+            value,
+            queue,
         }
-        if memory.len() != self.words as usize {
-            return self.refused(WRONG_MEMORY);
-        }
-        let place = place_of(stores.next, stores.count, serial);
-        self.write_at(memory, place)
     }
 }

@@ -20,7 +20,7 @@ use contract.Monad.{Fun, fact, fact-mono}
 use contract.Running.{givenOf, tables, tablesOf}
 use types.Kit.{Given, Sq, runs, atRet, ‵, raw, _⊛_, ⋆, some, later, _$_, _∵_, !, qed, by, move, keep, drop, use1, use2, split, join, pick, rewrite, fsplit, fsplit3, fjoin, fjoin3, feqI, suffices, frame, await, done}
 use types.Part.{whole, sub, look-in, agg}
-use types.Run.{look, init, look-raw, store-raw, forget, stop, hop, fld, from, load, of-opd, and-then, no-more, assigns, land, returns, enter, alloc1, alloc0, params1, pass1, pass0, free1, free0}
+use types.Run.{look, init, look-raw, store-raw, stop, hop, fld, from, load, of-opd, and-then, no-more, assigns, land, returns, enter, alloc1, alloc0, params1, pass1, pass0}
 use types.SemTy.{Body}
 use sound.WpLaws.{FmC, fmOf, WpFn-mono}
 use denote.RattleType.{owns}
@@ -46,7 +46,7 @@ use Rattle.queue.proofs.Leave.{leaves}
 use Rattle.queue.specs.Contents.{contentsOf}
 use Rattle.queue.specs.Serve as rule
 use Rattle.queue.specs.Outcome.{Serves}
-use Rattle.queue.specs.ServeLent.{withCounts, withoutCounts}
+use Rattle.queue.specs.ServeLent.{withoutCounts}
 use Rattle.queue.specs.declared.Queue.{Queue}
 use Rattle.queue.specs.declared.Counts.{Counts}
 use Rattle.queue.specs.declared.Counted.{Counted}

@@ -1,7 +1,7 @@
 use mathlib.Core.Path.{_≡_, sym, ap, _∙_}
 use borrow.Author.Tests.{not-true, not-false}
-use Rattle.queue.specs.Contents.{loadOf, storeOf, blankStore}
-use Rattle.queue.specs.Internal.{sideOf}
+use Rattle.queue.specs.Contents.{loadOf}
+use Rattle.queue.specs.Internal.{storesIn}
 use Rattle.queue.specs.InternalReady.{supplyReady, loadReady}
 use borrow.Author.Needs.{needs}
 use Rattle.queue.proofs.ready.load_ready.Statement.{statement}
@@ -9,7 +9,7 @@ use Rattle.queue.proofs.ready.load_ready.Tie as tie
 
 -- what the stores supply decides, once the load has an address and no value
 supplied : (c : tie.After-supply-for) → let s = c .before .before .before .before .before in
-    loadReady (sideOf storeOf blankStore (s .args .load .before) (s .args .stores .entries)) (loadOf (s .args .load)) ≡ supplyReady (c .supply-for .result)
+    loadReady (storesIn (s .args .load .before) (s .args .store-entries .now)) (loadOf (s .args .load)) ≡ supplyReady (c .supply-for .result)
 supplied c =
     let e2 = c .before .before in
     let e1 = e2 .before .before in

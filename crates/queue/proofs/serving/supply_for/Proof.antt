@@ -1,58 +1,57 @@
 -- The stores before the ith have an address, and `found` is what they supply; the rest is still to be walked.
-use Prim.Native.Nat.{ℕ, _≤_, _<_, _-_, _+_}
-use mathlib.Core.Path.{_≡_, refl, sym, ap, _∙_}
-use mathlib.Core.Bool.{Bool, true, false}
+use Prim.Native.Nat.{_≤_, _-_, _+_}
+use mathlib.Core.Path.{_≡_, sym, ap, _∙_}
+use mathlib.Core.Bool.{true}
 use mathlib.Core.List.{List, _∷_}
 use native.Mathlib.Omega.{arith}
-use lib.ListN.{length, drop, getD}
+use lib.ListN.{drop}
 use borrow.Author.Needs.{needs}
-use Rattle.table.proofs.CheckLaws.{long}
-use Rattle.queue.specs.declared.StoreEntry.{StoreEntry}
-use Rattle.queue.specs.Contents.{Store, storeOf, blankStore}
+use Rattle.queue.specs.declared.Entry.{Entry}
+use Rattle.queue.specs.Contents.{Store, storeOf, storeIn}
 use Rattle.queue.specs.Serve.{hasAddress}
-use Rattle.queue.specs.Internal.{sideOf}
+use Rattle.queue.specs.Internal.{storesIn}
 use Rattle.queue.proofs.ContentsLaws.{side-here, side-end}
 use Rattle.queue.proofs.SupplyLaws.{address-lacking, address-known, Supplying, supplying-none, supplying-stop, supplying-more, supplying-on, supplying-end}
 use Rattle.queue.proofs.serving.supply_for.Statement.{statement}
 use Rattle.queue.proofs.serving.supply_for.Tie as tie
 
 abbrev Inv-loop : tie.InvT-loop
-Inv-loop n address stores found₀ i₀ found i = (i ≤ n) × Supplying address (sideOf storeOf blankStore n (stores .entries)) i found
+Inv-loop entries n address found₀ i₀ found i = (i ≤ n) × Supplying address (storesIn n entries) i found
 
 abbrev μ-loop : tie.MeasureT-loop
-μ-loop n address stores found₀ i₀ found i = n - i
-
-room : (c : tie.Start Inv-loop μ-loop) → c .args .n ≤ length (c .args .t1 .entries)
-room c =
-    let e : length (c .args .t1 .entries) ≡ 64 = search (needs, long) in
-    omega (arith, c .pre)
+μ-loop entries n address found₀ i₀ found i = n - i
 
 -- the stores that are walked, and the one that the walk has come to
 abbrev walked : tie.Start Inv-loop μ-loop → List Store
-walked c = sideOf storeOf blankStore (c .args .n) (c .args .t1 .entries)
+walked c = storesIn (c .args .n) (c .args .entries .now)
 
-abbrev this : tie.At-loop Inv-loop μ-loop → StoreEntry
-this c = getD (c .before .args .t1 .entries) (c .loop .i) blankStore
+abbrev turn : tie.After-unpack Inv-loop μ-loop → tie.At-loop Inv-loop μ-loop
+turn c = c .before .before .before
 
-here : (c : tie.In-loop Inv-loop μ-loop) → drop (c .before .loop .i) (walked (c .before .before)) ≡ storeOf (this (c .before)) ∷ drop (c .before .loop .i + 1) (walked (c .before .before))
-here c = side-here storeOf blankStore _ _ (room (c .before .before)) _ (c .loop-test .taken)
+here : (c : tie.After-unpack Inv-loop μ-loop) → drop (turn c .loop .i) (walked (turn c .before)) ≡ storeOf (c .unpack .result) ∷ drop (turn c .loop .i + 1) (walked (turn c .before))
+here c =
+    side-here storeIn 0 _ _ _ (c .before .before .loop-test .taken)
+    ∙ ap (λ (e : Entry). storeOf e ∷ drop (turn c .loop .i + 1) (walked (turn c .before))) (sym (c .unpack .ensures))
 
-known : (c : tie.Else1 Inv-loop μ-loop) → hasAddress (storeOf (this (c .before .before .before .before))) ≡ true
-known c = address-known (this (c .before .before .before .before)) (c .if1 .left)
+known : (c : tie.Else1 Inv-loop μ-loop) → hasAddress (storeOf (c .before .before .unpack .result)) ≡ true
+known c = address-known (c .before .before .unpack .result) (c .if1 .left)
 
 loop-holds : tie.Need-loop-holds Inv-loop μ-loop
 loop-holds c = (search needs, supplying-none)
 
-mul-store : tie.Need-mul-store Inv-loop μ-loop
-mul-store c = omega arith
+mul-unpack : tie.Need-mul-unpack Inv-loop μ-loop
+mul-unpack c = omega arith
 
-element-copy-out-store : tie.Need-element-copy-out-store Inv-loop μ-loop
-element-copy-out-store c = omega arith
+element-copy-out-unpack : tie.Need-element-copy-out-unpack Inv-loop μ-loop
+element-copy-out-unpack c = omega arith
+
+unpack-requires : tie.Need-unpack-requires Inv-loop μ-loop
+unpack-requires c κs = search needs
 
 returns : tie.Need-returns Inv-loop μ-loop
 returns c =
-    let l = c .before .before .before in
-    supplying-stop (l .before .loop .inv .1) (here l) (address-lacking (this (l .before)) (c .if1 .taken))
+    let u = c .before .before in
+    supplying-stop (turn u .loop .inv .1) (here u) (address-lacking (u .unpack .result) (c .if1 .taken))
 
 supplies-address-requires : tie.Need-supplies-address-requires Inv-loop μ-loop
 supplies-address-requires c κs = search needs
@@ -68,8 +67,9 @@ loop-less c = omega arith
 
 loop-again : tie.Need-loop-again Inv-loop μ-loop
 loop-again c =
-    let l = c .before .before .before .before .before .before in
-    (omega arith, supplying-more (l .before .loop .inv .1) (here l) (known (c .before .before .before)) (sym (c .before .before .supplies-address .ensures) ∙ c .before .if2 .taken) (c .word-from .ensures))
+    let k = c .before .before .before in
+    let u = k .before .before in
+    (omega arith, supplying-more (turn u .loop .inv .1) (here u) (known k) (sym (c .before .before .supplies-address .ensures) ∙ c .before .if2 .taken) (c .word-from .ensures))
 
 add-i-2 : tie.Need-add-i-2 Inv-loop μ-loop
 add-i-2 c = omega arith
@@ -79,11 +79,12 @@ loop-less-2 c = omega arith
 
 loop-again-2 : tie.Need-loop-again-2 Inv-loop μ-loop
 loop-again-2 c =
-    let l = c .before .before .before .before .before in
-    (omega arith, supplying-on (l .before .loop .inv .1) (here l) (known (c .before .before)) (sym (c .before .supplies-address .ensures) ∙ c .if2 .left))
+    let k = c .before .before in
+    let u = k .before .before in
+    (omega arith, supplying-on (turn u .loop .inv .1) (here u) (known k) (sym (c .before .supplies-address .ensures) ∙ c .if2 .left))
 
 returns-2 : tie.Need-returns-2 Inv-loop μ-loop
-returns-2 c = supplying-end (c .before .loop .inv .1) (side-end storeOf blankStore _ (c .before .before .args .t1 .entries) _ (c .loop-test .left))
+returns-2 c = supplying-end (c .before .loop .inv .1) (side-end storeIn 0 _ (c .before .before .args .entries .now) _ (c .loop-test .left))
 
 pub supply-for-spec : {M : Type 1} → statement M
 supply-for-spec =
@@ -92,8 +93,9 @@ supply-for-spec =
     Inv-loop
     μ-loop
     loop-holds
-    mul-store
-    element-copy-out-store
+    mul-unpack
+    element-copy-out-unpack
+    unpack-requires
     returns
     supplies-address-requires
     word-from-requires

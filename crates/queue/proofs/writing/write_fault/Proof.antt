@@ -1,67 +1,94 @@
+-- The tests in the order of checking, of the entry as it was unpacked; `told` says it of the number that holds it.
 use Prim.Native.Nat.{ℕ}
-use mathlib.Core.Path.{_≡_, refl, sym, ap, _∙_}
+use mathlib.Core.Path.{_≡_, sym, ap, _∙_}
 use mathlib.Core.List.{List}
-use lib.ListN.{getD}
-use borrow.Author.Tests.{not-true, not-false}
-use Rattle.queue.specs.declared.StoreEntry.{StoreEntry}
-use Rattle.queue.specs.Contents.{Load, Store, loadOf, storeOf, blankLoad, blankStore}
-use Rattle.queue.specs.Ruled.{number}
-use Rattle.queue.specs.Internal.{sideOf}
-use Rattle.queue.proofs.WriteLaws.{may-not-again, may-no-address, may-no-data, may-load, may-store, may-put}
 use borrow.Author.Needs.{needs}
+use borrow.Author.Tests.{not-true, not-false}
+use Rattle.table.specs.Basics.{all}
+use Rattle.queue.specs.declared.Entry.{Entry}
+use Rattle.queue.specs.declared.entries.Mark.the-variants.{Filled, Finished}
+use Rattle.queue.specs.Ruled.{number}
+use Rattle.queue.specs.Contents.{Load, Store, loadOf, storeOf}
+use Rattle.queue.specs.Write.{loadGivesWay, storeGivesWay}
+use Rattle.queue.specs.Internal.{loadsIn, storesIn}
+use Rattle.queue.specs.InternalWrite.{givesWay, mayWrite, mayWriteAt}
+use Rattle.queue.proofs.EntryLaws.{side-all-same, load-gives-way, store-gives-way}
+use Rattle.queue.proofs.WriteLaws.{may-not-again, may-no-address, may-no-data, may-load, may-store, may-put}
 use Rattle.queue.proofs.writing.write_fault.Statement.{statement}
 use Rattle.queue.proofs.writing.write_fault.Tie as tie
 
 -- the store, and the loads and stores before it
-abbrev store : tie.Start → StoreEntry
-store s = getD (s .args .t2 .entries) (s .args .at) blankStore
+abbrev store : tie.After-unpack → Entry
+store u = u .unpack .result
 
-abbrev loads : tie.Start → List Load
-loads s = sideOf loadOf blankLoad (store s .before) (s .args .loads .entries)
+abbrev loads : tie.After-unpack → List Load
+loads u = loadsIn (store u .before) (u .before .before .args .load-entries .now)
 
-abbrev stores : tie.Start → List Store
-stores s = sideOf storeOf blankStore (s .args .at) (s .args .t2 .entries)
+abbrev stores : tie.After-unpack → List Store
+stores u = storesIn (u .before .before .args .at) (u .before .before .args .store-entries .now)
 
-mul-store : tie.Need-mul-store
-mul-store c = search needs
+told : (u : tie.After-unpack) (n : ℕ) → n ≡ number (mayWrite (loads u) (stores u) (storeOf (store u)))
+    → n ≡ number (mayWriteAt (u .before .before .args .load-entries .now) (u .before .before .args .store-entries .now) (u .before .before .args .at))
+told u n e = rw (← u .unpack .ensures) e
 
-element-copy-out-store : tie.Need-element-copy-out-store
-element-copy-out-store c = search needs
+-- do the loads, the stores, before it give way?
+loads-way : (c : tie.After-all-give-way) → let u = c .before .before .before .before .before .before .before in
+    c .all-give-way .result ≡ all (loadGivesWay (store u .address)) (loads u)
+loads-way c =
+    let u = c .before .before .before .before .before .before .before in
+    c .all-give-way .ensures ∙ sym (side-all-same loadOf (loadGivesWay (store u .address)) (givesWay Filled (store u .address)) (λ e. load-gives-way e (store u .address)) (store u .before) (u .before .before .args .load-entries .now))
+
+stores-way : (c : tie.After-all-give-way2) → let u = c .before .before .before .before .before .before .before .before .before in
+    c .all-give-way2 .result ≡ all (storeGivesWay (store u .address)) (stores u)
+stores-way c =
+    let u = c .before .before .before .before .before .before .before .before .before in
+    c .all-give-way2 .ensures ∙ sym (side-all-same storeOf (storeGivesWay (store u .address)) (givesWay Finished (store u .address)) (λ e. store-gives-way e (store u .address)) (u .before .before .args .at) (u .before .before .args .store-entries .now))
+
+mul-unpack : tie.Need-mul-unpack
+mul-unpack c = search needs
+
+element-copy-out-unpack : tie.Need-element-copy-out-unpack
+element-copy-out-unpack c = search needs
+
+unpack-requires : tie.Need-unpack-requires
+unpack-requires c κs = search needs
 
 returns : tie.Need-returns
 returns c =
-    let s = c .before .before in
-    may-not-again (loads s) (stores s) (store s) (c .if1 .taken)
+    let u = c .before in
+    told u _ (may-not-again (loads u) (stores u) (store u) (c .if1 .taken))
 
 returns-2 : tie.Need-returns-2
 returns-2 c =
     let e1 = c .before .before in
-    let s = e1 .before .before in
-    may-no-address (loads s) (stores s) (store s) (e1 .if1 .left) (not-true (store s .addressed) (c .if2 .taken))
+    let u = e1 .before in
+    told u _ (may-no-address (loads u) (stores u) (store u) (e1 .if1 .left) (not-true (store u .addressed) (c .if2 .taken)))
 
 returns-3 : tie.Need-returns-3
 returns-3 c =
     let e2 = c .before .before in
     let e1 = e2 .before .before in
-    let s = e1 .before .before in
-    may-no-data (loads s) (stores s) (store s) (e1 .if1 .left) (not-false (store s .addressed) (e2 .if2 .left)) (not-true (store s .filled) (c .if3 .taken))
+    let u = e1 .before in
+    told u _ (may-no-data (loads u) (stores u) (store u) (e1 .if1 .left) (not-false (store u .addressed) (e2 .if2 .left)) (not-true (store u .filled) (c .if3 .taken)))
 
-cast-loads-give-way : tie.Need-cast-loads-give-way
-cast-loads-give-way c = search needs
+cast-all-give-way : tie.Need-cast-all-give-way
+cast-all-give-way c = search needs
 
-loads-give-way-requires : tie.Need-loads-give-way-requires
-loads-give-way-requires c κs = search needs
+all-give-way-requires : tie.Need-all-give-way-requires
+all-give-way-requires c κs =
+    let u = c .before .before .before .before .before .before in
+    rw (u .unpack .ensures) (u .before .before .pre .1)
 
 returns-4 : tie.Need-returns-4
 returns-4 c =
     let e3 = c .before .before .before in
     let e2 = e3 .before .before in
     let e1 = e2 .before .before in
-    let s = e1 .before .before in
-    may-load (loads s) (stores s) (store s) (e1 .if1 .left) (not-false (store s .addressed) (e2 .if2 .left)) (not-false (store s .filled) (e3 .if3 .left)) (sym (c .before .loads-give-way .ensures) ∙ not-true _ (c .if4 .taken))
+    let u = e1 .before in
+    told u _ (may-load (loads u) (stores u) (store u) (e1 .if1 .left) (not-false (store u .addressed) (e2 .if2 .left)) (not-false (store u .filled) (e3 .if3 .left)) (sym (loads-way (c .before)) ∙ not-true _ (c .if4 .taken)))
 
-stores-give-way-requires : tie.Need-stores-give-way-requires
-stores-give-way-requires c κs = search needs
+all-give-way-requires-2 : tie.Need-all-give-way-requires-2
+all-give-way-requires-2 c κs = search needs
 
 returns-5 : tie.Need-returns-5
 returns-5 c =
@@ -69,8 +96,8 @@ returns-5 c =
     let e3 = e4 .before .before .before in
     let e2 = e3 .before .before in
     let e1 = e2 .before .before in
-    let s = e1 .before .before in
-    may-store (loads s) (stores s) (store s) (e1 .if1 .left) (not-false (store s .addressed) (e2 .if2 .left)) (not-false (store s .filled) (e3 .if3 .left)) (sym (e4 .before .loads-give-way .ensures) ∙ not-false _ (e4 .if4 .left)) (sym (c .before .stores-give-way .ensures) ∙ not-true _ (c .if5 .taken))
+    let u = e1 .before in
+    told u _ (may-store (loads u) (stores u) (store u) (e1 .if1 .left) (not-false (store u .addressed) (e2 .if2 .left)) (not-false (store u .filled) (e3 .if3 .left)) (sym (loads-way (e4 .before)) ∙ not-false _ (e4 .if4 .left)) (sym (stores-way (c .before)) ∙ not-true _ (c .if5 .taken)))
 
 returns-6 : tie.Need-returns-6
 returns-6 c =
@@ -78,21 +105,22 @@ returns-6 c =
     let e3 = e4 .before .before .before in
     let e2 = e3 .before .before in
     let e1 = e2 .before .before in
-    let s = e1 .before .before in
-    sym (ap number (may-put (loads s) (stores s) (store s) (e1 .if1 .left) (not-false (store s .addressed) (e2 .if2 .left)) (not-false (store s .filled) (e3 .if3 .left)) (sym (e4 .before .loads-give-way .ensures) ∙ not-false _ (e4 .if4 .left)) (sym (c .before .stores-give-way .ensures) ∙ not-false _ (c .if5 .left))))
+    let u = e1 .before in
+    told u _ (sym (ap number (may-put (loads u) (stores u) (store u) (e1 .if1 .left) (not-false (store u .addressed) (e2 .if2 .left)) (not-false (store u .filled) (e3 .if3 .left)) (sym (loads-way (e4 .before)) ∙ not-false _ (e4 .if4 .left)) (sym (stores-way (c .before)) ∙ not-false _ (c .if5 .left)))))
 
 pub write-fault-spec : {M : Type 1} → statement M
 write-fault-spec =
     tie.close
     (tie.spec
-    mul-store
-    element-copy-out-store
+    mul-unpack
+    element-copy-out-unpack
+    unpack-requires
     returns
     returns-2
     returns-3
-    cast-loads-give-way
-    loads-give-way-requires
+    cast-all-give-way
+    all-give-way-requires
     returns-4
-    stores-give-way-requires
+    all-give-way-requires-2
     returns-5
     returns-6)

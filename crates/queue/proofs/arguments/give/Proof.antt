@@ -1,0 +1,75 @@
+use mathlib.Core.Path.{_≡_, ap, _∙_}
+use borrow.Author.Tests.{lt-ltb, le-ltb}
+use Rattle.queue.specs.declared.entries.Mark.{Mark}
+use Rattle.queue.specs.Contents.{firstPlace}
+use Rattle.queue.specs.Internal.{lacks, entriesIn}
+use Rattle.queue.specs.InternalArguments.{waitingAt}
+use borrow.Author.Needs.{needs}
+use Rattle.queue.proofs.arguments.give.Statement.{statement}
+use Rattle.queue.proofs.arguments.give.Tie as tie
+
+place : (c : tie.After-oldest-without) → let s = c .before .before .before in
+    c .oldest-without .result ≡ waitingAt (s .args .held) (s .args .port) (s .args .argument) (s .args .entries .now)
+place c =
+    let m = c .before .before in
+    let a = m .before .args in
+    c .oldest-without .ensures ∙ ap (λ (mark : Mark). firstPlace (lacks mark (a .port)) (entriesIn (a .held) (a .entries .now))) (m .mark-of .ensures)
+
+mark-of-requires : tie.Need-mark-of-requires
+mark-of-requires c κs = search needs
+
+oldest-without-requires : tie.Need-oldest-without-requires
+oldest-without-requires c κs = search needs
+
+returns : tie.Need-returns
+returns c =
+    let e = place (c .before) in
+    record { answers = rw (← e, le-ltb _ _ (c .if1 .taken)); leaves = rw (← e, le-ltb _ _ (c .if1 .taken)) }
+
+mul-unpack : tie.Need-mul-unpack
+mul-unpack c = search needs
+
+element-copy-out-unpack : tie.Need-element-copy-out-unpack
+element-copy-out-unpack c = search needs
+
+unpack-requires : tie.Need-unpack-requires
+unpack-requires c κs = search needs
+
+with-argument-requires : tie.Need-with-argument-requires
+with-argument-requires c κs = search needs
+
+pack-requires : tie.Need-pack-requires
+pack-requires c κs = search needs
+
+mul-entries : tie.Need-mul-entries
+mul-entries c = search needs
+
+element-write-entries : tie.Need-element-write-entries
+element-write-entries c = search needs
+
+returns-2 : tie.Need-returns-2
+returns-2 c =
+    let w = c .before in
+    let u = w .before in
+    let i = u .before .before in
+    let e = place (i .before) in
+    record {
+      answers = rw (← e, lt-ltb _ _ (i .if1 .left));
+      leaves = rw (← e, lt-ltb _ _ (i .if1 .left), c .pack .ensures, w .with-argument .ensures, u .unpack .ensures);
+    }
+
+pub give-spec : {M : Type 1} → statement M
+give-spec =
+    tie.close
+    (tie.spec
+    mark-of-requires
+    oldest-without-requires
+    returns
+    mul-unpack
+    element-copy-out-unpack
+    unpack-requires
+    with-argument-requires
+    pack-requires
+    mul-entries
+    element-write-entries
+    returns-2)

@@ -1,0 +1,74 @@
+use Prim.Native.Nat.{_+_, _≤_, _-_}
+use mathlib.Core.Path.{_≡_, sym, _∙_}
+use mathlib.Core.List.{_∷_}
+use native.Mathlib.Omega.{arith}
+use lib.ListN.{drop}
+use borrow.Author.Needs.{needs}
+use Rattle.queue.specs.Entry.{entryOf}
+use Rattle.queue.specs.Internal.{lacks, entriesIn}
+use Rattle.queue.proofs.ContentsLaws.{side-here, side-end}
+use Rattle.queue.proofs.WalkLaws.{Seeking, seeking-none, seeking-on, seeking-stop, seeking-end}
+use Rattle.queue.proofs.entries.oldest_without.Statement.{statement}
+use Rattle.queue.proofs.entries.oldest_without.Tie as tie
+
+abbrev Inv-loop : tie.InvT-loop
+Inv-loop entries held port mark count i₀ i = (i ≤ held) × Seeking (lacks mark port) (entriesIn held entries) i
+
+abbrev μ-loop : tie.MeasureT-loop
+μ-loop entries held port mark count i₀ i = count - i
+
+here : (c : tie.After-lacks Inv-loop μ-loop) → let l = c .before .before .before in let s = l .before .before in
+    drop (l .before .loop .i) (entriesIn (s .args .held) (s .args .entries .now)) ≡ c .before .unpack .result ∷ drop (l .before .loop .i + 1) (entriesIn (s .args .held) (s .args .entries .now))
+here c =
+    let l = c .before .before .before in
+    let s = l .before .before in
+    rw (c .before .unpack .ensures) (side-here entryOf 0 (s .args .held) (s .args .entries .now) (l .before .loop .i) (l .loop-test .taken))
+
+loop-holds : tie.Need-loop-holds Inv-loop μ-loop
+loop-holds c = (search needs, seeking-none)
+
+mul-unpack : tie.Need-mul-unpack Inv-loop μ-loop
+mul-unpack c = omega arith
+
+element-copy-out-unpack : tie.Need-element-copy-out-unpack Inv-loop μ-loop
+element-copy-out-unpack c = omega arith
+
+unpack-requires : tie.Need-unpack-requires Inv-loop μ-loop
+unpack-requires c κs = search needs
+
+lacks-requires : tie.Need-lacks-requires Inv-loop μ-loop
+lacks-requires c κs = search needs
+
+returns : tie.Need-returns Inv-loop μ-loop
+returns c = seeking-stop (c .before .before .before .before .before .loop .inv .1) (here (c .before)) (sym (c .before .lacks .ensures) ∙ c .if1 .taken)
+
+add-i : tie.Need-add-i Inv-loop μ-loop
+add-i c = omega arith
+
+loop-less : tie.Need-loop-less Inv-loop μ-loop
+loop-less c = omega arith
+
+loop-again : tie.Need-loop-again Inv-loop μ-loop
+loop-again c = (omega arith, seeking-on (c .before .before .before .before .before .loop .inv .1) (here (c .before)) (sym (c .before .lacks .ensures) ∙ c .if1 .left))
+
+returns-2 : tie.Need-returns-2 Inv-loop μ-loop
+returns-2 c =
+    let s = c .before .before in
+    seeking-end (c .before .loop .inv .1) (side-end entryOf 0 (s .args .held) (s .args .entries .now) (c .before .loop .i) (c .loop-test .left))
+
+pub oldest-without-spec : {M : Type 1} → statement M
+oldest-without-spec =
+    tie.close
+    (tie.spec
+    Inv-loop
+    μ-loop
+    loop-holds
+    mul-unpack
+    element-copy-out-unpack
+    unpack-requires
+    lacks-requires
+    returns
+    add-i
+    loop-less
+    loop-again
+    returns-2)

@@ -1,0 +1,71 @@
+use native.Mathlib.Omega.{arith}
+use mathlib.Core.Path.{_≡_, refl, ap, _∙_}
+use lib.ListN.{getD}
+use borrow.Author.Needs.{needs}
+use Rattle.queue.specs.declared.Counts.{Counts}
+use Rattle.queue.specs.declared.Value.the-variants as Value
+use Rattle.queue.specs.declared.arguments.Argument.the-variants as Argument
+use Rattle.queue.specs.declared.Entry.{Entry}
+use Rattle.queue.specs.Entry.{entryOf, numberOf, Small}
+use Rattle.queue.specs.Contents.{loadOf}
+use Rattle.queue.proofs.EntryLaws.{entry-small, entry-number}
+use Rattle.queue.specs.InternalArguments.{withArgument}
+use Rattle.queue.proofs.serving.served.Statement.{statement}
+use Rattle.queue.proofs.serving.served.Tie as tie
+
+mul-unpack : tie.Need-mul-unpack
+mul-unpack c = search needs
+
+element-copy-out-unpack : tie.Need-element-copy-out-unpack
+element-copy-out-unpack c = search needs
+
+unpack-requires : tie.Need-unpack-requires
+unpack-requires c κs = search needs
+
+with-argument-requires : tie.Need-with-argument-requires
+with-argument-requires c κs = search needs
+
+pack-requires : tie.Need-pack-requires
+pack-requires c κs = search needs
+
+mul-load-entries : tie.Need-mul-load-entries
+mul-load-entries c = search needs
+
+element-write-load-entries : tie.Need-element-write-load-entries
+element-write-load-entries c = search needs
+
+counted-requires : tie.Need-counted-requires
+counted-requires c κs = search needs
+
+-- the entry that is put in place is the one with its value
+packed : (c : tie.After-pack) → let s = c .before .before .before .before in
+    entryOf (c .pack .result) ≡ withArgument (Argument.Word (s .args .word)) (entryOf (getD (s .args .load-entries .now) (s .args .at) 0))
+packed c =
+    let s = c .before .before .before .before in
+    let e : Entry = entryOf (getD (s .args .load-entries .now) (s .args .at) 0) in
+    let k : Small e = entry-small (getD (s .args .load-entries .now) (s .args .at) 0) in
+    let now : Entry = withArgument (Argument.Word (s .args .word)) e in
+    ap entryOf (c .pack .ensures ∙ ap numberOf (c .before .with-argument .ensures ∙ ap (withArgument (Argument.Word (s .args .word))) (c .before .before .unpack .ensures)))
+    ∙ entry-number now (record { port = k .port; before = k .before; address = k .address; word = omega arith })
+
+returns : tie.Need-returns
+returns c =
+    let p = c .before in
+    let s = p .before .before .before .before in (
+      ap (λ (k : Counts). record { answer = 0; value = Value.Word (s .args .word); counts = k }) (c .counted .ensures),
+      record { number = p .pack .result; holds = ap loadOf (packed p); leaves = refl },
+    )
+
+pub served-spec : {M : Type 1} → statement M
+served-spec =
+    tie.close
+    (tie.spec
+    mul-unpack
+    element-copy-out-unpack
+    unpack-requires
+    with-argument-requires
+    pack-requires
+    mul-load-entries
+    element-write-load-entries
+    counted-requires
+    returns)

@@ -1,0 +1,83 @@
+use Prim.Native.Nat.{_+_, _≤_, _-_}
+use mathlib.Core.Path.{_≡_, sym, ap, _∙_}
+use mathlib.Core.List.{_∷_}
+use native.Mathlib.Omega.{arith}
+use lib.ListN.{getD, drop}
+use borrow.Author.Needs.{needs}
+use borrow.Author.Tests.{not-true, not-false}
+use Rattle.queue.specs.Entry.{entryOf}
+use Rattle.queue.specs.Internal.{entriesIn}
+use Rattle.queue.specs.InternalWrite.{givesWay}
+use Rattle.queue.proofs.ContentsLaws.{side-here, side-end}
+use Rattle.queue.proofs.WalkLaws.{AllYet, all-none, all-on, all-stop, all-end}
+use Rattle.queue.proofs.writing.all_give_way.Statement.{statement}
+use Rattle.queue.proofs.writing.all_give_way.Tie as tie
+
+abbrev Inv-loop : tie.InvT-loop
+Inv-loop entries n done address i₀ i = (i ≤ n) × AllYet (givesWay done address) (entriesIn n entries) i
+
+abbrev μ-loop : tie.MeasureT-loop
+μ-loop entries n done address i₀ i = n - i
+
+here : (l : tie.In-loop Inv-loop μ-loop) → let s = l .before .before in
+    drop (l .before .loop .i) (entriesIn (s .args .n) (s .args .entries .now))
+    ≡ entryOf (getD (s .args .entries .now) (l .before .loop .i) 0) ∷ drop (l .before .loop .i + 1) (entriesIn (s .args .n) (s .args .entries .now))
+here l = side-here entryOf 0 _ _ _ (l .loop-test .taken)
+
+-- what was found of the entry that a turn looks at
+found : (c : tie.After-gives-way Inv-loop μ-loop) → let l = c .before .before .before in let s = l .before .before in
+    givesWay (s .args .done) (s .args .address) (entryOf (getD (s .args .entries .now) (l .before .loop .i) 0)) ≡ c .gives-way .result
+found c =
+    let s = c .before .before .before .before .before in
+    sym (c .gives-way .ensures ∙ ap (givesWay (s .args .done) (s .args .address)) (c .before .unpack .ensures))
+
+loop-holds : tie.Need-loop-holds Inv-loop μ-loop
+loop-holds c = (search needs, all-none)
+
+mul-unpack : tie.Need-mul-unpack Inv-loop μ-loop
+mul-unpack c = omega arith
+
+element-copy-out-unpack : tie.Need-element-copy-out-unpack Inv-loop μ-loop
+element-copy-out-unpack c = omega arith
+
+unpack-requires : tie.Need-unpack-requires Inv-loop μ-loop
+unpack-requires c κs = search needs
+
+gives-way-requires : tie.Need-gives-way-requires Inv-loop μ-loop
+gives-way-requires c κs = search needs
+
+returns : tie.Need-returns Inv-loop μ-loop
+returns c =
+    let l = c .before .before .before .before in
+    all-stop (l .before .loop .inv .1) (here l) (found (c .before) ∙ not-true _ (c .if1 .taken))
+
+add-i : tie.Need-add-i Inv-loop μ-loop
+add-i c = omega arith
+
+loop-less : tie.Need-loop-less Inv-loop μ-loop
+loop-less c = omega arith
+
+loop-again : tie.Need-loop-again Inv-loop μ-loop
+loop-again c =
+    let l = c .before .before .before .before in
+    (omega arith, all-on (l .before .loop .inv .1) (here l) (found (c .before) ∙ not-false _ (c .if1 .left)))
+
+returns-2 : tie.Need-returns-2 Inv-loop μ-loop
+returns-2 c = all-end (c .before .loop .inv .1) (side-end entryOf 0 _ (c .before .before .args .entries .now) _ (c .loop-test .left))
+
+pub all-give-way-spec : {M : Type 1} → statement M
+all-give-way-spec =
+    tie.close
+    (tie.spec
+    Inv-loop
+    μ-loop
+    loop-holds
+    mul-unpack
+    element-copy-out-unpack
+    unpack-requires
+    gives-way-requires
+    returns
+    add-i
+    loop-less
+    loop-again
+    returns-2)

@@ -1,0 +1,82 @@
+use Prim.Native.Nat.{_+_, _≤_, _-_}
+use mathlib.Core.Path.{_≡_, sym, ap, _∙_}
+use mathlib.Core.List.{_∷_}
+use native.Mathlib.Omega.{arith}
+use lib.ListN.{getD, drop}
+use borrow.Author.Needs.{needs}
+use borrow.Author.Tests.{not-true, not-false}
+use Rattle.queue.specs.Entry.{entryOf}
+use Rattle.queue.specs.Internal.{entriesIn, finished}
+use Rattle.queue.proofs.ContentsLaws.{side-here, side-end}
+use Rattle.queue.proofs.WalkLaws.{Leaving, leaving-none, leaving-on, leaving-stop, leaving-end}
+use Rattle.queue.proofs.writing.finished.Statement.{statement}
+use Rattle.queue.proofs.writing.finished.Tie as tie
+
+abbrev Inv-loop : tie.InvT-loop
+Inv-loop entries held i₀ i = (i ≤ held) × Leaving finished (entriesIn held entries) i
+
+abbrev μ-loop : tie.MeasureT-loop
+μ-loop entries held i₀ i = held - i
+
+here : (l : tie.In-loop Inv-loop μ-loop) → let s = l .before .before in
+    drop (l .before .loop .i) (entriesIn (s .args .held) (s .args .entries .now))
+    ≡ entryOf (getD (s .args .entries .now) (l .before .loop .i) 0) ∷ drop (l .before .loop .i + 1) (entriesIn (s .args .held) (s .args .entries .now))
+here l = side-here entryOf 0 _ _ _ (l .loop-test .taken)
+
+-- the entry that a turn looks at
+found : (c : tie.After-unpack Inv-loop μ-loop) → let l = c .before .before in
+    finished (entryOf (getD (l .before .before .args .entries .now) (l .before .loop .i) 0)) ≡ finished (c .unpack .result)
+found c = sym (ap finished (c .unpack .ensures))
+
+loop-holds : tie.Need-loop-holds Inv-loop μ-loop
+loop-holds c = (search needs, leaving-none)
+
+cast-at : tie.Need-cast-at Inv-loop μ-loop
+cast-at c = omega arith
+
+mul-unpack : tie.Need-mul-unpack Inv-loop μ-loop
+mul-unpack c = omega arith
+
+element-copy-out-unpack : tie.Need-element-copy-out-unpack Inv-loop μ-loop
+element-copy-out-unpack c = omega arith
+
+unpack-requires : tie.Need-unpack-requires Inv-loop μ-loop
+unpack-requires c κs = search needs
+
+returns : tie.Need-returns Inv-loop μ-loop
+returns c =
+    let u = c .before .before in
+    let l = u .before .before in
+    leaving-stop (l .before .loop .inv .1) (here l) (found u ∙ not-true _ (c .if1 .taken))
+
+add-i : tie.Need-add-i Inv-loop μ-loop
+add-i c = omega arith
+
+loop-less : tie.Need-loop-less Inv-loop μ-loop
+loop-less c = omega arith
+
+loop-again : tie.Need-loop-again Inv-loop μ-loop
+loop-again c =
+    let u = c .before .before in
+    let l = u .before .before in
+    (omega arith, leaving-on (l .before .loop .inv .1) (here l) (found u ∙ not-false _ (c .if1 .left)))
+
+returns-2 : tie.Need-returns-2 Inv-loop μ-loop
+returns-2 c = leaving-end (c .before .loop .inv .1) (side-end entryOf 0 _ (c .before .before .args .entries .now) _ (c .loop-test .left))
+
+pub finished-spec : {M : Type 1} → statement M
+finished-spec =
+    tie.close
+    (tie.spec
+    Inv-loop
+    μ-loop
+    loop-holds
+    cast-at
+    mul-unpack
+    element-copy-out-unpack
+    unpack-requires
+    returns
+    add-i
+    loop-less
+    loop-again
+    returns-2)

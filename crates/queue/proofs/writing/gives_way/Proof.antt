@@ -1,0 +1,24 @@
+use mathlib.Core.Path.{sym, _∙_}
+use borrow.Author.Needs.{needs}
+use borrow.Author.Tests.{not-true, not-false}
+use Rattle.queue.proofs.writing.gives_way.Statement.{statement}
+use Rattle.queue.proofs.writing.gives_way.Tie as tie
+
+has-requires : tie.Need-has-requires
+has-requires c κs = search needs
+
+returns : tie.Need-returns
+returns c = rw (sym (c .before .has .ensures) ∙ c .if1 .taken)
+
+returns-2 : tie.Need-returns-2
+returns-2 c =
+    let e = c .before .before in
+    rw (sym (e .before .has .ensures) ∙ e .if1 .left, not-true (e .before .before .args .entry .addressed) (c .if2 .taken))
+
+returns-3 : tie.Need-returns-3
+returns-3 c =
+    let e = c .before .before .before in
+    rw (sym (e .before .has .ensures) ∙ e .if1 .left, not-false (e .before .before .args .entry .addressed) (c .before .if2 .left))
+
+pub gives-way-spec : {M : Type 1} → statement M
+gives-way-spec = tie.close (tie.spec has-requires returns returns-2 returns-3)

@@ -1,0 +1,66 @@
+use Prim.Native.Nat.{_≤_}
+use native.Mathlib.Omega.{arith}
+use borrow.Author.Needs.{needs}
+use Rattle.queue.specs.Entry.{entryOf}
+use Rattle.queue.specs.Internal.{finished}
+use Rattle.queue.proofs.SettleLaws.{side-leaving, settle-sides}
+use Rattle.queue.proofs.writing.settle.Statement.{statement}
+use Rattle.queue.proofs.writing.settle.Tie as tie
+
+abbrev start : tie.After-finished → tie.Start
+start f = f .before .before .before .before
+
+-- no more leave than are held
+loads-most : (f : tie.After-finished) → f .finished .result ≤ start f .args .frame .loads .count
+loads-most f =
+    let s = start f in
+    omega (arith, f .finished .ensures, side-leaving finished entryOf 0 (s .args .frame .loads .count) (s .args .load-entries .now))
+
+stores-most : (f : tie.After-finished2) → f .finished2 .result ≤ start (f .before .before) .args .frame .stores .count
+stores-most f =
+    let s = start (f .before .before) in
+    omega (arith, f .finished2 .ensures, side-leaving finished entryOf 0 (s .args .frame .stores .count) (s .args .store-entries .now))
+
+finished-requires : tie.Need-finished-requires
+finished-requires c κs = search needs
+
+finished-requires-2 : tie.Need-finished-requires-2
+finished-requires-2 c κs = search needs
+
+shorter-requires : tie.Need-shorter-requires
+shorter-requires c κs = loads-most (c .before .before)
+
+shorter-requires-2 : tie.Need-shorter-requires-2
+shorter-requires-2 c κs = stores-most (c .before)
+
+shift-requires : tie.Need-shift-requires
+shift-requires c κs =
+    let f = c .before .before .before .before .before in
+    (rw (c .before .before .shorter .ensures) (omega (arith, loads-most f, start f .pre .0)), start f .pre .2)
+
+shift-requires-2 : tie.Need-shift-requires-2
+shift-requires-2 c κs =
+    let f = c .before .before .before .before .before in
+    (rw (c .before .before .before .shorter2 .ensures) (omega (arith, stores-most f, start (f .before .before) .pre .1)), start (f .before .before) .pre .3)
+
+returns : tie.Need-returns
+returns c =
+    let a = c .before .before .before in
+    let b = a .before .before in
+    let l = b .before .shorter .ensures in
+    let s = b .shorter2 .ensures in
+    let f = b .before .before in
+    rw (l, s)
+    (settle-sides (start (f .before .before) .args .frame) (f .before .before .finished .ensures) (f .finished2 .ensures) (rw l at (a .shift .ensures)) (rw s at (c .before .shift2 .ensures)))
+
+pub settle-spec : {M : Type 1} → statement M
+settle-spec =
+    tie.close
+    (tie.spec
+    finished-requires
+    finished-requires-2
+    shorter-requires
+    shorter-requires-2
+    shift-requires
+    shift-requires-2
+    returns)

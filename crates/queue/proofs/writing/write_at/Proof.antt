@@ -1,0 +1,173 @@
+-- The store at the place: refused by the rule in its order, or its word is put in memory, it is marked finished, and finished entries leave.
+use Prim.Native.Nat.{ℕ, _≤_, _<_}
+use native.Mathlib.Nat.{le-trans}
+use native.Mathlib.Omega.{arith}
+use mathlib.Core.Path.{_≡_, refl, sym, ap, _∙_}
+use lib.ListN.{length, getD}
+use borrow.Author.Needs.{needs, set-long}
+use Rattle.queue.specs.declared.Entry.{Entry}
+use Rattle.queue.specs.declared.Queue.{Queue}
+use Rattle.queue.specs.declared.Outcome.{Outcome}
+use Rattle.queue.specs.declared.Value.the-variants.{Nothing}
+use Rattle.queue.specs.declared.answering.Step.{Step}
+use Rattle.queue.specs.Entry.{entryOf, numberOf}
+use Rattle.queue.specs.Ruled.{accept, andThen}
+use Rattle.queue.specs.Contents.{storeOf, storeIn, contentsOf}
+use Rattle.queue.specs.Write.{storeDone, settle}
+use Rattle.queue.specs.Internal.{queueOf, outcomeOf, loadsIn, storesIn}
+use Rattle.queue.specs.InternalWrite.{mayWriteAt, writtenWith, writeAt}
+use Rattle.queue.proofs.ContentsLaws.{store-anew}
+use Rattle.queue.proofs.EntryLaws.{done, done-number}
+use Rattle.queue.proofs.SoundLaws.{loads-few, stores-few, store-before, store-address}
+use Rattle.queue.proofs.WriteLaws.{refused-number, Puts, may-puts, write-none, write-held}
+use Rattle.queue.proofs.writing.write_at.Statement.{statement}
+use Rattle.queue.proofs.writing.write_at.Tie as tie
+
+abbrev start : tie.Else1 → tie.Start
+start e = e .before .before .before .before
+
+-- the queue, and the store at the place
+abbrev queue : tie.Start → Queue
+queue s = queueOf (s .args .frame) (s .args .load-entries .now) (s .args .store-entries .now)
+
+-- what is handed back where the entries are as they were
+abbrev unchanged : tie.Start → Step → Outcome
+unchanged s t = outcomeOf t (s .args .load-entries .now) (s .args .store-entries .now)
+
+abbrev store : tie.Start → Entry
+store s = entryOf (getD (s .args .store-entries .now) (s .args .place) 0)
+
+stores-room : (s : tie.Start) → s .args .frame .stores .count ≤ length (s .args .store-entries .now)
+stores-room s = omega (arith, stores-few (queue s) (s .pre .0), s .pre .3)
+
+before-few : (e : tie.Else1) → store (start e) .before ≤ start e .args .frame .loads .count
+before-few e = let s = start e in store-before (queue s) (s .pre .0) (s .args .place) (e .if1 .left)
+
+placed : (e : tie.Else1) → start e .args .place < 64
+placed e = let s = start e in le-trans (e .if1 .left) (stores-few (queue s) (s .pre .0))
+
+-- what the rule says, once the place is one of the queue
+held : (e : tie.Else1) → let s = start e in
+    writeAt (contentsOf (queue s)) (s .args .memory .now) (s .args .place)
+    ≡ andThen (mayWriteAt (s .args .load-entries .now) (s .args .store-entries .now) (s .args .place)) λ p. accept (writtenWith (contentsOf (queue s)) (s .args .memory .now) (s .args .place) p)
+held e = let s = start e in write-held (queue s) (s .args .memory .now) (s .args .place) (e .if1 .left) (before-few e)
+
+-- what is put where
+puts : (c : tie.Else2) → let s = start (c .before .before .before .before) in
+    Puts (loadsIn (store s .before) (s .args .load-entries .now)) (storesIn (s .args .place) (s .args .store-entries .now)) (store s)
+puts c =
+    let s = start (c .before .before .before .before) in
+    may-puts (loadsIn (store s .before) (s .args .load-entries .now)) (storesIn (s .args .place) (s .args .store-entries .now)) (store s) (sym (c .before .write-fault .ensures) ∙ c .if2 .left)
+
+-- the number put in the store's place
+put : (c : tie.After-pack) → let u = c .before .before in let s = start (u .before .before .before .before .before .before) in
+    storeIn (c .pack .result) ≡ storeDone (storeOf (store s))
+put c =
+    let u = c .before .before in
+    let s = start (u .before .before .before .before .before .before) in
+    ap storeIn (c .pack .ensures ∙ ap (λ (e : Entry). numberOf (done e)) (u .unpack .ensures)) ∙ ap storeOf (done-number (getD (s .args .store-entries .now) (s .args .place) 0))
+
+cast-if1 : tie.Need-cast-if1
+cast-if1 c = search needs
+
+refused-requires : tie.Need-refused-requires
+refused-requires c κs = search needs
+
+returns : tie.Need-returns
+returns c =
+    let s = c .before .before .before .before .before in
+    rw (write-none (queue s) (s .args .memory .now) (s .args .place) (c .before .if1 .taken))
+    (record { outcome = ap (unchanged s) (c .refused .ensures); memory-is = refl })
+
+write-fault-requires : tie.Need-write-fault-requires
+write-fault-requires c κs =
+    let e1 = c .before .before in
+    let s = start e1 in
+    (placed e1, le-trans (before-few e1) (loads-few (queue s) (s .pre .0)))
+
+refused-requires-2 : tie.Need-refused-requires-2
+refused-requires-2 c κs = search needs
+
+returns-2 : tie.Need-returns-2
+returns-2 c =
+    let w = c .before .before in
+    let e1 = w .before .before .before in
+    let s = start e1 in
+    rw (held e1, refused-number (mayWriteAt (s .args .load-entries .now) (s .args .store-entries .now) (s .args .place)) (λ z. c .before .if2 .taken (w .write-fault .ensures ∙ z)), ← w .write-fault .ensures)
+    (record { outcome = ap (unchanged s) (c .refused2 .ensures); memory-is = refl })
+
+mul-unpack : tie.Need-mul-unpack
+mul-unpack c = search needs
+
+element-copy-out-unpack : tie.Need-element-copy-out-unpack
+element-copy-out-unpack c = placed (c .before .before .before .before)
+
+unpack-requires : tie.Need-unpack-requires
+unpack-requires c κs = search needs
+
+cast-memory : tie.Need-cast-memory
+cast-memory c = search needs
+
+mul-memory : tie.Need-mul-memory
+mul-memory c = search needs
+
+slice-write-memory : tie.Need-slice-write-memory
+slice-write-memory c =
+    let e2 = c .before .before .before in
+    let e1 = e2 .before .before .before .before in
+    let s = start e1 in
+    rw (s .pre .1, c .before .unpack .ensures) (store-address (queue s) (s .pre .0) (s .args .place) (e1 .if1 .left) (puts e2 .addressed))
+
+pack-requires : tie.Need-pack-requires
+pack-requires c κs = search needs
+
+mul-store-entries : tie.Need-mul-store-entries
+mul-store-entries c = search needs
+
+element-write-store-entries : tie.Need-element-write-store-entries
+element-write-store-entries c = placed (c .before .before .before .before .before .before .before .before)
+
+settle-requires : tie.Need-settle-requires
+settle-requires c κs =
+    let p = c .before .before in
+    let s = start (p .before .before .before .before .before .before .before .before) in
+    (loads-few (queue s) (s .pre .0), stores-few (queue s) (s .pre .0), s .pre .2, set-long ℕ (s .args .store-entries .now) (s .args .place) 64 (p .pack .result) (s .pre .3))
+
+same-length : tie.Need-same-length
+same-length c = search needs
+
+returns-3 : tie.Need-returns-3
+returns-3 c =
+    let p = c .before .before .before in
+    let u = p .before .before in
+    let e2 = u .before .before in
+    let e1 = e2 .before .before .before .before in
+    let s = start e1 in
+    rw (held e1, puts e2 .put)
+    (record {
+      outcome = record { answer = refl {a = 0}; gives = refl {a = Nothing}; holds = c .settle .ensures ∙ ap settle (store-anew (queue s) storeDone (s .args .place) (p .pack .result) (stores-room s) (e1 .if1 .left) (put p)) };
+      memory-is = rw (u .unpack .ensures);
+    })
+
+pub write-at-spec : {M : Type 1} → statement M
+write-at-spec =
+    tie.close
+    (tie.spec
+    cast-if1
+    refused-requires
+    returns
+    write-fault-requires
+    refused-requires-2
+    returns-2
+    mul-unpack
+    element-copy-out-unpack
+    unpack-requires
+    cast-memory
+    mul-memory
+    slice-write-memory
+    pack-requires
+    mul-store-entries
+    element-write-store-entries
+    settle-requires
+    same-length
+    returns-3)

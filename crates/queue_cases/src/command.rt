@@ -1,12 +1,12 @@
 // The commands: their names, how many numbers each takes, and how large these may be.
-ghost use Prim.Native.Nat.{_<_, _≤_};
+ghost use Prim.Native.Nat.{_<_};
 use crate::script;
 use crate::script::Arguments;
 
 // The names, in the order of the numbers below.
-const NAMES: [u8; 321] =
+const NAMES: [u8; 333] =
     *b"activate load-address store-address store-data take serve write ready-loads ready-stores \
-each open memory counts count share show sound set-load-depth set-load-count set-load-next set-store-depth \
+each open memory counts count share show sound unpack pack set-load-depth set-load-count set-load-next set-store-depth \
 set-store-count set-store-next set-words set-load set-store set-groups set-group set-load-pair set-store-pair put-table table";
 
 pub(crate) const ACTIVATE: usize = 0;
@@ -39,32 +39,36 @@ pub(crate) const SHARE: usize = 14;
 
 pub(crate) const SHOW: usize = 15;
 
+pub(crate) const UNPACK: usize = 17;
+
+pub(crate) const PACK: usize = 18;
+
 // The first of the commands that set a part of a record.
-pub(crate) const SET_LOAD_DEPTH: usize = 17;
+pub(crate) const SET_LOAD_DEPTH: usize = 19;
 
-pub(crate) const SET_STORE_DEPTH: usize = 20;
+pub(crate) const SET_STORE_DEPTH: usize = 22;
 
-pub(crate) const SET_WORDS: usize = 23;
+pub(crate) const SET_WORDS: usize = 25;
 
-pub(crate) const SET_LOAD: usize = 24;
+pub(crate) const SET_LOAD: usize = 26;
 
-pub(crate) const SET_STORE: usize = 25;
+pub(crate) const SET_STORE: usize = 27;
 
-pub(crate) const SET_GROUPS: usize = 26;
+pub(crate) const SET_GROUPS: usize = 28;
 
-pub(crate) const SET_GROUP: usize = 27;
+pub(crate) const SET_GROUP: usize = 29;
 
-pub(crate) const SET_LOAD_PAIR: usize = 28;
+pub(crate) const SET_LOAD_PAIR: usize = 30;
 
-pub(crate) const SET_STORE_PAIR: usize = 29;
+pub(crate) const SET_STORE_PAIR: usize = 31;
 
-pub(crate) const PUT_TABLE: usize = 30;
+pub(crate) const PUT_TABLE: usize = 32;
 
-pub(crate) const TABLE: usize = 31;
+pub(crate) const TABLE: usize = 33;
 
 // The numbers that each takes before `table`, eight letters for each: `.` none, `w` any, `o` any or none, `f` to 1, `g` to 15,
 // `q` to 31, `p` to 63, `r` to 80, `b` to 255, `h` to 65535.
-const SHAPES: [u8; 248] = *b"\
+const SHAPES: [u8; 264] = *b"\
 w.......\
 ww......\
 ww......\
@@ -82,6 +86,8 @@ f.......\
 ........\
 ........\
 ........\
+ww......\
+bbfhfwf.\
 b.......\
 b.......\
 w.......\
@@ -89,8 +95,8 @@ b.......\
 b.......\
 w.......\
 h.......\
-pbbfhfwf\
-pbbfhfwf\
+pqbfhfwf\
+pqbfhfwf\
 b.......\
 gbbbb...\
 qbb.....\
@@ -121,15 +127,15 @@ fn place(names: &[u8], word: &[u8]) -> usize {
             return number;
         }
         if end == names.len() {
-            return 32;
+            return 34;
         }
         number += 1;
         at = end + 1;
     }
-    32
+    34
 }
 
-// The command of that name, or 32.
+// The command of that name, or 34.
 pub(crate) fn named(word: &[u8]) -> usize {
     place(&NAMES, word)
 }
@@ -163,7 +169,7 @@ fn fits(letter: u8, given: bool, value: u32) -> bool {
 }
 
 fn all_fit(command: usize, arguments: Arguments) -> bool
-    requires { ⌜ command < 31 ⌝ }
+    requires { ⌜ command < 33 ⌝ }
 {
     let mut i: usize = 0;
     while i < 8 {

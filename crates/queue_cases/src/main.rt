@@ -3,6 +3,7 @@
 
 mod calls;
 mod command;
+mod packing;
 mod ready;
 mod records;
 mod run;

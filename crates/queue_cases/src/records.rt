@@ -2,11 +2,11 @@
 // fields is tested before (`command::takes`), so no remainder below changes a number.
 use crate::command;
 use crate::run::Run;
-use queue::LoadEntry;
-use queue::Loads;
+use queue::Entry;
+use queue::Frame;
 use queue::Queue;
-use queue::StoreEntry;
-use queue::Stores;
+use queue::Side;
+use queue::entries::pack;
 use table::Pair;
 use table::Span;
 use table::Table;
@@ -16,24 +16,7 @@ fn byte(value: u32) -> u8 {
 }
 
 // Field 0 is the depth, 1 the count, 2 the next serial.
-fn with_load_field(mut side: Loads, field: usize, value: u32) -> Loads {
-    match field {
-        0 => {
-            side.depth = byte(value);
-            side
-        }
-        1 => {
-            side.count = byte(value);
-            side
-        }
-        _ => {
-            side.next = value;
-            side
-        }
-    }
-}
-
-fn with_store_field(mut side: Stores, field: usize, value: u32) -> Stores {
+fn with_field(mut side: Side, field: usize, value: u32) -> Side {
     match field {
         0 => {
             side.depth = byte(value);
@@ -51,60 +34,43 @@ fn with_store_field(mut side: Stores, field: usize, value: u32) -> Stores {
 }
 
 // A depth, a count, a next serial or the memory length.
-fn with_number(mut queue: Queue, command: usize, value: u32) -> Queue {
+fn with_number(mut frame: Frame, command: usize, value: u32) -> Frame {
     if command == command::SET_WORDS {
-        queue.words = (value % 65536) as u16;
-        return queue;
+        frame.words = (value % 65536) as u16;
+        return frame;
     }
     // Of each side the commands come in the order of the fields.
     if command < command::SET_STORE_DEPTH {
-        let side = queue.loads;
-        queue.loads = with_load_field(side, command % command::SET_LOAD_DEPTH, value);
-        return queue;
+        let side = frame.loads;
+        frame.loads = with_field(side, command % command::SET_LOAD_DEPTH, value);
+        return frame;
     }
-    let side = queue.stores;
-    queue.stores = with_store_field(side, command % command::SET_STORE_DEPTH, value);
-    queue
+    let side = frame.stores;
+    frame.stores = with_field(side, command % command::SET_STORE_DEPTH, value);
+    frame
 }
 
-// Of the numbers: place, port, remembered number, addressed, address, served, value, taken.
-fn load_of(numbers: [u32; 8]) -> LoadEntry {
-    LoadEntry {
-        port: byte(numbers[1]),
-        before: byte(numbers[2]),
-        addressed: numbers[3] == 1,
-        served: numbers[5] == 1,
-        taken: numbers[7] == 1,
-        address: (numbers[4] % 65536) as u16,
-        value: numbers[6],
-    }
-}
-
-// Of the numbers: place, port, remembered number, addressed, address, filled, data, written.
-fn store_of(numbers: [u32; 8]) -> StoreEntry {
-    StoreEntry {
-        port: byte(numbers[1]),
-        before: byte(numbers[2]),
-        addressed: numbers[3] == 1,
-        filled: numbers[5] == 1,
-        written: numbers[7] == 1,
-        address: (numbers[4] % 65536) as u16,
-        word: numbers[6],
+// Of the numbers: port, remembered number, addressed, address, filled (served), word, finished.
+pub(crate) fn entry_of(numbers: [u32; 8]) -> Entry {
+    Entry {
+        port: byte(numbers[0]),
+        before: byte(numbers[1]),
+        addressed: numbers[2] == 1,
+        filled: numbers[4] == 1,
+        finished: numbers[6] == 1,
+        address: (numbers[3] % 65536) as u16,
+        word: numbers[5],
     }
 }
 
-fn with_load(mut queue: Queue, place: u32, entry: LoadEntry) -> Queue {
-    let mut side = queue.loads;
-    side.entries[(place % 64) as usize] = entry;
-    queue.loads = side;
-    queue
+// The numbers behind the first.
+fn rest(n: [u32; 8]) -> [u32; 8] {
+    [n[1], n[2], n[3], n[4], n[5], n[6], n[7], 0]
 }
 
-fn with_store(mut queue: Queue, place: u32, entry: StoreEntry) -> Queue {
-    let mut side = queue.stores;
-    side.entries[(place % 64) as usize] = entry;
-    queue.stores = side;
-    queue
+// Of the numbers: place, then the entry's.
+fn packed(numbers: [u32; 8]) -> u64 {
+    pack(entry_of(rest(numbers)))
 }
 
 // Of the numbers: group, first load's place, loads, first store's place, stores.
@@ -152,14 +118,26 @@ fn table_with(mut table: Table, command: usize, numbers: [u32; 8]) -> Table {
 }
 
 fn queue_with(mut queue: Queue, table: Table, command: usize, numbers: [u32; 8]) -> Queue {
+    let place = (numbers[0] % 64) as usize;
+    let mut frame = queue.frame;
     match command {
-        command::SET_LOAD => with_load(queue, numbers[0], load_of(numbers)),
-        command::SET_STORE => with_store(queue, numbers[0], store_of(numbers)),
-        command::PUT_TABLE => {
-            queue.table = table;
+        command::SET_LOAD => {
+            queue.load_entries[place] = packed(numbers);
             queue
         }
-        _ => with_number(queue, command, numbers[0]),
+        command::SET_STORE => {
+            queue.store_entries[place] = packed(numbers);
+            queue
+        }
+        command::PUT_TABLE => {
+            frame.table = table;
+            queue.frame = frame;
+            queue
+        }
+        _ => {
+            queue.frame = with_number(frame, command, numbers[0]);
+            queue
+        }
     }
 }
 

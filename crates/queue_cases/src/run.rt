@@ -1,5 +1,6 @@
 // What the script works on: a queue, the table to open with, the memory and the counts that are lent.
 use crate::command;
+use crate::packing;
 use crate::script::Arguments;
 use crate::script::Bytes;
 use crate::show;
@@ -105,11 +106,14 @@ fn count(mut run: Run, forwarded: bool) -> Run {
 }
 
 fn show_queue(queue: Queue) {
-    let loads = queue.loads;
-    let stores = queue.stores;
-    show::number(b": words ", queue.words as u64);
-    show::loads(loads);
-    show::stores(stores);
+    let frame = queue.frame;
+    let loads = frame.loads;
+    let stores = frame.stores;
+    let load_entries = queue.load_entries;
+    let store_entries = queue.store_entries;
+    show::number(b": words ", frame.words as u64);
+    show::side(true, loads, load_entries);
+    show::side(false, stores, store_entries);
 }
 
 fn show_counts(counts: Counts) {
@@ -156,6 +160,14 @@ pub(crate) fn other(run: Run, command: usize, arguments: Arguments) -> Run {
         command::COUNT => count(run, numbers[0] == 1),
         command::SHARE => share(run),
         command::SHOW => show_all(run),
+        command::UNPACK => {
+            packing::unpack(numbers[0], numbers[1]);
+            run
+        }
+        command::PACK => {
+            packing::pack(numbers);
+            run
+        }
         _ => sound(run),
     }
 }

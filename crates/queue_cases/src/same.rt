@@ -1,10 +1,9 @@
 // Are two records the same, field by field? Every place is compared, beyond the counts too.
 use queue::Counts;
-use queue::LoadEntry;
-use queue::Loads;
+use queue::Entry;
+use queue::Frame;
 use queue::Queue;
-use queue::StoreEntry;
-use queue::Stores;
+use queue::Side;
 use table::Pair;
 use table::Span;
 use table::Table;
@@ -70,29 +69,7 @@ fn same_table(a: Table, b: Table) -> bool {
     same_pairs(a_stores, b_stores)
 }
 
-fn same_load(a: LoadEntry, b: LoadEntry) -> bool {
-    if a.port != b.port {
-        return false;
-    }
-    if a.before != b.before {
-        return false;
-    }
-    if a.addressed != b.addressed {
-        return false;
-    }
-    if a.served != b.served {
-        return false;
-    }
-    if a.taken != b.taken {
-        return false;
-    }
-    if a.address != b.address {
-        return false;
-    }
-    a.value == b.value
-}
-
-fn same_store(a: StoreEntry, b: StoreEntry) -> bool {
+pub(crate) fn same_entry(a: Entry, b: Entry) -> bool {
     if a.port != b.port {
         return false;
     }
@@ -105,7 +82,7 @@ fn same_store(a: StoreEntry, b: StoreEntry) -> bool {
     if a.filled != b.filled {
         return false;
     }
-    if a.written != b.written {
+    if a.finished != b.finished {
         return false;
     }
     if a.address != b.address {
@@ -114,12 +91,11 @@ fn same_store(a: StoreEntry, b: StoreEntry) -> bool {
     a.word == b.word
 }
 
-fn same_load_entries(a: Loads, b: Loads) -> bool {
+// Entries are compared as the queue holds them, packed: two numbers that differ hold entries that differ.
+fn same_entries(a: [u64; 64], b: [u64; 64]) -> bool {
     let mut i: usize = 0;
     while i < 64 {
-        let x = a.entries[i];
-        let y = b.entries[i];
-        if !same_load(x, y) {
+        if a[i] != b[i] {
             return false;
         }
         i += 1;
@@ -127,57 +103,17 @@ fn same_load_entries(a: Loads, b: Loads) -> bool {
     true
 }
 
-fn same_store_entries(a: Stores, b: Stores) -> bool {
-    let mut i: usize = 0;
-    while i < 64 {
-        let x = a.entries[i];
-        let y = b.entries[i];
-        if !same_store(x, y) {
-            return false;
-        }
-        i += 1;
-    }
-    true
-}
-
-fn same_loads(a: Loads, b: Loads) -> bool {
+fn same_side(a: Side, b: Side) -> bool {
     if a.depth != b.depth {
         return false;
     }
     if a.count != b.count {
         return false;
     }
-    if a.next != b.next {
-        return false;
-    }
-    same_load_entries(a, b)
+    a.next == b.next
 }
 
-fn same_stores(a: Stores, b: Stores) -> bool {
-    if a.depth != b.depth {
-        return false;
-    }
-    if a.count != b.count {
-        return false;
-    }
-    if a.next != b.next {
-        return false;
-    }
-    same_store_entries(a, b)
-}
-
-fn same_sides(a: Queue, b: Queue) -> bool {
-    let a_loads = a.loads;
-    let b_loads = b.loads;
-    if !same_loads(a_loads, b_loads) {
-        return false;
-    }
-    let a_stores = a.stores;
-    let b_stores = b.stores;
-    same_stores(a_stores, b_stores)
-}
-
-pub(crate) fn same_queue(a: Queue, b: Queue) -> bool {
+fn same_frame(a: Frame, b: Frame) -> bool {
     if a.words != b.words {
         return false;
     }
@@ -186,7 +122,30 @@ pub(crate) fn same_queue(a: Queue, b: Queue) -> bool {
     if !same_table(a_table, b_table) {
         return false;
     }
-    same_sides(a, b)
+    let a_loads = a.loads;
+    let b_loads = b.loads;
+    if !same_side(a_loads, b_loads) {
+        return false;
+    }
+    let a_stores = a.stores;
+    let b_stores = b.stores;
+    same_side(a_stores, b_stores)
+}
+
+pub(crate) fn same_queue(a: Queue, b: Queue) -> bool {
+    let a_frame = a.frame;
+    let b_frame = b.frame;
+    if !same_frame(a_frame, b_frame) {
+        return false;
+    }
+    let a_loads = a.load_entries;
+    let b_loads = b.load_entries;
+    if !same_entries(a_loads, b_loads) {
+        return false;
+    }
+    let a_stores = a.store_entries;
+    let b_stores = b.store_entries;
+    same_entries(a_stores, b_stores)
 }
 
 pub(crate) fn same_counts(a: Counts, b: Counts) -> bool {

@@ -1,10 +1,9 @@
 // Printing: words, numbers, what a call hands back, and what a queue holds.
 use libc::STDOUT_FILENO;
-use queue::LoadEntry;
-use queue::Loads;
-use queue::StoreEntry;
-use queue::Stores;
+use queue::Entry;
+use queue::Side;
 use queue::Value;
+use queue::entries::unpack;
 
 pub(crate) fn words(text: &[u8]) {
     io::write_all(STDOUT_FILENO, text);
@@ -45,39 +44,33 @@ pub(crate) fn optional(text: &[u8], there: bool, value: u64) {
     words(b" -");
 }
 
-// What both kinds of entries begin with.
-fn entry(text: &[u8], serial: u32, port: u8, before: u8) {
-    number(text, serial as u64);
-    number(b" port ", port as u64);
-    number(b" before ", before as u64);
-}
-
 // A word that is said where it holds.
-fn mark(text: &[u8], holds: bool) {
+pub(crate) fn mark(text: &[u8], holds: bool) {
     if holds {
         words(text);
     }
 }
 
-fn load(serial: u32, load: LoadEntry) {
-    entry(b"\n  load ", serial, load.port, load.before);
-    optional(b" address", load.addressed, load.address as u64);
-    optional(b" value", load.served, load.value as u64);
-    mark(b" taken", load.taken);
+// The two kinds are shown alike but for these words.
+fn kind(is_load: bool, load: &[u8], store: &[u8]) {
+    if is_load {
+        words(load);
+        return;
+    }
+    words(store);
 }
 
-fn store(serial: u32, store: StoreEntry) {
-    entry(b"\n  store ", serial, store.port, store.before);
-    optional(b" address", store.addressed, store.address as u64);
-    optional(b" data", store.filled, store.word as u64);
-    mark(b" written", store.written);
-}
-
-// What both sides begin with.
-fn side(text: &[u8], count: u8, depth: u8, next: u32) {
-    number(text, count as u64);
-    number(b" of ", depth as u64);
-    number(b" next ", next as u64);
+fn entry(is_load: bool, serial: u32, entry: Entry) {
+    kind(is_load, b"\n  load ", b"\n  store ");
+    number(b"", serial as u64);
+    number(b" port ", entry.port as u64);
+    number(b" before ", entry.before as u64);
+    optional(b" address", entry.addressed, entry.address as u64);
+    kind(is_load, b" value", b" data");
+    optional(b"", entry.filled, entry.word as u64);
+    if entry.finished {
+        kind(is_load, b" taken", b" written");
+    }
 }
 
 // The serial of the entry at a place.
@@ -86,27 +79,21 @@ fn serial_at(next: u32, count: u8, place: usize) -> u32 {
     std::num::wrapping_add_u32(oldest, (place % 64) as u32)
 }
 
-// The loads held, from the oldest. A record made by hand may say that it holds more than there are places.
-pub(crate) fn loads(held: Loads) {
-    side(b"\n  loads ", held.count, held.depth, held.next);
-    let mut i: usize = 0;
-    while i < 64 {
-        if i < held.count as usize {
-            let entry = held.entries[i];
-            load(serial_at(held.next, held.count, i), entry);
-        }
-        i += 1;
-    }
+fn side_line(is_load: bool, held: Side) {
+    kind(is_load, b"\n  loads ", b"\n  stores ");
+    number(b"", held.count as u64);
+    number(b" of ", held.depth as u64);
+    number(b" next ", held.next as u64);
 }
 
-// The stores, likewise.
-pub(crate) fn stores(held: Stores) {
-    side(b"\n  stores ", held.count, held.depth, held.next);
+// A side and its entries, from the oldest. A record made by hand may say that it holds more than there are places.
+pub(crate) fn side(is_load: bool, held: Side, entries: [u64; 64]) {
+    side_line(is_load, held);
     let mut i: usize = 0;
     while i < 64 {
         if i < held.count as usize {
-            let entry = held.entries[i];
-            store(serial_at(held.next, held.count, i), entry);
+            let serial = serial_at(held.next, held.count, i);
+            entry(is_load, serial, unpack(entries[i]));
         }
         i += 1;
     }

@@ -1,5 +1,5 @@
 // The commands: their names, how many numbers each takes, and how large these may be.
-ghost use Prim.Native.Nat.{_<_, _≤_};
+ghost use Prim.Native.Nat.{_<_};
 use crate::script;
 use crate::script::Arguments;
 

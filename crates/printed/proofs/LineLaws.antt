@@ -19,7 +19,7 @@ use Rattle.replay.specs.Playing.{Logged, answerOf, givenOf, wordOf, givenIn, wo
 use Rattle.printed.specs.Words.{wordWord, line}
 use Rattle.printed.specs.Text.{shown, eventLine, eventLines, wordLine, wordLines, countsLine, tableFaultText, traceFaultText}
 use Rattle.printed.specs.Internal.{Puts, item, loggedAs, rows}
-use Rattle.printed.proofs.PutLaws.{puts-length, puts-puts, item-few, decimal-few}
+use Rattle.printed.proofs.PutLaws.{puts-length, puts-puts, decimal-few}
 
 -- ---- two items, one behind the other
 module _ {d : List ℕ} {p : ℕ} {xs : List ℕ} {e : ℕ} {out : List ℕ} {ys : List ℕ} {e₂ : ℕ} {out₂ : List ℕ} (w : Puts d p xs e out) (v : Puts out e ys e₂ out₂) (fits : p + length xs + length ys ≤ length d) where

@@ -1,6 +1,6 @@
 -- Laws of putting bytes at a place of a buffer.
 use Prim.Native.Nat.{ℕ, zero, suc, _+_, _-_, _/_, _%_, _≤_, _<_}
-use mathlib.Core.Path.{_≡_, refl, sym, ap, ap₂, _∙_}
+use mathlib.Core.Path.{_≡_, refl, sym, ap, _∙_}
 use mathlib.Core.Bool.{Bool, true, false}
 use mathlib.Core.List.{List, [], _∷_, _++_}
 use native.Mathlib.Omega.{arith}
@@ -10,7 +10,7 @@ use lib.Dec.{ltb}
 use lib.ListN.{length, getD, take, set, length-append}
 use lib.Seq.{take-suc, length-take-le}
 use borrow.Author.Tests.{lt-ltb, le-ltb}
-use Rattle.table.specs.Basics.{pick, splice}
+use Rattle.table.specs.Basics.{pick}
 use Rattle.table.proofs.SpliceLaws.{splice-none, splice-set, length-splice, splice-splice}
 use Rattle.printed.specs.Decimal.{digitsUpTo, decimal}
 use Rattle.printed.specs.Internal.{Puts, item}

@@ -1,6 +1,6 @@
 -- No text is longer than `mostText`, and none is empty.
-use Prim.Native.Nat.{ℕ, _+_, _*_, _≤_, _<_}
-use mathlib.Core.Path.{_≡_, refl, sym, ap, _∙_}
+use Prim.Native.Nat.{ℕ, _+_, _≤_, _<_}
+use mathlib.Core.Path.{_≡_, refl, ap, _∙_}
 use mathlib.Core.Bool.{Bool, true, false, not}
 use mathlib.Core.List.{List, [], _∷_, _++_}
 use mathlib.Core.Option.{Option, none, some}
@@ -20,7 +20,7 @@ use Rattle.table.specs.declared.Header.{Header}
 use Rattle.table.specs.Event.{readHeader}
 use Rattle.queue.specs.declared.Counts.{Counts}
 use Rattle.queue.specs.Counts.{share}
-use Rattle.queue.specs.Ruled.{Ruled, refuse, accept, need, have, andThen}
+use Rattle.queue.specs.Ruled.{Ruled, refuse, accept, need, have}
 use Rattle.queue.specs.Contents.{Contents, storePlace}
 use Rattle.queue.specs.Sound.{sound}
 use Rattle.queue.specs.Open.{openQueue}
@@ -29,7 +29,7 @@ use Rattle.queue.specs.Serve.{Served, serve}
 use Rattle.queue.specs.Write.{Written, loadGivesWay, storeGivesWay, write}
 use Rattle.queue.specs.Take.{Taken}
 use Rattle.queue.specs.Calls.{Argument}
-use Rattle.queue.specs.Call.{Machine, Step, moved, served, written, taken, give, step}
+use Rattle.queue.specs.Call.{Machine, moved, served, written, taken, give}
 use Rattle.queue.specs.Take as Takes
 use Rattle.queue.proofs.Refusals.{andThen-accepts}
 use Rattle.replay.specs.Events.{eventsOf}
@@ -37,7 +37,6 @@ use Rattle.replay.specs.Playing.{Playing, playing, stepOf, played, log, playedA
 use Rattle.replay.specs.Replay.{Start, startOf, openTrace, prepare, replayed}
 use Rattle.replay.proofs.EventLaws.{events-few-from}
 use Rattle.replay.proofs.PrepareLaws.{header-shorter}
-use Rattle.printed.specs.Decimal.{decimal}
 use Rattle.printed.specs.Text.{mostBytes, fileTooLong, tableFaultText, traceFaultText, noCounts, eventLines, wordLines, countsLine, playText, startText, traceText, groupsText, text}
 use Rattle.printed.specs.Outcome.{mostText, TextFits, TextSome, printed}
 use Rattle.printed.specs.Internal.{item}

@@ -1,14 +1,14 @@
 -- Laws of the whole text.
-use Prim.Native.Nat.{ℕ, zero, suc, _+_, _*_, _≤_, _<_}
-use mathlib.Core.Path.{_≡_, refl, sym, ap, _∙_}
+use Prim.Native.Nat.{ℕ, zero, suc, _+_, _≤_, _<_}
+use mathlib.Core.Path.{_≡_, refl, ap, _∙_}
 use mathlib.Core.Bool.{true}
 use mathlib.Core.List.{List, [], _∷_, _++_, map}
 use native.Mathlib.Omega.{arith}
 use native.Mathlib.Nat.{zero-add}
-use lib.Dec.{eqb, leb, ltb}
+use lib.Dec.{eqb, leb}
 use lib.ListN.{length, take, drop, replicate, length-append, length-map, length-replicate}
 use borrow.Author.Tests.{lt-ltb, le-ltb, lt-leb, le-leb, leb-true}
-use Rattle.table.specs.Basics.{pick, all}
+use Rattle.table.specs.Basics.{all}
 use Rattle.table.specs.Refusal.{tooShort}
 use Rattle.table.specs.Number.{got, bad}
 use Rattle.table.specs.Group.{GroupPairs}
@@ -17,9 +17,8 @@ use Rattle.table.specs.TableBytes.{readTable}
 use Rattle.table.specs.declared.Written.the-variants.{Bytes, Unwritten}
 use Rattle.table.specs.declared.Event.{Event}
 use Rattle.table.proofs.SpliceLaws.{splice-front}
-use Rattle.queue.specs.declared.Counts.{Counts}
 use Rattle.queue.specs.Refusal.{badLoadDepth, badStoreDepth, badMemoryLength, groupTooLarge}
-use Rattle.queue.specs.Ruled.{Ruled, refuse, accept, need}
+use Rattle.queue.specs.Ruled.{accept, need}
 use Rattle.queue.specs.Contents.{Contents}
 use Rattle.queue.specs.Sound.{depthRight, memoryRight}
 use Rattle.queue.specs.Open.{groupFits, opened, openQueue}
@@ -27,10 +26,10 @@ use Rattle.queue.proofs.Lists.{and-right}
 use Rattle.queue.proofs.Refusals.{need-accepts}
 use Rattle.replay.specs.declared.Replayed.{Replayed}
 use Rattle.replay.specs.Playing.{Playing, playing, played, log, answerOf, givenOf, wordOf}
-use Rattle.replay.specs.Replay.{Start, prepare, Replay, replayed, Buffers, replay}
+use Rattle.replay.specs.Replay.{prepare, Replay, replayed, Buffers, replay}
 use Rattle.replay.specs.Outcome.{Replays, Replayed-as}
 use Rattle.replay.proofs.ReplayLaws.{replay-accepted, long-enough}
-use Rattle.printed.specs.Text.{mostBytes, fileTooLong, traceFaultText, tableFaultText, noCounts, eventLines, playText, startText, traceText, text}
+use Rattle.printed.specs.Text.{mostBytes, fileTooLong, traceFaultText, tableFaultText, noCounts, playText, startText, traceText, text}
 use Rattle.printed.specs.Outcome.{mostText, printed}
 use Rattle.printed.specs.Internal.{Puts, rows, Printable}
 use Rattle.printed.proofs.LineLaws.{rows-log}

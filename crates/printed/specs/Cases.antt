@@ -2,12 +2,10 @@
 use Prim.Native.Nat.{ℕ}
 use mathlib.Core.Path.{_≡_}
 use mathlib.Core.List.{List, [], _∷_, _++_, map}
-use Rattle.table.specs.declared.Pair.{Pair}
 use Rattle.table.specs.Number.{Got, got, bad, readNumber, numberBytes}
 use Rattle.table.specs.Group.{GroupPairs, Access, load, store, order}
 use Rattle.table.specs.Table.{noneSeen}
 use Rattle.table.specs.TableBytes.{readGroup, readTable}
-use Rattle.queue.specs.declared.Counts.{Counts}
 use Rattle.queue.specs.Ruled.{number}
 use Rattle.queue.specs.Open.{openQueue}
 use Rattle.queue.specs.Counts.{share}

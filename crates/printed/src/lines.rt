@@ -1,7 +1,5 @@
 // The lines of the printed run.
-ghost use mathlib.Core.Path.{_≡_};
-ghost use Prim.Native.Nat.{_+_, _*_, _≤_, suc};
-ghost use mathlib.Core.List.{[], _∷_};
+ghost use Prim.Native.Nat.{_+_, _*_, _≤_};
 ghost use lib.ListN.{length, take};
 ghost use Rattle.printed.specs.Text.{eventLine, eventLines, wordLine, wordLines, countsLine};
 ghost use Rattle.printed.specs.Internal.{Puts, loggedAs, rows};

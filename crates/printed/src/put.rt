@@ -1,6 +1,4 @@
 // Putting bytes at a place of a buffer where they fit. Each function says where they end.
-ghost use mathlib.Core.Path.{_≡_};
-ghost use mathlib.Core.List.{[], _∷_};
 ghost use Prim.Native.Nat.{_+_, _≤_, _<_};
 ghost use lib.ListN.{length};
 ghost use Rattle.printed.specs.Decimal.{digitsUpTo, decimal};

@@ -2,11 +2,9 @@
 use Prim.Native.Nat.{ℕ, suc, _+_, _≤_, _<_}
 use mathlib.Core.Bool.{true, false}
 use mathlib.Core.Path.{_≡_, refl, sym, ap, ap₂, _∙_}
-use mathlib.Core.List.{List, [], _∷_, _++_, map, map-append, append-assoc, append-nil}
+use mathlib.Core.List.{List, [], _∷_, _++_, map, map-append, append-nil}
 use mathlib.Core.Option.{Option}
 use native.Mathlib.Omega.{arith}
-use native.Mathlib.Nat.{zero-add}
-use native.Mathlib.Numerals.{add-one}
 use lib.ListN.{length, drop, set, getD, length-append, length-drop, length-map}
 use borrow.Author.Tests.{eq-eqb, ne-eqb, lt-leb, le-leb}
 use lib.Seq.{set-at, drop-cons, append-snoc}
@@ -28,7 +26,7 @@ use Rattle.queue.specs.Records.{valueIn}
 use Rattle.queue.specs.ServeLent.{withCounts}
 use Rattle.replay.specs.declared.Replayed.{Replayed}
 use Rattle.replay.specs.Events.{eventsFrom}
-use Rattle.replay.specs.Playing.{Playing, playing, stepOf, played, Logged, logged, log, playedAll, answerOf, givenOf, wordOf, givenIn, wordIn}
+use Rattle.replay.specs.Playing.{Playing, playing, stepOf, played, Logged, logged, log, playedAll, answerOf, givenOf, wordOf}
 use Rattle.replay.specs.Replay.{Start, prepare, Replay, replayed, Buffers, fits, replay}
 use Rattle.replay.specs.Outcome.{over, logIn, Replays, Replayed-as}
 use Rattle.replay.specs.Internal.{Noted, Playable, eventsIn, through}

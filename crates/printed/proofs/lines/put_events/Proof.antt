@@ -1,7 +1,7 @@
-use Prim.Native.Nat.{_+_, _*_, _-_, _≤_}
+use Prim.Native.Nat.{_-_, _≤_}
 use mathlib.Core.Path.{_≡_}
 use native.Mathlib.Omega.{arith}
-use lib.ListN.{length, take}
+use lib.ListN.{take}
 use Rattle.printed.specs.Text.{eventLines}
 use Rattle.printed.specs.Internal.{Puts, rows}
 use Rattle.printed.proofs.PutLaws.{puts-none, puts-as, puts-length, puts-puts}

@@ -1,5 +1,4 @@
 use mathlib.Core.Path.{sym}
-use mathlib.Core.List.{[], _∷_}
 use native.Mathlib.Omega.{arith}
 use Rattle.printed.proofs.PutLaws.{puts-none, puts-as, puts-length, puts-puts, item-few}
 use Rattle.printed.proofs.LineLaws.{wordSpace, word-zero, word-some}

@@ -1,7 +1,5 @@
-use Prim.Native.Nat.{_+_, _≤_}
-use mathlib.Core.Path.{sym}
 use native.Mathlib.Omega.{arith}
-use lib.ListN.{length, length-set, length-append}
+use lib.ListN.{length-set, length-append}
 use Rattle.printed.specs.Decimal.{decimal}
 use Rattle.printed.proofs.PutLaws.{puts-length, put-byte, decimal-few}
 use Rattle.printed.proofs.LineLaws.{both, both-end, both-long}

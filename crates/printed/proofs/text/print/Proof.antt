@@ -1,4 +1,4 @@
-use mathlib.Core.Path.{refl, ap, _∙_}
+use mathlib.Core.Path.{refl, ap}
 use Rattle.table.specs.declared.Written.the-variants.{Bytes}
 use Rattle.printed.proofs.TextLaws.{printed-short, printed-fits, puts-front}
 use borrow.Author.Needs.{needs}

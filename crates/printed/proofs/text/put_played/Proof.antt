@@ -1,10 +1,9 @@
-use Prim.Native.Nat.{_≤_}
 use mathlib.Core.Path.{_≡_, ap, _∙_}
 use native.Mathlib.Omega.{arith}
 use lib.ListN.{length, length-append, length-replicate}
 use Rattle.replay.specs.Replay.{replayed}
 use Rattle.replay.proofs.ReplayLaws.{buffers}
-use Rattle.printed.specs.Text.{noCounts, eventLines, wordLines, countsLine}
+use Rattle.printed.specs.Text.{noCounts, eventLines, wordLines}
 use Rattle.printed.proofs.PutLaws.{puts-as, puts-length, puts-puts}
 use Rattle.printed.proofs.LineLaws.{both, both-end, both-long, events-text-few, words-few}
 use Rattle.printed.proofs.TextLaws.{plays-well, Held, replay-held, few-lines, printable-text}

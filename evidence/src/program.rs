@@ -79,11 +79,15 @@ pub fn compare(program: &Path, seed: u64, cases: u64) -> Result<usize, Differenc
     let mut runs = special.len();
     let mut compared = special
         .iter()
-        .try_for_each(|files| compare_one(program, &folder, files));
+        .try_for_each(|files| compare_one(program, &folder, files))
+        .map_err(|difference| in_files(seed, "special lengths", &difference));
     for case in (seed..seed + cases).map(Case::new) {
-        let pairs = [whole(&case), damaged(&case)];
+        let pairs = [("as it is", whole(&case)), ("damaged", damaged(&case))];
         runs += pairs.len();
-        let each = |files| compare_one(program, &folder, files);
+        let each = |(state, files): &(&str, Files)| {
+            compare_one(program, &folder, files)
+                .map_err(|difference| in_files(case.seed, state, &difference))
+        };
         compared = compared.and_then(|()| pairs.iter().try_for_each(each));
     }
     if compared.is_ok() {
@@ -92,6 +96,10 @@ pub fn compare(program: &Path, seed: u64, cases: u64) -> Result<usize, Differenc
         removed.map_err(|error| Difference(format!("{}: {error}", folder.display())))?;
     }
     compared.map(|()| runs)
+}
+
+fn in_files(seed: u64, state: &str, Difference(words): &Difference) -> Difference {
+    Difference(format!("files of case {seed}, {state}: {words}"))
 }
 
 fn whole(case: &Case) -> Files {

@@ -15,10 +15,6 @@ pub use direct::{event_count, memory_length, share, table_fault, trace_fault};
 /// The least length of the buffer lent to [`text`]: no text is longer.
 pub const TEXT_BYTES: usize = 1_224_789;
 
-/// The paper's numbers that a replay answers for what it is lent.
-const TOO_SHORT: u32 = 10;
-const OTHER_MEMORY: u32 = 30;
-
 /// What a replay is lent.
 #[derive(Debug)]
 pub struct Lent<'a> {
@@ -32,27 +28,6 @@ pub struct Lent<'a> {
     pub given: &'a mut [u8],
     /// At least as many places: the value, or 0.
     pub values: &'a mut [u32],
-}
-
-impl Lent<'_> {
-    fn lengths(&self) -> Lengths {
-        Lengths {
-            memory: self.memory.len(),
-            counts: self.counts.len(),
-            answers: self.answers.len(),
-            given: self.given.len(),
-            values: self.values.len(),
-        }
-    }
-}
-
-/// The lengths of what was lent.
-struct Lengths {
-    memory: usize,
-    counts: usize,
-    answers: usize,
-    given: usize,
-    values: usize,
 }
 
 /// Something lent to a call.
@@ -106,37 +81,41 @@ impl std::error::Error for Error {}
 
 /// Plays every event of the trace from a fresh opening, on the memory and the
 /// counts as lent, and gives the number of events. Answers and values stand at
-/// the front of their buffers.
+/// the front of their buffers. Every length is tested before the library's
+/// replay is called; [`direct::replay`], which tests them too, reads the trace
+/// fewer times.
 ///
 /// # Errors
 /// In this order: the table's fault; counts that are too short; the trace's
 /// fault; another memory length; the first buffer that is too short.
 pub fn replay(table: &[u8], trace: &[u8], lent: Lent) -> Result<usize, Error> {
-    let lengths = lent.lengths();
-    match direct::replay(table, trace, lent) {
-        0 => Ok(event_count(table, trace) as usize),
-        TOO_SHORT => Err(short(&lengths, event_count(table, trace) as usize)),
-        OTHER_MEMORY => {
-            let needed = memory_length(table, trace) as usize;
-            Err(wrong_length(Buffer::Memory, lengths.memory, needed))
-        }
+    accepted(table_fault(table))?;
+    at_least(Buffer::Counts, lent.counts.len(), 2)?;
+    accepted(trace_fault(table, trace))?;
+    let words = memory_length(table, trace) as usize;
+    if lent.memory.len() != words {
+        return Err(wrong_length(Buffer::Memory, lent.memory.len(), words));
+    }
+    let events = event_count(table, trace) as usize;
+    at_least(Buffer::Answers, lent.answers.len(), events)?;
+    at_least(Buffer::Given, lent.given.len(), events)?;
+    at_least(Buffer::Values, lent.values.len(), events)?;
+    accepted(direct::replay(table, trace, lent))?;
+    Ok(events)
+}
+
+fn accepted(answer: u32) -> Result<(), Error> {
+    match answer {
+        0 => Ok(()),
         number => Err(Error::Refused(number)),
     }
 }
 
-/// The first length that is too short for so many events. The library found
-/// that there is one.
-fn short(lengths: &Lengths, events: usize) -> Error {
-    if lengths.counts < 2 {
-        return wrong_length(Buffer::Counts, lengths.counts, 2);
+fn at_least(buffer: Buffer, lent: usize, needed: usize) -> Result<(), Error> {
+    if lent < needed {
+        return Err(wrong_length(buffer, lent, needed));
     }
-    if lengths.answers < events {
-        return wrong_length(Buffer::Answers, lengths.answers, events);
-    }
-    if lengths.given < events {
-        return wrong_length(Buffer::Given, lengths.given, events);
-    }
-    wrong_length(Buffer::Values, lengths.values, events)
+    Ok(())
 }
 
 /// The text that `play` prints for these two files' bytes, at the front of
@@ -145,9 +124,7 @@ fn short(lengths: &Lengths, events: usize) -> Error {
 /// # Errors
 /// When `out` is shorter than [`TEXT_BYTES`].
 pub fn text<'a>(table: &[u8], trace: &[u8], out: &'a mut [u8]) -> Result<&'a [u8], Error> {
-    if out.len() < TEXT_BYTES {
-        return Err(wrong_length(Buffer::Text, out.len(), TEXT_BYTES));
-    }
+    at_least(Buffer::Text, out.len(), TEXT_BYTES)?;
     let length = direct::text(table, trace, out) as usize;
     Ok(&out[..length])
 }

@@ -116,7 +116,7 @@ fn run_program(first: u64) -> Result<String, String> {
     let path_shown = path.display();
     match program::compare(&path, first, PROGRAM_CASES) {
         Ok(runs) => Ok(format!("{runs:>9} pairs of files played by {path_shown}")),
-        Err(Difference(words)) => Err(format!("DIFFERENCE in a case from {first} on: {words}")),
+        Err(Difference(words)) => Err(format!("DIFFERENCE of {path_shown} in {words}")),
     }
 }
 

@@ -23,7 +23,7 @@ use Rattle.table.specs.Number.{Got, got, bad, andThen, require, above, n
 use Rattle.table.specs.Group.{GroupPairs, blankPair, listOf}
 use Rattle.table.specs.Table.{loadRule, storeRule, pairFault, pairsFault, seeing, countsRight, Seen, noneSeen, seenAfter, groupFault}
 use Rattle.table.specs.TableBytes.{unless, pair, before, readPairs, readGroup, readGroups, pack}
-use Rattle.table.specs.Internal.{Two, two, readTwo, twoAnswer, packPairs, PairsFound, PairsResult, found, none, seenOf, GroupFound, GroupResult, group-found, group-none, Growing, Grown, GroupsFound, GroupsResult, groups-found, groups-none}
+use Rattle.table.specs.Internal.{Two, two, readTwo, twoAnswer, packPairs, PairsFound, PairsResult, found, none, seenOf, groupMade, GroupFound, GroupResult, group-found, group-none, Growing, Grown, GroupsFound, GroupsResult, groups-found, groups-none}
 use Rattle.table.proofs.NumberLaws.{NumberGot, number-got}
 use Rattle.table.proofs.PackLaws.{Marks, marks-none, marks-room, marks-more, list-packed, Packed, packed-none, packed-more}
 
@@ -378,10 +378,7 @@ pub groups-got : {s : List ℕ} {g : Got (List GroupPairs)} {r : GroupsRead} →
 groups-got (groups-found {gs} {rest} f) z = record { groups = gs; rest = rest; is = refl; told = f }
 groups-got (groups-none f) z = absurd (f .some (sym (f .is) ∙ z))
 
--- a group's record, made of both kinds
-abbrev pub groupMade : PairsRead → PairsRead → GroupRead
-groupMade l t = record { answer = 0; next = t .next; group = record { loads = l .pairs; stores = t .pairs }; seen = record { loads = l .seen; stores = t .seen } }
-
+-- the record of a group whose loads and stores were read
 pub group-made : {s : List ℕ} {seen : Seen} {ls ss : List Pair} {s₃ s₄ : List ℕ} {l t : PairsRead} → PairsFound s (seen .loads) ls s₃ l → PairsFound s (seen .stores) ss s₄ t → GroupFound s seen (groupOf ls ss) s₄ (groupMade l t)
 group-made f g = record {
   answer = refl;

@@ -105,6 +105,10 @@ pub data PairsResult (s : List ℕ) (seen : List Bool) : Got (List Pair) → Pai
   found : {ps : List Pair} {rest : List ℕ} {r : PairsRead} → PairsFound s seen ps rest r → PairsResult s seen (got ps rest) r
   none : {k : ℕ} {r : PairsRead} → IsRefusal k (r .answer) → PairsResult s seen (bad k) r
 
+-- the record of a group, made of what reading its loads and its stores gave
+abbrev pub groupMade : PairsRead → PairsRead → GroupRead
+groupMade l t = record { answer = 0; next = t .next; group = record { loads = l .pairs; stores = t .pairs }; seen = record { loads = l .seen; stores = t .seen } }
+
 pub record GroupFound (s : List ℕ) (seen : Seen) (g : GroupPairs) (rest : List ℕ) (r : GroupRead) : Type 0 where
   pub answer : r .answer ≡ 0
   pub group : r .group ≡ packGroup g

@@ -3,7 +3,7 @@ ghost use mathlib.Core.Path.{_≡_};
 ghost use Prim.Native.Nat.{_+_, _≤_};
 ghost use lib.ListN.{length, drop};
 ghost use Rattle.table.specs.TableBytes.{readPairs, readGroup, readGroups, readTable, tableAnswer, pack};
-ghost use Rattle.table.specs.Internal.{readTwo, twoAnswer, twoRefusal, ruleOf, RuleRight, packPairs, PairsResult, seenOf, GroupResult, putIn, Growing, Grown, GroupsResult};
+ghost use Rattle.table.specs.Internal.{readTwo, twoAnswer, twoRefusal, ruleOf, RuleRight, packPairs, PairsResult, seenOf, groupMade, GroupResult, putIn, Growing, Grown, GroupsResult};
 ghost use mathlib.Core.List.{[]};
 ghost use Rattle.table.specs.Table.{noneSeen};
 ghost use Rattle.table.specs.Number.{bad};
@@ -115,6 +115,18 @@ fn no_pairs() -> Pairs
     }
 }
 
+// Refused pairs.
+fn no_pairs_read(answer: u8, seen: [bool; 32]) -> PairsRead
+    ensures { λ r. ⌜ r .answer ≡ answer ⌝ }
+{
+    PairsRead {
+        answer,
+        next: 0,
+        pairs: no_pairs(),
+        seen,
+    }
+}
+
 // Reads a group's pairs of one kind: each whole, and then 8, 6, 7.
 fn read_pairs(
     bytes: &[u8],
@@ -141,22 +153,12 @@ fn read_pairs(
             next,
         } = read
         else {
-            return PairsRead {
-                answer: two_refusal(read),
-                next: place,
-                pairs,
-                seen: marks,
-            };
+            return no_pairs_read(two_refusal(read), marks);
         };
         let right = offset_right(storing, stores, loads, low, i, offset);
         let answer = pair_fault(right, &marks, port);
         if answer != 0 {
-            return PairsRead {
-                answer,
-                next: place,
-                pairs,
-                seen: marks,
-            };
+            return no_pairs_read(answer, marks);
         }
         let pair = Pair {
             offset: offset as u8,
@@ -191,6 +193,27 @@ fn no_group(answer: u8, seen: Ports) -> GroupRead
         next: 0,
         group,
         seen,
+    }
+}
+
+// The group whose loads and then stores were read.
+fn group_made(first: PairsRead, second: PairsRead) -> GroupRead
+    ensures { λ r. ⌜ r ≡ groupMade first second ⌝ }
+{
+    let loads = first.pairs;
+    let stores = second.pairs;
+    let group = Group { loads, stores };
+    let load_marks = first.seen;
+    let store_marks = second.seen;
+    let marks = Ports {
+        loads: load_marks,
+        stores: store_marks,
+    };
+    GroupRead {
+        answer: 0,
+        next: second.next,
+        group,
+        seen: marks,
     }
 }
 
@@ -231,20 +254,7 @@ fn read_group(bytes: &[u8], at: usize, seen: Ports) -> GroupRead
     if second.answer != 0 {
         return no_group(second.answer, seen);
     }
-    let stores = second.pairs;
-    let group = Group { loads, stores };
-    let new_loads = first.seen;
-    let new_stores = second.seen;
-    let marks = Ports {
-        loads: new_loads,
-        stores: new_stores,
-    };
-    GroupRead {
-        answer: 0,
-        next: second.next,
-        group,
-        seen: marks,
-    }
+    group_made(first, second)
 }
 
 // The table of no groups: what a refused reading holds.

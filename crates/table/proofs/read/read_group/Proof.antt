@@ -110,12 +110,15 @@ returns-4 c =
     rw (group-stores-bad _ _ (seenOf (e .before .before .before .before .before .before .before .args .seen)) (counts (e .before .before .before)) (right e) (loads l .is) (same-stores (loads l .told) _ _ ∙ pairs-bad (c .before .before .before .read-pairs2 .ensures) (c .before .if3 .taken)))
     (group-none (record { is = c .no-group4 .ensures; some = c .before .if3 .taken }))
 
+group-made-requires : tie.Need-group-made-requires
+group-made-requires c κs = search needs
+
 returns-5 : tie.Need-returns-5
 returns-5 c =
-    let l = c .before .before .before .before .before .before .before .before in
-    let e = c .before .before .before .before .before .before .before .before .before .before .before .before .before in
-    let t = pairs-got (c .before .before .before .before .before .read-pairs2 .ensures) (c .before .before .before .if3 .left) in
-    rw (group-read _ _ (seenOf (e .before .before .before .before .before .before .before .args .seen)) (counts (e .before .before .before)) (right e) (loads l .is) (same-stores (loads l .told) _ _ ∙ t .is))
+    let l = c .before .before .before .before .before .before in
+    let e = c .before .before .before .before .before .before .before .before .before .before .before in
+    let t = pairs-got (c .before .before .before .read-pairs2 .ensures) (c .before .if3 .left) in
+    rw (group-read _ _ (seenOf (e .before .before .before .before .before .before .before .args .seen)) (counts (e .before .before .before)) (right e) (loads l .is) (same-stores (loads l .told) _ _ ∙ t .is), c .group-made .ensures)
     (group-found (group-made {seen = seenOf (e .before .before .before .before .before .before .before .args .seen)} (loads l .told) (t .told)))
 
 pub read-group-spec : {M : Type 1} → statement M
@@ -139,4 +142,5 @@ read-group-spec =
     read-pairs-requires-2
     no-group-requires-4
     returns-4
+    group-made-requires
     returns-5)

@@ -36,12 +36,15 @@ enum-told c = search needs
 two-refusal-requires : tie.Need-two-refusal-requires Inv-loop μ-loop
 two-refusal-requires c κs = search needs
 
+no-pairs-read-requires : tie.Need-no-pairs-read-requires Inv-loop μ-loop
+no-pairs-read-requires c κs = search needs
+
 returns : tie.Need-returns Inv-loop μ-loop
 returns c =
-    let t = c .before in
+    let t = c .before .before in
     let l = t .before .before .before in
     let e = two-bad (l .before .before .before .before .args .bytes .now) (l .before .loop .place) (sym (t .enum-told .given .1) ∙ t .before .before .read-two .ensures) in
-    pairs-refused (reading-refused (l .before .loop .inv .1) (l .loop-test .taken) e) (c .two-refusal .ensures ∙ ap twoRefusal (t .enum-told .given .1)) (two-refused _ e)
+    pairs-refused (reading-refused (l .before .loop .inv .1) (l .loop-test .taken) e) (c .no-pairs-read .ensures ∙ c .before .two-refusal .ensures ∙ ap twoRefusal (t .enum-told .given .1)) (two-refused _ e)
 
 offset-right-requires : tie.Need-offset-right-requires Inv-loop μ-loop
 offset-right-requires c κs = c .before .before .before .before .before .before .before .before .pre .2
@@ -68,11 +71,15 @@ turn c = c .before .before .before .before
 fault : (c : tie.After-pair-fault Inv-loop μ-loop) → c .pair-fault .result ≡ faultOf (turn c) (rightOf (turn c))
 fault c = c .pair-fault .ensures ∙ ap (faultOf (turn c)) (c .before .before .offset-right .ensures)
 
+no-pairs-read-requires-2 : tie.Need-no-pairs-read-requires-2 Inv-loop μ-loop
+no-pairs-read-requires-2 c κs = search needs
+
 returns-2 : tie.Need-returns-2 Inv-loop μ-loop
 returns-2 c =
-    let g = turn (c .before) in
+    let f = c .before .before in
+    let g = turn f in
     let l = g .before .before .before in
-    pairs-refused (reading-fault (l .before .loop .inv .1) (l .loop-test .taken) (two g) (fault (c .before)) (c .if1 .taken)) refl (c .if1 .taken)
+    pairs-refused (reading-fault (l .before .loop .inv .1) (l .loop-test .taken) (two g) (fault f) (c .before .if1 .taken)) (c .no-pairs-read2 .ensures) (c .before .if1 .taken)
 
 no-fault : (c : tie.Else1 Inv-loop μ-loop) → faultOf (turn (c .before)) (rightOf (turn (c .before))) ≡ 0
 no-fault c = sym (fault (c .before)) ∙ c .if1 .left
@@ -85,11 +92,11 @@ small c =
     let f = fault-none (rightOf g) (l .loop .marks) (g .read .given .0 .1 .0) (no-fault c) in
     (rule-small (s .args .storing) (s .args .stores) (s .args .loads) (l .loop .low) (l .loop .i) (g .read .given .0 .0) (s .pre .2) (f .0), f .1)
 
-cast-t28 : tie.Need-cast-t28 Inv-loop μ-loop
-cast-t28 c = omega (arith, small c .0)
+cast-t26 : tie.Need-cast-t26 Inv-loop μ-loop
+cast-t26 c = omega (arith, small c .0)
 
-cast-t29 : tie.Need-cast-t29 Inv-loop μ-loop
-cast-t29 c = omega (arith, small c .1)
+cast-t27 : tie.Need-cast-t27 Inv-loop μ-loop
+cast-t27 c = omega (arith, small c .1)
 
 cast-pair : tie.Need-cast-pair Inv-loop μ-loop
 cast-pair c = omega arith
@@ -146,12 +153,14 @@ read-pairs-spec =
     enum-known-read
     enum-told
     two-refusal-requires
+    no-pairs-read-requires
     returns
     offset-right-requires
     pair-fault-requires
+    no-pairs-read-requires-2
     returns-2
-    cast-t28
-    cast-t29
+    cast-t26
+    cast-t27
     cast-pair
     mul-pair
     element-set-from-pair

@@ -63,45 +63,37 @@ fn play_all(
     let mut i: usize = 0;
     loop {
         let read = read_event(trace, place);
-        match read {
-            EventRead::Found(event, next) => {
-                let at = i;
-                place = next;
-                i += 1;
-                match event {
-                    Event::Activate { group } => {
-                        queue = note(queue.activate(group), at, answers, given, words);
-                    }
-                    Event::LoadAddress { port, address } => {
-                        queue = note(queue.load_address(port, address), at, answers, given, words);
-                    }
-                    Event::StoreAddress { port, address } => {
-                        queue = note(
-                            queue.store_address(port, address),
-                            at,
-                            answers,
-                            given,
-                            words,
-                        );
-                    }
-                    Event::StoreData { port, word } => {
-                        queue = note(queue.store_data(port, word), at, answers, given, words);
-                    }
-                    Event::Serve { serial } => {
-                        let served = queue.serve_counted(memory, counts, serial);
-                        counts = served.counts;
-                        queue = note(uncounted(served), at, answers, given, words);
-                    }
-                    Event::Write { serial } => {
-                        queue = note(queue.write(memory, serial), at, answers, given, words);
-                    }
-                    Event::Take { port } => {
-                        queue = note(queue.take(port), at, answers, given, words);
-                    }
-                }
+        let EventRead::Found(event, next) = read else {
+            return played(i, counts);
+        };
+        let at = i;
+        place = next;
+        i += 1;
+        match event {
+            Event::Activate { group } => {
+                queue = note(queue.activate(group), at, answers, given, words);
             }
-            EventRead::End => return played(i, counts),
-            EventRead::NoEvent(_) => return played(i, counts),
+            Event::LoadAddress { port, address } => {
+                queue = note(queue.load_address(port, address), at, answers, given, words);
+            }
+            Event::StoreAddress { port, address } => {
+                let stored = queue.store_address(port, address);
+                queue = note(stored, at, answers, given, words);
+            }
+            Event::StoreData { port, word } => {
+                queue = note(queue.store_data(port, word), at, answers, given, words);
+            }
+            Event::Serve { serial } => {
+                let served = queue.serve_counted(memory, counts, serial);
+                counts = served.counts;
+                queue = note(uncounted(served), at, answers, given, words);
+            }
+            Event::Write { serial } => {
+                queue = note(queue.write(memory, serial), at, answers, given, words);
+            }
+            Event::Take { port } => {
+                queue = note(queue.take(port), at, answers, given, words);
+            }
         }
     }
 }

@@ -3,9 +3,6 @@ use borrow.Author.Needs.{needs}
 use Rattle.exports.specs.Text.{byteCount}
 use Rattle.exports.proofs.lsq_text.Statement.{statement}
 use Rattle.exports.proofs.lsq_text.Tie as tie
-use Rattle.exports.proofs.lsq_text.Reads as reads
-use Rattle.exports.proofs.lsq_text.Lts as lts
-use Rattle.printed.proofs.text.print.Reads as print-reads
 
 -- src/lib.rt:135:9
 print-requires : tie.Need-print-requires

@@ -5,11 +5,6 @@ use lib.Seq.{length-take-le}
 use borrow.Author.Needs.{needs}
 use Rattle.play.proofs.main.Statement.{statement}
 use Rattle.play.proofs.main.Tie as tie
-use Rattle.play.proofs.main.Reads as reads
-use Rattle.play.proofs.main.Lts as lts
-use Rattle.play.proofs.file_buffer.Reads as file-buffer-reads
-use Rattle.play.proofs.read_file.Reads as read-file-reads
-use Rattle.play.proofs.show.Reads as show-reads
 
 -- src/main.rt:40:21
 file-buffer-requires : tie.Need-file-buffer-requires

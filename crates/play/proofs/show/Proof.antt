@@ -7,11 +7,6 @@ use borrow.Author.Needs.{needs}
 use Rattle.printed.proofs.TextFits.{bytes-few}
 use Rattle.play.proofs.show.Statement.{statement}
 use Rattle.play.proofs.show.Tie as tie
-use Rattle.play.proofs.show.Reads as reads
-use Rattle.play.proofs.show.Lts as lts
-use Rattle.io.proofs.write_all.Reads as write-all-reads
-use Rattle.play.proofs.text_buffer.Reads as text-buffer-reads
-use Rattle.printed.proofs.text.print.Reads as print-reads
 
 -- src/main.rt:32:19
 text-buffer-requires : tie.Need-text-buffer-requires

@@ -7,10 +7,6 @@ use Rattle.printed.proofs.LineLaws.{both, both-end, both-long, loadsSpa
 use borrow.Author.Needs.{needs}
 use Rattle.printed.proofs.lines.put_counts.Statement.{statement}
 use Rattle.printed.proofs.lines.put_counts.Tie as tie
-use Rattle.printed.proofs.lines.put_counts.Reads as reads
-use Rattle.printed.proofs.lines.put_counts.Lts as lts
-use Rattle.printed.proofs.put.put_item.Reads as put-item-reads
-use Rattle.queue.proofs.counting.share.Reads as share-reads
 
 -- src/lines.rt:77:35
 slice-aggregate-put-item : tie.Need-slice-aggregate-put-item

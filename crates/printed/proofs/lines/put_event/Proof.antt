@@ -8,10 +8,6 @@ use Rattle.printed.proofs.PutLaws.{puts-as, puts-length, item-few}
 use Rattle.printed.proofs.LineLaws.{both, both-end, both-long, event-value, event-none}
 use Rattle.printed.proofs.lines.put_event.Statement.{statement}
 use Rattle.printed.proofs.lines.put_event.Tie as tie
-use Rattle.printed.proofs.lines.put_event.Reads as reads
-use Rattle.printed.proofs.lines.put_event.Lts as lts
-use Rattle.printed.proofs.put.put_bytes.Reads as put-bytes-reads
-use Rattle.printed.proofs.put.put_item.Reads as put-item-reads
 
 -- src/lines.rt:18:35
 slice-aggregate-put-item : tie.Need-slice-aggregate-put-item

@@ -9,9 +9,6 @@ use Rattle.printed.proofs.LineLaws.{rows-text-few, rows-next}
 use borrow.Author.Needs.{needs}
 use Rattle.printed.proofs.lines.put_events.Statement.{statement}
 use Rattle.printed.proofs.lines.put_events.Tie as tie
-use Rattle.printed.proofs.lines.put_events.Reads as reads
-use Rattle.printed.proofs.lines.put_events.Lts as lts
-use Rattle.printed.proofs.lines.put_event.Reads as put-event-reads
 
 abbrev Inv-loop : tie.InvT-loop
 Inv-loop out₀ answers given words count place₀ i₀ out place i =

@@ -5,9 +5,6 @@ use Rattle.printed.proofs.LineLaws.{wordSpace, word-zero, word-some}
 use borrow.Author.Needs.{needs}
 use Rattle.printed.proofs.lines.put_word.Statement.{statement}
 use Rattle.printed.proofs.lines.put_word.Tie as tie
-use Rattle.printed.proofs.lines.put_word.Reads as reads
-use Rattle.printed.proofs.lines.put_word.Lts as lts
-use Rattle.printed.proofs.put.put_item.Reads as put-item-reads
 
 -- src/lines.rt:52:9
 returns : tie.Need-returns

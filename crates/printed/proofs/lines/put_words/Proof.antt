@@ -10,9 +10,6 @@ use mathlib.Core.Path.{ap}
 use borrow.Author.Needs.{needs}
 use Rattle.printed.proofs.lines.put_words.Statement.{statement}
 use Rattle.printed.proofs.lines.put_words.Tie as tie
-use Rattle.printed.proofs.lines.put_words.Reads as reads
-use Rattle.printed.proofs.lines.put_words.Lts as lts
-use Rattle.printed.proofs.lines.put_word.Reads as put-word-reads
 
 abbrev Inv-loop : tie.InvT-loop
 Inv-loop out₀ at memory place₀ i₀ out place i = (i ≤ length memory) × Puts out₀ at (wordLines 0 (take i memory)) place out

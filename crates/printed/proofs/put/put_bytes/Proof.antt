@@ -7,8 +7,6 @@ use Rattle.printed.specs.Internal.{Puts}
 use Rattle.printed.proofs.PutLaws.{puts-none, puts-as, put-place, put-long, put-next}
 use Rattle.printed.proofs.put.put_bytes.Statement.{statement}
 use Rattle.printed.proofs.put.put_bytes.Tie as tie
-use Rattle.printed.proofs.put.put_bytes.Reads as reads
-use Rattle.printed.proofs.put.put_bytes.Lts as lts
 
 abbrev Inv-loop : tie.InvT-loop
 Inv-loop out₀ at bytes place₀ i₀ out place i = (i ≤ length bytes) × Puts out₀ at (take i bytes) place out

@@ -5,10 +5,6 @@ use Rattle.printed.proofs.PutLaws.{puts-length, put-byte, decimal-few}
 use Rattle.printed.proofs.LineLaws.{both, both-end, both-long}
 use Rattle.printed.proofs.put.put_item.Statement.{statement}
 use Rattle.printed.proofs.put.put_item.Tie as tie
-use Rattle.printed.proofs.put.put_item.Reads as reads
-use Rattle.printed.proofs.put.put_item.Lts as lts
-use Rattle.printed.proofs.put.put_bytes.Reads as put-bytes-reads
-use Rattle.printed.proofs.put.put_digits.Reads as put-digits-reads
 
 -- src/put.rt:47:9
 put-bytes-requires : tie.Need-put-bytes-requires

@@ -4,9 +4,6 @@ use Rattle.printed.proofs.TextLaws.{printed-short, printed-fits, puts-f
 use borrow.Author.Needs.{needs}
 use Rattle.printed.proofs.text.print.Statement.{statement}
 use Rattle.printed.proofs.text.print.Tie as tie
-use Rattle.printed.proofs.text.print.Reads as reads
-use Rattle.printed.proofs.text.print.Lts as lts
-use Rattle.printed.proofs.text.put_text.Reads as put-text-reads
 
 -- src/text.rt:95:9
 returns : tie.Need-returns

@@ -10,14 +10,6 @@ use Rattle.printed.proofs.TextLaws.{plays-well, Held, replay-held, few-
 use borrow.Author.Needs.{needs}
 use Rattle.printed.proofs.text.put_played.Statement.{statement}
 use Rattle.printed.proofs.text.put_played.Tie as tie
-use Rattle.printed.proofs.text.put_played.Reads as reads
-use Rattle.printed.proofs.text.put_played.Lts as lts
-use Rattle.printed.proofs.lines.put_counts.Reads as put-counts-reads
-use Rattle.printed.proofs.lines.put_events.Reads as put-events-reads
-use Rattle.printed.proofs.lines.put_words.Reads as put-words-reads
-use Rattle.printed.proofs.text.no_answers.Reads as no-answers-reads
-use Rattle.printed.proofs.text.no_values.Reads as no-values-reads
-use Rattle.replay.proofs.replaying.replay.Reads as replay-reads
 
 -- src/text.rt:50:23
 no-answers-requires : tie.Need-no-answers-requires

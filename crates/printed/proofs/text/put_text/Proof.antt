@@ -6,11 +6,6 @@ use Rattle.printed.proofs.TextLaws.{table-long, table-fault, table-righ
 use borrow.Author.Needs.{needs}
 use Rattle.printed.proofs.text.put_text.Statement.{statement}
 use Rattle.printed.proofs.text.put_text.Tie as tie
-use Rattle.printed.proofs.text.put_text.Reads as reads
-use Rattle.printed.proofs.text.put_text.Lts as lts
-use Rattle.printed.proofs.put.put_item.Reads as put-item-reads
-use Rattle.printed.proofs.text.put_trace.Reads as put-trace-reads
-use Rattle.table.proofs.read.read_table.Reads as read-table-reads
 
 -- src/text.rt:80:33
 slice-aggregate-put-item : tie.Need-slice-aggregate-put-item

@@ -13,12 +13,6 @@ use Rattle.printed.proofs.TextLaws.{opened-words, take-zeros, trace-lon
 use borrow.Author.Needs.{needs}
 use Rattle.printed.proofs.text.put_trace.Statement.{statement}
 use Rattle.printed.proofs.text.put_trace.Tie as tie
-use Rattle.printed.proofs.text.put_trace.Reads as reads
-use Rattle.printed.proofs.text.put_trace.Lts as lts
-use Rattle.printed.proofs.put.put_item.Reads as put-item-reads
-use Rattle.printed.proofs.text.no_memory.Reads as no-memory-reads
-use Rattle.printed.proofs.text.put_played.Reads as put-played-reads
-use Rattle.replay.proofs.preparing.prepare.Reads as prepare-reads
 
 -- src/text.rt:78:33
 slice-aggregate-put-item : tie.Need-slice-aggregate-put-item

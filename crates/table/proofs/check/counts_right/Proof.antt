@@ -7,8 +7,6 @@ use native.Mathlib.Omega.{arith}
 use borrow.Author.Needs.{needs}
 use Rattle.table.proofs.check.counts_right.Statement.{statement}
 use Rattle.table.proofs.check.counts_right.Tie as tie
-use Rattle.table.proofs.check.counts_right.Reads as reads
-use Rattle.table.proofs.check.counts_right.Lts as lts
 
 -- src/check.rt:131:9
 some-is-not-none : (n : ℕ) → ltb 0 n ≡ not (eqb n 0)

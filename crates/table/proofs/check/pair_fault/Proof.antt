@@ -2,8 +2,6 @@ use borrow.Author.Tests.{le-leb, lt-leb, not-true, not-false}
 use borrow.Author.Needs.{needs}
 use Rattle.table.proofs.check.pair_fault.Statement.{statement}
 use Rattle.table.proofs.check.pair_fault.Tie as tie
-use Rattle.table.proofs.check.pair_fault.Reads as reads
-use Rattle.table.proofs.check.pair_fault.Lts as lts
 
 -- src/check.rt:82:9
 returns : tie.Need-returns

@@ -5,8 +5,6 @@ use borrow.Author.Needs.{needs}
 use Rattle.table.proofs.SpliceLaws.{Putting, putting-none, putting-room, putting-more, putting-end}
 use Rattle.table.proofs.number.put_number.Statement.{statement}
 use Rattle.table.proofs.number.put_number.Tie as tie
-use Rattle.table.proofs.number.put_number.Reads as reads
-use Rattle.table.proofs.number.put_number.Lts as lts
 
 abbrev Inv-loop : tie.InvT-loop
 Inv-loop out₀ at value left₀ place₀ out left place = Putting out₀ at value out left place

@@ -1,9 +1,6 @@
 use borrow.Author.Needs.{needs}
 use Rattle.table.proofs.read.refused.Statement.{statement}
 use Rattle.table.proofs.read.refused.Tie as tie
-use Rattle.table.proofs.read.refused.Reads as reads
-use Rattle.table.proofs.read.refused.Lts as lts
-use Rattle.table.proofs.read.no_table.Reads as no-table-reads
 
 -- src/read.rt:293:16
 no-table-requires : tie.Need-no-table-requires

@@ -1,8 +1,6 @@
 use borrow.Author.Tests.{ne-eqb}
 use Rattle.table.proofs.trace.event_of.Statement.{statement}
 use Rattle.table.proofs.trace.event_of.Tie as tie
-use Rattle.table.proofs.trace.event_of.Reads as reads
-use Rattle.table.proofs.trace.event_of.Lts as lts
 
 -- src/trace.rt:75:1
 returns : tie.Need-returns

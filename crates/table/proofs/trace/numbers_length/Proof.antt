@@ -6,9 +6,6 @@ use borrow.Author.Needs.{needs}
 use Rattle.table.proofs.SpliceLaws.{bytes-most, Counted, counted-none, counted-more, counted-end}
 use Rattle.table.proofs.trace.numbers_length.Statement.{statement}
 use Rattle.table.proofs.trace.numbers_length.Tie as tie
-use Rattle.table.proofs.trace.numbers_length.Reads as reads
-use Rattle.table.proofs.trace.numbers_length.Lts as lts
-use Rattle.table.proofs.number.number_length.Reads as number-length-reads
 
 abbrev Inv-loop : tie.InvT-loop
 Inv-loop numbers count total₀ i₀ total i = (i ≤ count) × (total ≤ 5 * i) × Counted (numbers .values) i total

@@ -4,8 +4,6 @@ use Rattle.table.specs.Event.{eventNumbers}
 use borrow.Author.Needs.{needs}
 use Rattle.table.proofs.trace.numbers_of.Statement.{statement}
 use Rattle.table.proofs.trace.numbers_of.Tie as tie
-use Rattle.table.proofs.trace.numbers_of.Reads as reads
-use Rattle.table.proofs.trace.numbers_of.Lts as lts
 
 -- src/trace.rt:207:27
 enum-known-event : tie.Need-enum-known-event

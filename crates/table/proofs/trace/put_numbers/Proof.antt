@@ -9,9 +9,6 @@ use Rattle.table.specs.Number.{bytesOf, numberBytes}
 use Rattle.table.proofs.SpliceLaws.{Put, put-none, put-length, put-one, bytes-room}
 use Rattle.table.proofs.trace.put_numbers.Statement.{statement}
 use Rattle.table.proofs.trace.put_numbers.Tie as tie
-use Rattle.table.proofs.trace.put_numbers.Reads as reads
-use Rattle.table.proofs.trace.put_numbers.Lts as lts
-use Rattle.table.proofs.number.put_number.Reads as put-number-reads
 
 abbrev Inv-loop : tie.InvT-loop
 Inv-loop out₀ numbers count place₀ i₀ out place i = (i ≤ count) × Put out₀ 0 (take i (numbers .values)) out place

@@ -6,11 +6,6 @@ use Rattle.table.proofs.TraceLaws.{event-at-end, event-at-inside}
 use borrow.Author.Needs.{needs}
 use Rattle.table.proofs.trace.read_event.Statement.{statement}
 use Rattle.table.proofs.trace.read_event.Tie as tie
-use Rattle.table.proofs.trace.read_event.Reads as reads
-use Rattle.table.proofs.trace.read_event.Lts as lts
-use Rattle.table.proofs.number.number_refusal.Reads as number-refusal-reads
-use Rattle.table.proofs.number.read_number.Reads as read-number-reads
-use Rattle.table.proofs.trace.read_kind.Reads as read-kind-reads
 
 -- src/trace.rt:135:9
 returns : tie.Need-returns

@@ -6,10 +6,6 @@ use Rattle.table.proofs.NumberLaws.{place-drop, NumberGot, number-got, 
 use borrow.Author.Needs.{needs}
 use Rattle.table.proofs.trace.read_header.Statement.{statement}
 use Rattle.table.proofs.trace.read_header.Tie as tie
-use Rattle.table.proofs.trace.read_header.Reads as reads
-use Rattle.table.proofs.trace.read_header.Lts as lts
-use Rattle.table.proofs.number.number_refusal.Reads as number-refusal-reads
-use Rattle.table.proofs.number.read_number.Reads as read-number-reads
 
 -- src/trace.rt:33:9
 read-number-requires : tie.Need-read-number-requires

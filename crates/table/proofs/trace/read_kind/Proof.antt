@@ -6,11 +6,6 @@ use Rattle.table.proofs.NumberLaws.{place-drop, NumberGot, number-got, 
 use borrow.Author.Needs.{needs}
 use Rattle.table.proofs.trace.read_kind.Statement.{statement}
 use Rattle.table.proofs.trace.read_kind.Tie as tie
-use Rattle.table.proofs.trace.read_kind.Reads as reads
-use Rattle.table.proofs.trace.read_kind.Lts as lts
-use Rattle.table.proofs.number.number_refusal.Reads as number-refusal-reads
-use Rattle.table.proofs.number.read_number.Reads as read-number-reads
-use Rattle.table.proofs.trace.event_of.Reads as event-of-reads
 
 -- src/trace.rt:103:9
 returns : tie.Need-returns

@@ -2,9 +2,6 @@ use mathlib.Core.Path.{sym, _∙_}
 use borrow.Author.Needs.{needs}
 use Rattle.table.proofs.trace.step_at.Statement.{statement}
 use Rattle.table.proofs.trace.step_at.Tie as tie
-use Rattle.table.proofs.trace.step_at.Reads as reads
-use Rattle.table.proofs.trace.step_at.Lts as lts
-use Rattle.table.proofs.trace.read_event.Reads as read-event-reads
 
 -- src/trace.rt:152:9
 read-event-requires : tie.Need-read-event-requires

@@ -1,10 +1,6 @@
 use borrow.Author.Needs.{needs}
 use Rattle.table.proofs.trace.write_event.Statement.{statement}
 use Rattle.table.proofs.trace.write_event.Tie as tie
-use Rattle.table.proofs.trace.write_event.Reads as reads
-use Rattle.table.proofs.trace.write_event.Lts as lts
-use Rattle.table.proofs.trace.numbers_of.Reads as numbers-of-reads
-use Rattle.table.proofs.trace.write_numbers.Reads as write-numbers-reads
 
 -- src/trace.rt:242:19
 numbers-of-requires : tie.Need-numbers-of-requires

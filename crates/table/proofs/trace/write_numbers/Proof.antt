@@ -7,10 +7,6 @@ use Rattle.table.proofs.SpliceLaws.{wrote-short, wrote-fits}
 use borrow.Author.Needs.{needs}
 use Rattle.table.proofs.trace.write_numbers.Statement.{statement}
 use Rattle.table.proofs.trace.write_numbers.Tie as tie
-use Rattle.table.proofs.trace.write_numbers.Reads as reads
-use Rattle.table.proofs.trace.write_numbers.Lts as lts
-use Rattle.table.proofs.trace.numbers_length.Reads as numbers-length-reads
-use Rattle.table.proofs.trace.put_numbers.Reads as put-numbers-reads
 
 -- src/trace.rt:194:9
 numbers-length-requires : tie.Need-numbers-length-requires

@@ -33,6 +33,7 @@ pub struct Entry {
 }
 
 // One side of a queue: its depth, how many entries it holds, and the next serial.
+#[repr(C)]
 pub struct Side {
     pub depth: u8,
     pub count: u8,
@@ -40,6 +41,7 @@ pub struct Side {
 }
 
 // All of a queue but its entries: its table, the memory length that it was opened for, and both sides.
+#[repr(C)]
 pub struct Frame {
     pub table: Table,
     pub words: u16,
@@ -55,6 +57,7 @@ pub struct Queue {
 }
 
 // Loads served, and loads forwarded.
+#[repr(C)]
 pub struct Counts {
     pub loads: u32,
     pub forwarded: u32,

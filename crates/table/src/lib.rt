@@ -10,6 +10,7 @@ pub mod trace;
 pub mod write;
 
 // An access of a group: how many accesses of the other kind come before it in the group, and its port.
+#[repr(C)]
 pub struct Pair {
     pub offset: u8,
     pub port: u8,
@@ -29,6 +30,7 @@ pub struct Group {
 }
 
 // Where a group's loads and its stores stand in a table: the first one's place, and how many.
+#[repr(C)]
 pub struct Span {
     pub first_load: u8,
     pub loads: u8,
@@ -38,6 +40,7 @@ pub struct Span {
 
 // A group table: where each group's accesses stand, and the accesses of all groups, loads and stores apart. A port stands
 // once in a table, so 32 places of each kind are enough. Places beyond the count, or that no group has, mean nothing.
+#[repr(C)]
 pub struct Table {
     pub count: u8,
     pub groups: [Span; 16],

@@ -24,7 +24,8 @@ use Rattle.queue.specs.Refusal.{unsound, noGroup, noPlace}
 use Rattle.queue.specs.Ruled.{refuse, accept, need}
 use Rattle.queue.specs.Sound.{sound}
 use Rattle.queue.specs.Activate.{newLoads, newStores, room, withGroup, activate}
-use Rattle.queue.specs.Internal.{sideOf, entriesIn, queueOf}
+use Rattle.queue.specs.Parts.{queueOf}
+use Rattle.queue.specs.Internal.{sideOf, entriesIn}
 use Rattle.queue.specs.InternalActivate.{loadAfter, storeAfter, entryAfter, PairsFit, Appended, longer, withPairs}
 use Rattle.queue.proofs.Lists.{and-left, and-right, map-same}
 use Rattle.queue.proofs.ContentsLaws.{nth-past, side-length}

@@ -6,7 +6,8 @@ ghost use lib.Dec.{leb};
 ghost use Rattle.queue.specs.Contents.{contentsOf};
 ghost use Rattle.queue.specs.Activate.{activate};
 ghost use Rattle.queue.specs.Outcome.{Moves};
-ghost use Rattle.queue.specs.Internal.{queueOf, outcomeOf, Whole};
+ghost use Rattle.queue.specs.Parts.{queueOf, outcomeOf, onParts};
+ghost use Rattle.queue.specs.Internal.{Whole};
 ghost use Rattle.queue.specs.InternalActivate.{PairsFit, Appended, longer};
 use crate::Entry;
 use crate::Frame;
@@ -20,7 +21,7 @@ use crate::entries::pack;
 use crate::refusal::NO_GROUP;
 use crate::refusal::NO_PLACE;
 use crate::refusal::UNSOUND;
-use crate::sound::parts_sound;
+use crate::sound::sound_in;
 use table::Group;
 use table::Pairs;
 use table::parts::group_at;
@@ -46,7 +47,7 @@ fn has_room(loads: Side, stores: Side, group: Group) -> bool
 
 // Puts a group's entries of one kind behind those held. An entry comes after all of the other kind that are held and those of
 // its group that its offset counts.
-fn append(entries: &mut [u64; 64], held: u8, pairs: Pairs, others: u8)
+fn append(entries: &mut [u64], held: u8, pairs: Pairs, others: u8)
     requires { ⌜ PairsFit held pairs × (others ≤ 64) × Whole (now entries) ⌝ }
     ensures { λ _. ⌜ Appended held pairs others (now (entries .entry)) (now (entries .exit)) ⌝ }
 {
@@ -83,18 +84,18 @@ fn longer(side: Side, more: u8) -> Side
 }
 
 // Activate on a queue's parts: 40, 20, 21. Each side goes by the other's count before the activation.
-fn activate_in(
+pub fn activate_in(
     frame: Frame,
-    load_entries: &mut [u64; 64],
-    store_entries: &mut [u64; 64],
+    load_entries: &mut [u64],
+    store_entries: &mut [u64],
     group: u32,
 ) -> Step
-    requires { ⌜ Whole (now «load_entries») × Whole (now «store_entries») ⌝ }
     ensures { λ r. ⌜ Moves (queueOf frame (now («load_entries» .entry)) (now («store_entries» .entry)))
-        (activate (contentsOf (queueOf frame (now («load_entries» .entry)) (now («store_entries» .entry)))) group)
+        (onParts (now («load_entries» .entry)) (now («store_entries» .entry))
+        (activate (contentsOf (queueOf frame (now («load_entries» .entry)) (now («store_entries» .entry)))) group))
         (outcomeOf r (now («load_entries» .exit)) (now («store_entries» .exit))) ⌝ }
 {
-    if !parts_sound(frame, load_entries, store_entries) {
+    if !sound_in(frame, load_entries, store_entries) {
         return refused(UNSOUND, frame);
     }
     let table = frame.table;

@@ -1,5 +1,6 @@
 // The group-allocated load-store queue: its record, and every call on it.
-// A call is handed the queue by value and gives back the queue that follows.
+// A call is handed the queue by value and gives back the queue that follows. The calls named `.._in` do the work: they are handed
+// the frame, and both sides' entries are lent to them as runs of numbers, so that nothing of these is copied.
 use table::Table;
 
 pub mod activation;

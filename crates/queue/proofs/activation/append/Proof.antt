@@ -1,8 +1,8 @@
 -- The entries are those held, and behind them the group's first j.
 use Prim.Native.Nat.{ℕ, _+_, _≤_, _<_, _-_}
-use mathlib.Core.Path.{_≡_, sym, _∙_}
+use mathlib.Core.Path.{_≡_, sym, _∙_, refl}
 use native.Mathlib.Omega.{arith}
-use lib.ListN.{length, getD, drop, length-drop}
+use lib.ListN.{length, getD, drop, length-drop, length-set}
 use lib.Seq.{getD-drop}
 use borrow.Author.Needs.{needs}
 use Rattle.table.specs.declared.Pair.{Pair}
@@ -26,7 +26,7 @@ after-number others p few port offset =
     entry-number (entryAfter others p) (record { port = port; before = before; address = omega arith; word = omega arith })
 
 abbrev Inv-loop : tie.InvT-loop
-Inv-loop entries₀ held others pairs start more first j₀ entries j = (j ≤ pairs .count) × Pasted (numberAfter others) entries₀ held (drop (pairs .first) (pairs .places)) j entries
+Inv-loop entries₀ held others pairs start more first j₀ entries j = (j ≤ pairs .count) × Pasted (numberAfter others) entries₀ held (drop (pairs .first) (pairs .places)) j entries × (length entries ≡ length entries₀)
 
 abbrev μ-loop : tie.MeasureT-loop
 μ-loop entries₀ held others pairs start more first j₀ entries j = more - j
@@ -42,9 +42,9 @@ this : (s : tie.Start Inv-loop μ-loop) (i : ℕ) → i < s .args .t3 .count →
 this s = view-at (s .args .t3) (wide s) (s .pre .0 .inside)
 
 -- what its entry remembers fits its byte
-offset-few : (l : tie.In-loop Inv-loop μ-loop) → let s = l .before .before in getD (s .args .t3 .places) (s .args .t3 .first + l .before .loop .j) blankPair .offset ≤ 16
+offset-few : (l : tie.In-loop Inv-loop μ-loop) → let s = l .before .before .before in getD (s .args .t3 .places) (s .args .t3 .first + l .before .loop .j) blankPair .offset ≤ 16
 offset-few l =
-    let s = l .before .before in
+    let s = l .before .before .before in
     rw (this s (l .before .loop .j) (l .loop-test .taken)) at (s .pre .0 .offsets (l .before .loop .j) (l .loop-test .taken))
 
 -- and its number has room for all of it
@@ -61,31 +61,31 @@ cast-first : tie.Need-cast-first Inv-loop μ-loop
 cast-first c = search needs
 
 loop-holds : tie.Need-loop-holds Inv-loop μ-loop
-loop-holds c = (search needs, pasted-none)
+loop-holds c = (search needs, pasted-none, refl)
 
 add-pair : tie.Need-add-pair Inv-loop μ-loop
-add-pair c = omega (arith, c .before .before .pre .0 .inside)
+add-pair c = omega (arith, c .before .before .before .pre .0 .inside)
 
 mul-pair : tie.Need-mul-pair Inv-loop μ-loop
-mul-pair c = omega (arith, c .before .before .pre .0 .inside)
+mul-pair c = omega (arith, c .before .before .before .pre .0 .inside)
 
 element-copy-out-pair : tie.Need-element-copy-out-pair Inv-loop μ-loop
-element-copy-out-pair c = omega (arith, c .before .before .pre .0 .inside)
+element-copy-out-pair c = omega (arith, c .before .before .before .pre .0 .inside)
 
 add-t19 : tie.Need-add-t19 Inv-loop μ-loop
-add-t19 c = omega (arith, offset-few (c .before .before), c .before .before .before .before .pre .1)
+add-t19 c = omega (arith, offset-few (c .before .before), c .before .before .before .before .before .pre .1)
 
 pack-requires : tie.Need-pack-requires Inv-loop μ-loop
 pack-requires c κs = search needs
 
 add-entries : tie.Need-add-entries Inv-loop μ-loop
-add-entries c = omega (arith, c .before .before .before .before .before .pre .0 .room)
+add-entries c = omega (arith, c .before .before .before .before .before .before .pre .0 .room)
 
 mul-entries : tie.Need-mul-entries Inv-loop μ-loop
-mul-entries c = omega (arith, c .before .before .before .before .before .pre .0 .room)
+mul-entries c = omega (arith, c .before .before .before .before .before .before .pre .0 .room)
 
-element-write-entries : tie.Need-element-write-entries Inv-loop μ-loop
-element-write-entries c = omega (arith, c .before .before .before .before .before .pre .0 .room)
+slice-write-entries : tie.Need-slice-write-entries Inv-loop μ-loop
+slice-write-entries c = omega (arith, c .before .before .before .before .before .before .pre .0 .room, c .before .before .before .before .before .before .pre .2, c .before .before .before .before .loop .inv .2)
 
 add-j : tie.Need-add-j Inv-loop μ-loop
 add-j c = omega arith
@@ -96,13 +96,16 @@ loop-less c = omega arith
 loop-again : tie.Need-loop-again Inv-loop μ-loop
 loop-again c =
     let l = c .before .before .before in
-    let s = l .before .before in
+    let s = l .before .before .before in
     let i = l .before .loop .inv in
-    (omega (arith, l .loop-test .taken), rw (c .pack .ensures) (pasted-more (i .1) blankPair (getD-drop (s .args .t3 .first) (s .args .t3 .places) (l .before .loop .j) blankPair) (omega (arith, s .pre .2, s .pre .0 .room, l .loop-test .taken)) (omega (arith, left s, l .loop-test .taken))))
+    (omega (arith, l .loop-test .taken), rw (c .pack .ensures) (pasted-more (i .1) blankPair (getD-drop (s .args .t3 .first) (s .args .t3 .places) (l .before .loop .j) blankPair) (omega (arith, s .pre .2, s .pre .0 .room, l .loop-test .taken)) (omega (arith, left s, l .loop-test .taken))), simp length-set (i .2))
+
+same-length : tie.Need-same-length Inv-loop μ-loop
+same-length c = c .before .loop .inv .2
 
 returns : tie.Need-returns Inv-loop μ-loop
 returns c =
-    let s = c .before .before in
+    let s = c .before .before .before in
     let i = c .before .loop .inv in
     record {
       holds = side-appended entryOf 0 (numberAfter (s .args .others)) (entryAfter (s .args .others)) blankPair (i .1) (s .args .t3 .count) (omega (arith, i .0, c .loop-test .left)) (omega (arith, s .pre .2, s .pre .0 .room)) (left s) (fits s);
@@ -124,8 +127,9 @@ append-spec =
     pack-requires
     add-entries
     mul-entries
-    element-write-entries
+    slice-write-entries
     add-j
     loop-less
     loop-again
+    same-length
     returns)

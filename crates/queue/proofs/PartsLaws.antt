@@ -1,18 +1,21 @@
 -- A queue's parts: what the check of them says, and what a rule on them comes to.
 use Prim.Native.Nat.{ℕ, _≤_}
 use native.Mathlib.Omega.{arith}
-use mathlib.Core.Path.{_≡_, refl, sym, _∙_}
+use mathlib.Core.Path.{_≡_, refl, sym, ap, _∙_}
 use mathlib.Core.Bool.{Bool, true, false, not, _&&_}
 use mathlib.Core.List.{List}
 use lib.Dec.{eqb}
-use lib.ListN.{length}
+use lib.ListN.{length, replicate}
 use borrow.Author.Tests.{not-true, not-false, eqb-true, eq-eqb, ne-eqb}
 use Rattle.queue.specs.declared.Queue.{Queue}
+use Rattle.queue.specs.declared.opening.OpenedFrame.{OpenedFrame}
 use Rattle.queue.specs.Refusal.{unsound}
-use Rattle.queue.specs.Ruled.{Ruled, refuse, need}
-use Rattle.queue.specs.Contents.{contentsOf}
+use Rattle.queue.specs.Ruled.{Ruled, refuse, accept, need}
+use Rattle.queue.specs.Contents.{Contents, contentsOf}
 use Rattle.queue.specs.Sound.{sound}
-use Rattle.queue.specs.Parts.{whole, onParts}
+use Rattle.queue.specs.NoQueue.{freshQueue, noFrame, noQueue}
+use Rattle.queue.specs.Outcome.{Opens}
+use Rattle.queue.specs.Parts.{whole, onParts, OpensFrame}
 use Rattle.queue.proofs.Lists.{and-left, and-right}
 use Rattle.queue.proofs.SoundLaws.{loads-few, stores-few}
 
@@ -73,3 +76,8 @@ module _ (q : Queue) where
       go : (w : Bool) → (w && sound (contentsOf q)) ≡ false → need w unsound rule ≡ refuse unsound
       go true z = h z
       go false z = refl
+
+-- ---- an opened frame is an opened queue, with two runs of zeros
+pub opens : (rule : Ruled Contents) (r : OpenedFrame) → OpensFrame noFrame rule r → Opens noQueue rule (record { answer = r .answer; queue = freshQueue (r .frame) })
+opens (refuse n) r e = ap (λ (o : OpenedFrame). record { answer = o .answer; queue = freshQueue (o .frame) }) e
+opens (accept q) r e = (e .0, e .1 (replicate 64 0) (replicate 64 0))

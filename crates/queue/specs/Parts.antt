@@ -1,6 +1,7 @@
 -- Calls on a queue's parts: its frame is handed over, and both sides' entries are lent as runs of numbers of any length. A run
 -- that has not just 64 numbers is no side's places: 40, before anything else.
 use Prim.Native.Nat.{ℕ}
+use mathlib.Core.Path.{_≡_}
 use mathlib.Core.Bool.{Bool, _&&_}
 use mathlib.Core.List.{List}
 use lib.Dec.{eqb}
@@ -14,8 +15,10 @@ use Rattle.queue.specs.declared.Readied.{Readied}
 use Rattle.queue.specs.declared.answering.Step.{Step}
 use Rattle.queue.specs.declared.serving.Service.{Service}
 use Rattle.queue.specs.declared.ready.ReadyCount.{ReadyCount}
+use Rattle.queue.specs.declared.opening.OpenedFrame.{OpenedFrame}
 use Rattle.queue.specs.Refusal.{unsound}
-use Rattle.queue.specs.Ruled.{Ruled, need}
+use Rattle.queue.specs.Ruled.{Ruled, refuse, accept, need}
+use Rattle.queue.specs.Contents.{Contents, contentsOf}
 
 -- the queue of these parts
 abbrev pub queueOf : Frame → List ℕ → List ℕ → Queue
@@ -45,3 +48,9 @@ countedOf s q = record { answer = s .answer; value = s .value; queue = q; counts
 -- the ready calls
 abbrev pub readiedOf : ReadyCount → Queue → Readied
 readiedOf r q = record { answer = r .answer; count = r .count; queue = q }
+
+-- Opening a frame: it holds no entry, so with whatever runs are lent it is the queue that the rule gives. A refused opening
+-- hands back the frame of no table, which means nothing.
+abbrev pub OpensFrame : Frame → Ruled Contents → OpenedFrame → Type 0
+OpensFrame none (refuse n) r = r ≡ record { answer = n; frame = none }
+OpensFrame none (accept q) r = (r .answer ≡ 0) × ((loads stores : List ℕ) → contentsOf (queueOf (r .frame) loads stores) ≡ q)

@@ -20,19 +20,13 @@ use Rattle.queue.specs.ServeLent.{withCounts}
 use Rattle.queue.specs.Records.{valueIn}
 use Rattle.queue.specs.Call.{Machine, Step, moved, served, written, taken}
 use Rattle.replay.specs.Playing.{Playing, playing, stepOf, played, countsAfter, afterServe}
-use Rattle.replay.specs.Internal.{uncounted}
+use Rattle.replay.specs.Internal.{Plays}
 
 abbrev made : Machine → Counts → Playing
 made m c = record { machine = m; counts = c }
 
 abbrev machine : Contents → List ℕ → Machine
 machine q m = record { queue = q; memory = m }
-
--- one event played on a queue's record, with the memory and the counts as they were and as they are left
-pub record Plays (q : Queue) (c : Counts) (memory : List ℕ) (e : Event) (r : Counted) (left : List ℕ) : Type 0 where
-  pub answer : stepOf (playing (contentsOf q) memory c) e .number ≡ r .answer
-  pub value : stepOf (playing (contentsOf q) memory c) e .value ≡ valueIn (r .value)
-  pub next : played (playing (contentsOf q) memory c) e ≡ playing (contentsOf (r .queue)) left (r .counts)
 
 -- the event by its value
 pub plays-as : {q : Queue} {c : Counts} {m : List ℕ} {e₁ e₂ : Event} {r : Counted} {left : List ℕ} → e₁ ≡ e₂ → Plays q c m e₂ r left → Plays q c m e₁ r left
@@ -80,8 +74,8 @@ module _ (q : Queue) (c : Counts) (m : List ℕ) where
   pub play-store-data : (p d : ℕ) (o : Outcome) → Moves q (storeData (contentsOf q) p d) o → Plays q c m (StoreData p d) (withCounts o c) m
   play-store-data p d o w = moves-play q c m (StoreData p d) (storeData (contentsOf q) p d) o refl refl w
 
-  pub play-serve : (s : ℕ) (r : Counted) (o : Outcome) → o ≡ uncounted r → Serves q c (serve (contentsOf q) m s) r → Plays q c m (Serve s) (withCounts o (r .counts)) m
-  play-serve s r o is w = rw is (serves-play q c m (Serve s) (serve (contentsOf q) m s) r refl refl w)
+  pub play-serve : (s : ℕ) (r : Counted) → Serves q c (serve (contentsOf q) m s) r → Plays q c m (Serve s) r m
+  play-serve s r w = serves-play q c m (Serve s) (serve (contentsOf q) m s) r refl refl w
 
   pub play-write : (s : ℕ) (o : Outcome) (left : List ℕ) → Writes q m (write (contentsOf q) m s) o left → Plays q c m (Write s) (withCounts o c) left
   play-write s o left w = writes-play q c m (Write s) (write (contentsOf q) m s) o left refl refl w

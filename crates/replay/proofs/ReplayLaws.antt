@@ -14,7 +14,7 @@ use Rattle.table.specs.Group.{GroupPairs}
 use Rattle.table.specs.TableBytes.{before}
 use Rattle.table.specs.declared.Event.{Event}
 use Rattle.queue.specs.declared.Counts.{Counts}
-use Rattle.queue.specs.declared.Outcome.{Outcome}
+use Rattle.queue.specs.declared.Counted.{Counted}
 use Rattle.queue.specs.declared.Queue.{Queue}
 use Rattle.queue.specs.Refusal.{wrongMemory}
 use Rattle.queue.specs.Ruled.{Ruled, refuse, accept}
@@ -23,15 +23,13 @@ use Rattle.queue.specs.Contents.{Contents, contentsOf}
 use Rattle.queue.specs.NoQueue.{noQueue}
 use Rattle.queue.specs.Outcome.{Opens}
 use Rattle.queue.specs.Records.{valueIn}
-use Rattle.queue.specs.ServeLent.{withCounts}
 use Rattle.replay.specs.declared.Replayed.{Replayed}
 use Rattle.replay.specs.Events.{eventsFrom}
 use Rattle.replay.specs.Playing.{Playing, playing, stepOf, played, Logged, logged, log, playedAll, answerOf, givenOf, wordOf}
 use Rattle.replay.specs.Replay.{Start, prepare, Replay, replayed, Buffers, fits, replay}
 use Rattle.replay.specs.Outcome.{over, logIn, Replays, Replayed-as}
-use Rattle.replay.specs.Internal.{Noted, Playable, eventsIn, through}
+use Rattle.replay.specs.Internal.{Plays, Put, Playable, eventsIn, through}
 use Rattle.replay.proofs.EventLaws.{EventGot}
-use Rattle.replay.proofs.PlayLaws.{Plays}
 
 abbrev pub buffers : List ℕ → List ℕ → List ℕ → Buffers
 buffers a g w = record { answers = a; given = g; words = w }
@@ -121,26 +119,26 @@ same-buffers : {a a₂ g g₂ w w₂ : List ℕ} → a ≡ a₂ → g ≡ g₂ �
 same-buffers e f h = cc
 
 -- one event more
-pub walk-more : {s : List ℕ} {start : ℕ} {p₀ : Playing} {b₀ b b₂ : Buffers} {place i next : ℕ} {q r : Queue} {c c₂ : Counts} {m left : List ℕ} {e : Event} {o : Outcome} → Walk s start p₀ b₀ place i (playing (contentsOf q) m c) b → EventGot s place e next → Plays q c m e (withCounts o c₂) left → Noted o i b r b₂ → Walk s start p₀ b₀ next (i + 1) (playing (contentsOf r) left c₂) b₂
-walk-more {s} {start} {p₀} {b₀} {b} {b₂} {place} {i} {next} {q} {r} {c} {c₂} {m} {left} {e} {o} k ev pl note =
+pub walk-more : {s : List ℕ} {start : ℕ} {p₀ : Playing} {b₀ b b₂ : Buffers} {place i next : ℕ} {q : Queue} {c : Counts} {m left : List ℕ} {e : Event} (r : Counted) → Walk s start p₀ b₀ place i (playing (contentsOf q) m c) b → EventGot s place e next → Plays q c m e r left → Put (r .answer) (r .value) i b b₂ → Walk s start p₀ b₀ next (i + 1) (playing (contentsOf (r .queue)) left (r .counts)) b₂
+walk-more {s} {start} {p₀} {b₀} {b} {b₂} {place} {i} {next} {q} {c} {m} {left} {e} r k ev pl put =
     let n = next-left (k .left) (k .reads) ev in
     let l : length (k .left) ≡ suc (length (n .rest)) = ap length (n .is) in
     let p = playing (contentsOf q) m c in
-    let new = asLogged (o .answer) (valueIn (o .value)) in
+    let after = playing (contentsOf (r .queue)) left (r .counts) in
+    let new = asLogged (r .answer) (valueIn (r .value)) in
     let same : logged (stepOf p e) ≡ new = ap₂ asLogged (pl .answer) (pl .value) in
-    let moves : played p e ≡ playing (contentsOf r) left c₂ = pl .next ∙ ap (λ (x : Queue). playing (contentsOf x) left c₂) (sym (note .queue)) in
-    let tail : log p (k .left) ≡ new ∷ log (playing (contentsOf r) left c₂) (n .rest) = ap (log p) (n .is) ∙ ap₂ (λ (h : Logged) (z : Playing). h ∷ log z (n .rest)) same moves in
+    let tail : log p (k .left) ≡ new ∷ log after (n .rest) = ap (log p) (n .is) ∙ ap₂ (λ (h : Logged) (z : Playing). h ∷ log z (n .rest)) same (pl .next) in
     record {
       done = k .done ++ new ∷ [];
       left = n .rest;
       reads = n .reads;
       logs = k .logs ∙ ap (λ (t : List Logged). k .done ++ t) tail ∙ sym (append-snoc (k .done) new _);
-      ends = k .ends ∙ ap (playedAll p) (n .is) ∙ ap (λ (z : Playing). playedAll z (n .rest)) moves;
+      ends = k .ends ∙ ap (playedAll p) (n .is) ∙ ap (λ (z : Playing). playedAll z (n .rest)) (pl .next);
       many = length-append (k .done) (new ∷ []) ∙ omega (arith, k .many);
       are = same-buffers
-          (note .answers ∙ ap (λ (z : Buffers). set (z .answers) i (answerOf new)) (k .are) ∙ over-more answerOf (k .done) new (b₀ .answers) i (k .many) (omega (arith, k .answers)))
-          (note .given ∙ ap (λ (z : Buffers). set (z .given) i (givenOf new)) (k .are) ∙ over-more givenOf (k .done) new (b₀ .given) i (k .many) (omega (arith, k .given)))
-          (note .words ∙ ap (λ (z : Buffers). set (z .words) i (wordOf new)) (k .are) ∙ over-more wordOf (k .done) new (b₀ .words) i (k .many) (omega (arith, k .words)));
+          (put .answers ∙ ap (λ (z : Buffers). set (z .answers) i (answerOf new)) (k .are) ∙ over-more answerOf (k .done) new (b₀ .answers) i (k .many) (omega (arith, k .answers)))
+          (put .given ∙ ap (λ (z : Buffers). set (z .given) i (givenOf new)) (k .are) ∙ over-more givenOf (k .done) new (b₀ .given) i (k .many) (omega (arith, k .given)))
+          (put .words ∙ ap (λ (z : Buffers). set (z .words) i (wordOf new)) (k .are) ∙ over-more wordOf (k .done) new (b₀ .words) i (k .many) (omega (arith, k .words)));
       answers = omega (arith, k .answers);
       given = omega (arith, k .given);
       words = omega (arith, k .words);

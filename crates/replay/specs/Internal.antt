@@ -5,12 +5,16 @@ use mathlib.Core.List.{List, []}
 use lib.ListN.{length, set}
 use Rattle.table.specs.Number.{Got, got, bad}
 use Rattle.table.specs.declared.Event.{Event}
+use Rattle.queue.specs.declared.Value.{Value}
 use Rattle.queue.specs.declared.Queue.{Queue}
-use Rattle.queue.specs.declared.Outcome.{Outcome}
+use Rattle.queue.specs.declared.Counts.{Counts}
 use Rattle.queue.specs.declared.Counted.{Counted}
+use Rattle.queue.specs.Contents.{contentsOf}
 use Rattle.queue.specs.Records.{valueIn}
+use Rattle.queue.specs.Parts.{queueOf}
+use Rattle.replay.specs.declared.playing.Played.{Played}
 use Rattle.replay.specs.Events.{eventsFrom}
-use Rattle.replay.specs.Playing.{Playing, log, playedAll, givenIn, wordIn}
+use Rattle.replay.specs.Playing.{Playing, playing, stepOf, played, log, playedAll, givenIn, wordIn}
 use Rattle.replay.specs.Replay.{Replay, Buffers}
 
 -- every event from a place on can be read, and there is room for what each is answered
@@ -29,15 +33,20 @@ eventsIn (bad n) = []
 abbrev pub through : Playing → List Event → Replay
 through p es = record { log = log p es; left = playedAll p es }
 
--- ---- an event that was played
+-- ---- one event
 
--- a serve's outcome without the counts
-abbrev pub uncounted : Counted → Outcome
-uncounted r = record { answer = r .answer; value = r .value; queue = r .queue }
+-- one event played on a queue, with the memory and the counts as they were and as they are left
+pub record Plays (q : Queue) (c : Counts) (memory : List ℕ) (e : Event) (r : Counted) (left : List ℕ) : Type 0 where
+  pub answer : stepOf (playing (contentsOf q) memory c) e .number ≡ r .answer
+  pub value : stepOf (playing (contentsOf q) memory c) e .value ≡ valueIn (r .value)
+  pub next : played (playing (contentsOf q) memory c) e ≡ playing (contentsOf (r .queue)) left (r .counts)
 
--- what was answered stands at a place of the buffers, and the queue that follows comes back
-pub record Noted (o : Outcome) (i : ℕ) (b : Buffers) (r : Queue) (b₂ : Buffers) : Type 0 where
-  pub queue : r ≡ o .queue
-  pub answers : b₂ .answers ≡ set (b .answers) i (o .answer)
-  pub given : b₂ .given ≡ set (b .given) i (givenIn (valueIn (o .value)))
-  pub words : b₂ .words ≡ set (b .words) i (wordIn (valueIn (o .value)))
+-- what it gave, and the entries that it left
+abbrev pub playedOf : Played → List ℕ → List ℕ → Counted
+playedOf r loads stores = record { answer = r .answer; value = r .value; queue = queueOf (r .frame) loads stores; counts = r .counts }
+
+-- an answer and a value stand at a place of the buffers
+pub record Put (answer : ℕ) (value : Value) (i : ℕ) (b b₂ : Buffers) : Type 0 where
+  pub answers : b₂ .answers ≡ set (b .answers) i answer
+  pub given : b₂ .given ≡ set (b .given) i (givenIn (valueIn value))
+  pub words : b₂ .words ≡ set (b .words) i (wordIn (valueIn value))

@@ -1,17 +1,114 @@
-// What an event that was played leaves: its answer and value in the buffers, and the queue that follows.
+// Playing one event: a call on the queue's parts, whose answer and value are put into the buffers.
 ghost use mathlib.Core.Path.{_≡_};
 ghost use Prim.Native.Nat.{_<_};
 ghost use lib.ListN.{length};
+ghost use Rattle.queue.specs.declared.Value.the-variants.{Nothing};
 ghost use Rattle.queue.specs.Records.{valueIn};
+ghost use Rattle.queue.specs.Parts.{queueOf, whole};
+ghost use mathlib.Core.Bool.{true};
 ghost use Rattle.replay.specs.Playing.{givenIn, wordIn};
-ghost use Rattle.replay.specs.Internal.{uncounted, Noted};
-use queue::Counted;
-use queue::Outcome;
-use queue::Queue;
+ghost use Rattle.replay.specs.Internal.{Plays, playedOf, Put};
+use queue::Counts;
+use queue::Frame;
 use queue::Value;
+use queue::activation::activate_in;
+use queue::answering::Step;
+use queue::arguments::load_address_in;
+use queue::arguments::store_address_in;
+use queue::arguments::store_data_in;
+use queue::serving::serve_in;
+use queue::taking::take_in;
+use queue::writing::write_in;
+use table::Event;
+
+// What an event gives: its answer and value, and the frame and the counts that follow.
+pub struct Played {
+    pub answer: u8,
+    pub value: Value,
+    pub frame: Frame,
+    pub counts: Counts,
+}
+
+// An event that changes no count.
+fn stepped(step: Step, counts: Counts) -> Played
+    ensures { λ r. ⌜ r ≡ record { answer = step .answer; value = step .value; frame = step .frame; counts = counts } ⌝ }
+{
+    let value = step.value;
+    let frame = step.frame;
+    Played {
+        answer: step.answer,
+        value,
+        frame,
+        counts,
+    }
+}
+
+// An event that gives no value and changes neither frame nor counts.
+fn answered(answer: u8, frame: Frame, counts: Counts) -> Played
+    ensures { λ r. ⌜ r ≡ record { answer = answer; value = Nothing; frame = frame; counts = counts } ⌝ }
+{
+    Played {
+        answer,
+        value: Value::Nothing,
+        frame,
+        counts,
+    }
+}
+
+// Plays one event on a queue's parts, with the memory and the counts that the last one left.
+pub(crate) fn play_event(
+    frame: Frame,
+    loads: &mut [u64],
+    stores: &mut [u64],
+    memory: &mut [u32],
+    counts: Counts,
+    event: Event,
+) -> Played
+    requires { ⌜ whole (now loads) (now stores) ≡ true ⌝ }
+    ensures { λ r. ⌜ Plays (queueOf frame (now (loads .entry)) (now (stores .entry))) counts (now (memory .entry)) event
+        (playedOf r (now (loads .exit)) (now (stores .exit))) (now (memory .exit)) ⌝ }
+{
+    match event {
+        Event::Activate { group } => stepped(activate_in(frame, loads, stores, group), counts),
+        Event::LoadAddress { port, address } => {
+            answered(
+                load_address_in(frame, loads, stores, port, address),
+                frame,
+                counts,
+            )
+        }
+        Event::StoreAddress { port, address } => {
+            answered(
+                store_address_in(frame, loads, stores, port, address),
+                frame,
+                counts,
+            )
+        }
+        Event::StoreData { port, word } => {
+            answered(
+                store_data_in(frame, loads, stores, port, word),
+                frame,
+                counts,
+            )
+        }
+        Event::Serve { serial } => {
+            let service = serve_in(frame, loads, stores, memory, counts, serial);
+            let value = service.value;
+            let counts = service.counts;
+            Played {
+                answer: service.answer,
+                value,
+                frame,
+                counts,
+            }
+        }
+        Event::Write { serial } => stepped(write_in(frame, loads, stores, memory, serial), counts),
+        Event::Take { port } => stepped(take_in(frame, loads, stores, port), counts),
+    }
+}
 
 // 1 where there is a value, else 0.
-fn value_given(value: Value) -> u8
+pub fn value_given(value: Value) -> u8
     ensures { λ r. ⌜ r ≡ givenIn (valueIn value) ⌝ }
 {
     match value {
@@ -21,7 +118,7 @@ fn value_given(value: Value) -> u8
 }
 
 // The value, or 0 where there is none.
-fn value_word(value: Value) -> u32
+pub fn value_word(value: Value) -> u32
     ensures { λ r. ⌜ r ≡ wordIn (valueIn value) ⌝ }
 {
     match value {
@@ -30,34 +127,20 @@ fn value_word(value: Value) -> u32
     }
 }
 
-// A serve's outcome without the counts.
-pub(crate) fn uncounted(served: Counted) -> Outcome
-    ensures { λ r. ⌜ r ≡ uncounted served ⌝ }
-{
-    let value = served.value;
-    let queue = served.queue;
-    Outcome {
-        answer: served.answer,
-        value,
-        queue,
-    }
-}
-
-// Puts what an event was answered into the buffers, and gives back the queue that follows.
-pub(crate) fn note(
-    outcome: Outcome,
+// Puts an answer and a value at a place of the buffers.
+pub(crate) fn put(
+    answer: u8,
+    value: Value,
     i: usize,
     answers: &mut [u8],
     given: &mut [u8],
     words: &mut [u32],
-) -> Queue
+)
     requires { ⌜ (i < length (now answers)) × (i < length (now given)) × (i < length (now words)) ⌝ }
-    ensures { λ r. ⌜ Noted outcome i (record { answers = now (answers .entry); given = now (given .entry); words = now (words .entry) }) r
+    ensures { λ _. ⌜ Put answer value i (record { answers = now (answers .entry); given = now (given .entry); words = now (words .entry) })
         (record { answers = now (answers .exit); given = now (given .exit); words = now (words .exit) }) ⌝ }
 {
-    let value = outcome.value;
-    answers[i] = outcome.answer;
+    answers[i] = answer;
     given[i] = value_given(value);
     words[i] = value_word(value);
-    outcome.queue
 }

@@ -8,13 +8,12 @@ ghost use Rattle.replay.specs.Replay.{replay};
 ghost use Rattle.replay.specs.Outcome.{Replays, Replayed-as};
 ghost use Rattle.replay.specs.Internal.{Playable, eventsIn, through};
 use crate::Replayed;
-use crate::playing::note;
-use crate::playing::uncounted;
+use crate::playing::play_event;
+use crate::playing::put;
 use crate::preparing::prepare;
 use queue::Counts;
 use queue::Queue;
 use queue::refusal::WRONG_MEMORY;
-use table::Event;
 use table::EventRead;
 use table::Table;
 use table::refusal::TOO_SHORT;
@@ -42,10 +41,9 @@ fn unplayed(answer: u8, counts: Counts) -> Replayed
     }
 }
 
-// Plays the events from a place on, which can all be read. Each kind's arm puts its own queue in place: a queue that all arms
-// hand to one place would be copied there once more.
+// Plays the events from a place on, which can all be read.
 fn play_all(
-    mut queue: Queue,
+    queue: Queue,
     mut counts: Counts,
     trace: &[u8],
     from: usize,
@@ -59,6 +57,9 @@ fn play_all(
         (record { answers = now (answers .entry); given = now (given .entry); words = now (words .entry) }) r (now (memory .exit))
         (record { answers = now (answers .exit); given = now (given .exit); words = now (words .exit) }) ⌝ }
 {
+    let mut frame = queue.frame;
+    let mut loads = queue.load_entries;
+    let mut stores = queue.store_entries;
     let mut place = from;
     let mut i: usize = 0;
     loop {
@@ -66,35 +67,13 @@ fn play_all(
         let EventRead::Found(event, next) = read else {
             return played(i, counts);
         };
-        let at = i;
+        let step = play_event(frame, &mut loads, &mut stores, memory, counts, event);
+        let value = step.value;
+        put(step.answer, value, i, answers, given, words);
+        frame = step.frame;
+        counts = step.counts;
         place = next;
         i += 1;
-        match event {
-            Event::Activate { group } => {
-                queue = note(queue.activate(group), at, answers, given, words);
-            }
-            Event::LoadAddress { port, address } => {
-                queue = note(queue.load_address(port, address), at, answers, given, words);
-            }
-            Event::StoreAddress { port, address } => {
-                let stored = queue.store_address(port, address);
-                queue = note(stored, at, answers, given, words);
-            }
-            Event::StoreData { port, word } => {
-                queue = note(queue.store_data(port, word), at, answers, given, words);
-            }
-            Event::Serve { serial } => {
-                let served = queue.serve_counted(memory, counts, serial);
-                counts = served.counts;
-                queue = note(uncounted(served), at, answers, given, words);
-            }
-            Event::Write { serial } => {
-                queue = note(queue.write(memory, serial), at, answers, given, words);
-            }
-            Event::Take { port } => {
-                queue = note(queue.take(port), at, answers, given, words);
-            }
-        }
     }
 }
 

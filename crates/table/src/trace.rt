@@ -72,8 +72,8 @@ pub fn read_header(bytes: &[u8]) -> HeaderRead
     HeaderRead::Leading(header, place)
 }
 
-// The event of a kind and its numbers.
-fn event_of(kind: u32, first: u32, second: u32) -> Event
+// The event of a kind and its numbers; a kind above 6 is taken for 6, and a kind with one number leaves the second alone.
+pub fn event_of(kind: u32, first: u32, second: u32) -> Event
     ensures { λ r. ⌜ r ≡ eventOf kind first second ⌝ }
 {
     match kind {

@@ -1,0 +1,27 @@
+-- What the call on the parts gives, told as numbers.
+use Rattle.queue.specs.Contents.{contentsOf}
+use Rattle.queue.specs.Activate.{activate}
+use Rattle.queue.specs.Parts.{queueOf, outcomeOf, onParts}
+use Rattle.exports.proofs.LiveLaws.{moves-tell}
+use borrow.Author.Needs.{needs}
+use Rattle.exports.proofs.live.lsq_activate_in.Statement.{statement}
+use Rattle.exports.proofs.live.lsq_activate_in.Tie as tie
+
+returns : tie.Need-returns
+returns c =
+    let k = c .before .before .before .before .before in
+    let a = k .before .before .before .before .before .args in
+    let q = queueOf (a .frame) (a .loads .now) (a .stores .now) in
+    let left = outcomeOf (k .activate-in .result) (k .activate-in .last .1 .0) (k .activate-in .last .1 .1 .0) in
+    let rule = onParts (a .loads .now) (a .stores .now) (activate (contentsOf q) (a .group)) in
+    rw (c .live-step .ensures) (moves-tell q left rule (k .activate-in .ensures))
+
+pub lsq-activate-in-spec : {M : Type 1} → statement M
+lsq-activate-in-spec =
+    tie.close
+    (tie.spec
+    (λ c κs. search needs)
+    (λ c κs. search needs)
+    (λ c. search needs)
+    (λ c. search needs)
+    returns)

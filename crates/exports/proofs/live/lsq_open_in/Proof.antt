@@ -1,0 +1,41 @@
+-- The table's refusal, then that of opening.
+use mathlib.Core.Path.{_≡_, ap, _∙_}
+use Rattle.table.specs.Table.{groupsOf}
+use Rattle.table.specs.TableBytes.{tableAnswer}
+use Rattle.table.specs.declared.TableRead.{TableRead}
+use Rattle.queue.specs.declared.Frame.{Frame}
+use Rattle.queue.specs.declared.opening.OpenedFrame.{OpenedFrame}
+use Rattle.replay.proofs.TableLaws.{table-refused, table-got}
+use Rattle.exports.proofs.LiveLaws.{no-table-no-frame}
+use borrow.Author.Needs.{needs}
+use Rattle.exports.proofs.live.lsq_open_in.Statement.{statement}
+use Rattle.exports.proofs.live.lsq_open_in.Tie as tie
+
+-- a refused table is the table of no groups, on which opening gives the frame of no table
+returns : tie.Need-returns
+returns c =
+    let i = c .before in
+    let o = i .before .before .before in
+    let t = o .before .before in
+    let a = t .before .before .args in
+    let is = table-refused (a .table .now) (t .read-table .result) (t .read-table .ensures) (i .if1 .taken) in
+    let none = ap (λ (x : TableRead). x .table) (t .read-table .ensures ∙ ap tableAnswer is) in
+    rw is (ap (λ (f : Frame). record { answer = t .read-table .result .answer; frame = f }) (no-table-no-frame (a .load-depth) (a .store-depth) (a .first) (a .words) (o .open-in .result) (t .read-table .result .table) none (o .open-in .ensures)))
+
+returns-2 : tie.Need-returns-2
+returns-2 c =
+    let i = c .before in
+    let o = i .before .before .before in
+    let t = o .before .before in
+    rw (table-got (t .before .before .args .table .now) (t .read-table .result) (t .read-table .ensures) (i .if1 .left) .is) (o .open-in .ensures)
+
+pub lsq-open-in-spec : {M : Type 1} → statement M
+lsq-open-in-spec =
+    tie.close
+    (tie.spec
+    (λ c κs. search needs)
+    (λ c κs. search needs)
+    (λ c. search needs)
+    returns
+    (λ c. search needs)
+    returns-2)

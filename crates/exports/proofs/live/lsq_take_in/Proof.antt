@@ -1,0 +1,27 @@
+-- What the call on the parts gives, told as numbers.
+use Rattle.queue.specs.Contents.{contentsOf}
+use Rattle.queue.specs.Take.{take}
+use Rattle.queue.specs.Parts.{queueOf, outcomeOf, onParts}
+use Rattle.exports.proofs.LiveLaws.{takes-tell}
+use borrow.Author.Needs.{needs}
+use Rattle.exports.proofs.live.lsq_take_in.Statement.{statement}
+use Rattle.exports.proofs.live.lsq_take_in.Tie as tie
+
+returns : tie.Need-returns
+returns c =
+    let k = c .before .before .before .before .before in
+    let a = k .before .before .before .before .before .args in
+    let q = queueOf (a .frame) (a .loads .now) (a .stores .now) in
+    let left = outcomeOf (k .take-in .result) (k .take-in .last .1 .0) (k .take-in .last .1 .1 .0) in
+    let rule = onParts (a .loads .now) (a .stores .now) (take (contentsOf q) (a .port)) in
+    rw (c .live-step .ensures) (takes-tell q left rule (k .take-in .ensures))
+
+pub lsq-take-in-spec : {M : Type 1} → statement M
+lsq-take-in-spec =
+    tie.close
+    (tie.spec
+    (λ c κs. search needs)
+    (λ c κs. search needs)
+    (λ c. search needs)
+    (λ c. search needs)
+    returns)

@@ -1,0 +1,99 @@
+-- What live calls hand to C and Rust. Each rule is the queue's own, on the parts that are lent (`onParts`).
+use Prim.Native.Nat.{ℕ}
+use mathlib.Core.Path.{_≡_}
+use mathlib.Core.List.{List}
+use mathlib.Core.Option.{Option, none, some}
+use Rattle.table.specs.Group.{GroupPairs}
+use Rattle.queue.specs.declared.Queue.{Queue}
+use Rattle.queue.specs.declared.Frame.{Frame}
+use Rattle.queue.specs.declared.Counts.{Counts}
+use Rattle.queue.specs.declared.Outcome.{Outcome}
+use Rattle.queue.specs.declared.Counted.{Counted}
+use Rattle.queue.specs.declared.Readied.{Readied}
+use Rattle.queue.specs.declared.answering.Step.{Step}
+use Rattle.queue.specs.declared.serving.Service.{Service}
+use Rattle.queue.specs.declared.opening.OpenedFrame.{OpenedFrame}
+use Rattle.queue.specs.Ruled.{Ruled, refuse, accept, andThen}
+use Rattle.queue.specs.Contents.{Contents, contentsOf}
+use Rattle.queue.specs.Open.{openQueue}
+use Rattle.queue.specs.Serve.{Served}
+use Rattle.queue.specs.Write.{Written}
+use Rattle.queue.specs.Take.{Taken}
+use Rattle.queue.specs.Records.{valueIn}
+use Rattle.queue.specs.NoQueue.{noFrame}
+use Rattle.queue.specs.Parts.{queueOf, OpensFrame}
+use Rattle.replay.specs.Playing.{givenIn, wordIn}
+use Rattle.exports.specs.declared.live.LiveOpened.{LiveOpened}
+use Rattle.exports.specs.declared.live.LiveStep.{LiveStep}
+use Rattle.exports.specs.declared.live.LiveService.{LiveService}
+use Rattle.exports.specs.declared.live.LiveReady.{LiveReady}
+use Rattle.exports.specs.Prepared.{tableIn}
+
+-- Opening on a table's bytes: the table's refusal, then that of opening.
+abbrev pub openBytes : List ℕ → ℕ → ℕ → ℕ → ℕ → Ruled Contents
+openBytes table loadDepth storeDepth first words = andThen (tableIn table) λ gs. openQueue gs loadDepth storeDepth first words
+
+abbrev pub LiveOpens : Ruled Contents → LiveOpened → Type 0
+LiveOpens rule r = OpensFrame noFrame rule (record { answer = r .answer; frame = r .frame })
+
+-- What a live call tells: its answer, 1 or 0 as it gave a value or none, the value or 0, and the queue that its parts are left as.
+pub record Told : Type 0 where
+  pub answer : ℕ
+  pub given : ℕ
+  pub value : ℕ
+  pub queue : Queue
+
+abbrev pub toldStep : LiveStep → List ℕ → List ℕ → Told
+toldStep r loads stores = record { answer = r .answer; given = r .given; value = r .value; queue = queueOf (r .frame) loads stores }
+
+abbrev pub toldService : LiveService → Queue → Told
+toldService r q = record { answer = r .answer; given = r .given; value = r .value; queue = q }
+
+-- what an accepted call gives: a value or none, and what the queue then holds
+pub record Gives : Type 0 where
+  pub value : Option ℕ
+  pub queue : Contents
+
+abbrev pub moved : Contents → Ruled Gives
+moved q = accept (record { value = none; queue = q })
+
+abbrev pub took : Taken → Ruled Gives
+took t = accept (record { value = some (t .value); queue = t .queue })
+
+abbrev pub served : Served → Ruled Gives
+served s = accept (record { value = some (s .value); queue = s .queue })
+
+abbrev pub written : Written → Ruled Gives
+written w = accept (record { value = none; queue = w .queue })
+
+pub record Accepted (g : Gives) (t : Told) : Type 0 where
+  pub answer : t .answer ≡ 0
+  pub given : t .given ≡ givenIn (g .value)
+  pub value : t .value ≡ wordIn (g .value)
+  pub holds : contentsOf (t .queue) ≡ g .queue
+
+-- a refusal tells its number and no value, and leaves the very queue
+abbrev pub Tells : Queue → Ruled Gives → Told → Type 0
+Tells q (refuse n) t = t ≡ record { answer = n; given = 0; value = 0; queue = q }
+Tells q (accept g) t = Accepted g t
+
+-- the memory that a write leaves
+abbrev pub memoryAfter : List ℕ → Ruled Written → List ℕ
+memoryAfter lent (refuse n) = lent
+memoryAfter lent (accept w) = w .memory
+
+abbrev pub readiedOf : LiveReady → Queue → Readied
+readiedOf r q = record { answer = r .answer; count = r .count; queue = q }
+
+-- ---- how the numbers for C come of what the queue's calls give
+abbrev pub liveStep : Step → LiveStep
+liveStep s = record { answer = s .answer; given = givenIn (valueIn (s .value)); value = wordIn (valueIn (s .value)); frame = s .frame }
+
+abbrev pub liveService : Service → LiveService
+liveService s = record { answer = s .answer; given = givenIn (valueIn (s .value)); value = wordIn (valueIn (s .value)); counts = s .counts }
+
+abbrev pub toldOf : Outcome → Told
+toldOf o = record { answer = o .answer; given = givenIn (valueIn (o .value)); value = wordIn (valueIn (o .value)); queue = o .queue }
+
+abbrev pub toldServed : Counted → Told
+toldServed o = record { answer = o .answer; given = givenIn (valueIn (o .value)); value = wordIn (valueIn (o .value)); queue = o .queue }

@@ -43,8 +43,13 @@ pub record Told : Type 0 where
   pub value : ℕ
   pub queue : Queue
 
-abbrev pub toldStep : LiveStep → List ℕ → List ℕ → Told
-toldStep r loads stores = record { answer = r .answer; given = r .given; value = r .value; queue = queueOf (r .frame) loads stores }
+abbrev pub toldStep : Frame → LiveStep → List ℕ → List ℕ → Told
+toldStep frame r loads stores = record {
+  answer = r .answer;
+  given = r .given;
+  value = r .value;
+  queue = queueOf (record { table = frame .table; words = frame .words; loads = r .loads; stores = r .stores }) loads stores;
+}
 
 abbrev pub toldService : LiveService → Queue → Told
 toldService r q = record { answer = r .answer; given = r .given; value = r .value; queue = q }
@@ -87,7 +92,7 @@ readiedOf r q = record { answer = r .answer; count = r .count; queue = q }
 
 -- ---- how the numbers for C come of what the queue's calls give
 abbrev pub liveStep : Step → LiveStep
-liveStep s = record { answer = s .answer; given = givenIn (valueIn (s .value)); value = wordIn (valueIn (s .value)); frame = s .frame }
+liveStep s = record { answer = s .answer; given = givenIn (valueIn (s .value)); value = wordIn (valueIn (s .value)); loads = s .loads; stores = s .stores }
 
 abbrev pub liveService : Service → LiveService
 liveService s = record { answer = s .answer; given = givenIn (valueIn (s .value)); value = wordIn (valueIn (s .value)); counts = s .counts }

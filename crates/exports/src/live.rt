@@ -20,6 +20,7 @@ ghost use Rattle.replay.specs.Playing.{afterServe};
 ghost use Rattle.exports.specs.Live.{openBytes, LiveOpens, liveStep, liveService, toldStep, toldService, Tells, moved, took, served, written, memoryAfter, readiedOf};
 use queue::Counts;
 use queue::Frame;
+use queue::Side;
 use queue::activation::activate_in;
 use queue::answering::Step;
 use queue::arguments::load_address_in;
@@ -44,14 +45,15 @@ pub struct LiveOpened {
     pub frame: Frame,
 }
 
-// What a call that may change the frame hands back: its answer, 1 or 0 as it gave a value or none, the value or 0, and the
-// frame that follows.
+// What a call that may move the sides hands back: its answer, 1 or 0 as it gave a value or none, the value or 0, and both sides
+// that follow. The frame's table and memory length stay.
 #[repr(C)]
 pub struct LiveStep {
     pub answer: u32,
     pub given: u32,
     pub value: u32,
-    pub frame: Frame,
+    pub loads: Side,
+    pub stores: Side,
 }
 
 // What a serve hands back: likewise, with the counts that follow; the frame stays.
@@ -75,12 +77,14 @@ fn live_step(step: Step) -> LiveStep
     ensures { λ r. ⌜ r ≡ liveStep step ⌝ }
 {
     let value = step.value;
-    let frame = step.frame;
+    let loads = step.loads;
+    let stores = step.stores;
     LiveStep {
         answer: step.answer as u32,
         given: value_given(value) as u32,
         value: value_word(value),
-        frame,
+        loads,
+        stores,
     }
 }
 
@@ -143,7 +147,7 @@ pub extern "C" fn lsq_activate_in(
 ) -> LiveStep
     ensures { λ r. ⌜ Tells (queueOf frame (now (loads .entry)) (now (stores .entry)))
         (andThen (onParts (now (loads .entry)) (now (stores .entry)) (activate (contentsOf (queueOf frame (now (loads .entry)) (now (stores .entry)))) group)) moved)
-        (toldStep r (now (loads .exit)) (now (stores .exit))) ⌝ }
+        (toldStep frame r (now (loads .exit)) (now (stores .exit))) ⌝ }
 {
     let step = activate_in(frame, loads, stores, group);
     live_step(step)
@@ -230,7 +234,7 @@ pub extern "C" fn lsq_write_in(
 ) -> LiveStep
     ensures { λ r. ⌜ Tells (queueOf frame (now (loads .entry)) (now (stores .entry)))
         (andThen (onParts (now (loads .entry)) (now (stores .entry)) (write (contentsOf (queueOf frame (now (loads .entry)) (now (stores .entry)))) (now (memory .entry)) serial)) written)
-        (toldStep r (now (loads .exit)) (now (stores .exit)))
+        (toldStep frame r (now (loads .exit)) (now (stores .exit)))
         × (now (memory .exit) ≡ memoryAfter (now (memory .entry)) (onParts (now (loads .entry)) (now (stores .entry)) (write (contentsOf (queueOf frame (now (loads .entry)) (now (stores .entry)))) (now (memory .entry)) serial))) ⌝ }
 {
     let step = write_in(frame, loads, stores, memory, serial);
@@ -247,7 +251,7 @@ pub extern "C" fn lsq_take_in(
 ) -> LiveStep
     ensures { λ r. ⌜ Tells (queueOf frame (now (loads .entry)) (now (stores .entry)))
         (andThen (onParts (now (loads .entry)) (now (stores .entry)) (take (contentsOf (queueOf frame (now (loads .entry)) (now (stores .entry)))) port)) took)
-        (toldStep r (now (loads .exit)) (now (stores .exit))) ⌝ }
+        (toldStep frame r (now (loads .exit)) (now (stores .exit))) ⌝ }
 {
     let step = take_in(frame, loads, stores, port);
     live_step(step)

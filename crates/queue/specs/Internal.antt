@@ -17,7 +17,7 @@ use Rattle.queue.specs.Contents.{Load, Store, loadIn, storeIn}
 
 -- ---- what a call on the parts gives where it is refused
 abbrev pub refusedStep : ℕ → Frame → Step
-refusedStep n frame = record { answer = n; value = Nothing; frame = frame }
+refusedStep n frame = record { answer = n; value = Nothing; loads = frame .loads; stores = frame .stores }
 
 -- ---- what a count and an array of numbers hold
 abbrev pub sideOf : {A B : Type 0} → (A → B) → A → ℕ → List A → List B

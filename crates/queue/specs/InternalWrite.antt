@@ -8,6 +8,8 @@ use lib.ListN.{getD, take, drop, set}
 use Rattle.table.specs.Basics.{pick, all, nth}
 use Rattle.queue.specs.declared.Entry.{Entry}
 use Rattle.queue.specs.declared.Side.{Side}
+use Rattle.queue.specs.declared.Frame.{Frame}
+use Rattle.queue.specs.declared.answering.Sides.{Sides}
 use Rattle.queue.specs.declared.entries.Mark.{Mark}
 use Rattle.queue.specs.Entry.{entryOf}
 use Rattle.queue.specs.Refusal.{noSerial, alreadyDone, noAddress, noData, earlierLoadInWay, earlierStoreInWay}
@@ -32,6 +34,10 @@ pub record Shifted (gone left others : ℕ) (l after : List ℕ) : Type 0 where
 -- a side that holds so many fewer
 abbrev pub shorter : Side → ℕ → Side
 shorter side gone = record { depth = side .depth; count = side .count - gone; next = side .next }
+
+-- a frame with these sides
+abbrev pub withSides : Frame → Sides → Frame
+withSides frame sides = record { table = frame .table; words = frame .words; loads = sides .loads; stores = sides .stores }
 
 -- a word and the address that it is put at
 pub record Put : Type 0 where

@@ -37,9 +37,12 @@ onParts loads stores rule = need (whole loads stores) unsound rule
 abbrev pub answered : ℕ → Queue → Outcome
 answered n q = record { answer = n; value = Nothing; queue = q }
 
--- activate, write and take
-abbrev pub outcomeOf : Step → List ℕ → List ℕ → Outcome
-outcomeOf s loads stores = record { answer = s .answer; value = s .value; queue = queueOf (s .frame) loads stores }
+-- activate, write and take, which may move both sides of the frame; its table and memory length stay
+abbrev pub frameAfter : Frame → Step → Frame
+frameAfter frame s = record { table = frame .table; words = frame .words; loads = s .loads; stores = s .stores }
+
+abbrev pub outcomeOf : Frame → Step → List ℕ → List ℕ → Outcome
+outcomeOf frame s loads stores = record { answer = s .answer; value = s .value; queue = queueOf (frameAfter frame s) loads stores }
 
 -- serve
 abbrev pub countedOf : Service → Queue → Counted

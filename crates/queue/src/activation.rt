@@ -16,6 +16,7 @@ use crate::Queue;
 use crate::Side;
 use crate::Value;
 use crate::answering::Step;
+use crate::answering::frame_after;
 use crate::answering::refused;
 use crate::entries::pack;
 use crate::refusal::NO_GROUP;
@@ -93,7 +94,7 @@ pub fn activate_in(
     ensures { λ r. ⌜ Moves (queueOf frame (now («load_entries» .entry)) (now («store_entries» .entry)))
         (onParts (now («load_entries» .entry)) (now («store_entries» .entry))
         (activate (contentsOf (queueOf frame (now («load_entries» .entry)) (now («store_entries» .entry)))) group))
-        (outcomeOf r (now («load_entries» .exit)) (now («store_entries» .exit))) ⌝ }
+        (outcomeOf frame r (now («load_entries» .exit)) (now («store_entries» .exit))) ⌝ }
 {
     if !sound_in(frame, load_entries, store_entries) {
         return refused(UNSOUND, frame);
@@ -115,16 +116,11 @@ pub fn activate_in(
     append(store_entries, stores.count, new_stores, loads.count);
     let more_loads = longer(loads, new_loads.count);
     let more_stores = longer(stores, new_stores.count);
-    let after = Frame {
-        table,
-        words: frame.words,
-        loads: more_loads,
-        stores: more_stores,
-    };
     Step {
         answer: 0,
         value: Value::Nothing,
-        frame: after,
+        loads: more_loads,
+        stores: more_stores,
     }
 }
 
@@ -138,7 +134,7 @@ impl Queue {
         let mut store_entries = self.store_entries;
         let step = activate_in(frame, &mut load_entries, &mut store_entries, group);
         let value = step.value;
-        let after = step.frame;
+        let after = frame_after(frame, step);
         let queue = Queue {
             frame: after,
             load_entries,

@@ -9,6 +9,7 @@ use crate::Outcome;
 use crate::Queue;
 use crate::Value;
 use crate::answering::Step;
+use crate::answering::frame_after;
 use crate::answering::refused;
 use crate::entries::Mark;
 use crate::entries::oldest_without;
@@ -27,7 +28,7 @@ pub fn take_in(frame: Frame, load_entries: &mut [u64], store_entries: &mut [u64]
     ensures { λ r. ⌜ Takes (queueOf frame (now («load_entries» .entry)) (now («store_entries» .entry)))
         (onParts (now («load_entries» .entry)) (now («store_entries» .entry))
         (take (contentsOf (queueOf frame (now («load_entries» .entry)) (now («store_entries» .entry)))) port))
-        (outcomeOf r (now («load_entries» .exit)) (now («store_entries» .exit))) ⌝ }
+        (outcomeOf frame r (now («load_entries» .exit)) (now («store_entries» .exit))) ⌝ }
 {
     if !sound_in(frame, load_entries, store_entries) {
         return refused(UNSOUND, frame);
@@ -47,11 +48,14 @@ pub fn take_in(frame: Frame, load_entries: &mut [u64], store_entries: &mut [u64]
     }
     load.finished = true;
     load_entries[at] = pack(load);
-    let after = settle(frame, load_entries, store_entries);
+    let left = settle(frame, load_entries, store_entries);
+    let loads_left = left.loads;
+    let stores_left = left.stores;
     Step {
         answer: 0,
         value: Value::Word(load.word),
-        frame: after,
+        loads: loads_left,
+        stores: stores_left,
     }
 }
 
@@ -65,7 +69,7 @@ impl Queue {
         let mut store_entries = self.store_entries;
         let step = take_in(frame, &mut load_entries, &mut store_entries, port);
         let value = step.value;
-        let after = step.frame;
+        let after = frame_after(frame, step);
         let queue = Queue {
             frame: after,
             load_entries,

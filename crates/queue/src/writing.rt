@@ -13,14 +13,16 @@ ghost use Rattle.queue.specs.Ruled.{number};
 ghost use Rattle.queue.specs.Outcome.{Writes};
 ghost use Rattle.queue.specs.Parts.{queueOf, outcomeOf, onParts};
 ghost use Rattle.queue.specs.Internal.{entriesIn, finished, Whole};
-ghost use Rattle.queue.specs.InternalWrite.{givesWay, Shifted, shorter, mayWriteAt, writeAt};
+ghost use Rattle.queue.specs.InternalWrite.{givesWay, Shifted, shorter, withSides, mayWriteAt, writeAt};
 use crate::Entry;
 use crate::Frame;
 use crate::Outcome;
 use crate::Queue;
 use crate::Side;
 use crate::Value;
+use crate::answering::Sides;
 use crate::answering::Step;
+use crate::answering::frame_after;
 use crate::answering::refused;
 use crate::entries::Mark;
 use crate::entries::has;
@@ -149,9 +151,9 @@ fn shorter(side: Side, gone: u8) -> Side
 }
 
 // Finished entries leave; one that stays forgets those of the other kind that left.
-pub(crate) fn settle(frame: Frame, load_entries: &mut [u64], store_entries: &mut [u64]) -> Frame
+pub(crate) fn settle(frame: Frame, load_entries: &mut [u64], store_entries: &mut [u64]) -> Sides
     requires { ⌜ (frame .loads .count ≤ length (now «load_entries»)) × (frame .stores .count ≤ length (now «store_entries»)) ⌝ }
-    ensures { λ r. ⌜ contentsOf (queueOf r (now («load_entries» .exit)) (now («store_entries» .exit)))
+    ensures { λ r. ⌜ contentsOf (queueOf (withSides frame r) (now («load_entries» .exit)) (now («store_entries» .exit)))
         ≡ settle (contentsOf (queueOf frame (now («load_entries» .entry)) (now («store_entries» .entry)))) ⌝ }
 {
     let loads = frame.loads;
@@ -162,10 +164,7 @@ pub(crate) fn settle(frame: Frame, load_entries: &mut [u64], store_entries: &mut
     let stores_left = shorter(stores, stores_gone);
     shift(load_entries, loads_gone, loads_left.count, stores_gone);
     shift(store_entries, stores_gone, stores_left.count, loads_gone);
-    let table = frame.table;
-    Frame {
-        table,
-        words: frame.words,
+    Sides {
         loads: loads_left,
         stores: stores_left,
     }
@@ -183,7 +182,7 @@ fn write_at(
         × Whole (now «load_entries») × Whole (now «store_entries») ⌝ }
     ensures { λ r. ⌜ Writes (queueOf frame (now («load_entries» .entry)) (now («store_entries» .entry))) (now (memory .entry))
         (writeAt (contentsOf (queueOf frame (now («load_entries» .entry)) (now («store_entries» .entry)))) (now (memory .entry)) place)
-        (outcomeOf r (now («load_entries» .exit)) (now («store_entries» .exit))) (now (memory .exit)) ⌝ }
+        (outcomeOf frame r (now («load_entries» .exit)) (now («store_entries» .exit))) (now (memory .exit)) ⌝ }
 {
     let stores = frame.stores;
     if stores.count as u32 <= place {
@@ -198,11 +197,14 @@ fn write_at(
     memory[store.address as usize] = store.word;
     store.finished = true;
     store_entries[at] = pack(store);
-    let after = settle(frame, load_entries, store_entries);
+    let left = settle(frame, load_entries, store_entries);
+    let loads_left = left.loads;
+    let stores_left = left.stores;
     Step {
         answer: 0,
         value: Value::Nothing,
-        frame: after,
+        loads: loads_left,
+        stores: stores_left,
     }
 }
 
@@ -217,7 +219,7 @@ pub fn write_in(
     ensures { λ r. ⌜ Writes (queueOf frame (now («load_entries» .entry)) (now («store_entries» .entry))) (now (memory .entry))
         (onParts (now («load_entries» .entry)) (now («store_entries» .entry))
         (write (contentsOf (queueOf frame (now («load_entries» .entry)) (now («store_entries» .entry)))) (now (memory .entry)) serial))
-        (outcomeOf r (now («load_entries» .exit)) (now («store_entries» .exit))) (now (memory .exit)) ⌝ }
+        (outcomeOf frame r (now («load_entries» .exit)) (now («store_entries» .exit))) (now (memory .exit)) ⌝ }
 {
     if !sound_in(frame, load_entries, store_entries) {
         return refused(UNSOUND, frame);
@@ -240,7 +242,7 @@ impl Queue {
         let mut store_entries = self.store_entries;
         let step = write_in(frame, &mut load_entries, &mut store_entries, memory, serial);
         let value = step.value;
-        let after = step.frame;
+        let after = frame_after(frame, step);
         let queue = Queue {
             frame: after,
             load_entries,

@@ -7,6 +7,7 @@ use Rattle.table.specs.Number.{Got, got, bad}
 use Rattle.table.specs.declared.Event.{Event}
 use Rattle.queue.specs.declared.Value.{Value}
 use Rattle.queue.specs.declared.Queue.{Queue}
+use Rattle.queue.specs.declared.Frame.{Frame}
 use Rattle.queue.specs.declared.Counts.{Counts}
 use Rattle.queue.specs.declared.Counted.{Counted}
 use Rattle.queue.specs.Contents.{contentsOf}
@@ -42,8 +43,13 @@ pub record Plays (q : Queue) (c : Counts) (memory : List ℕ) (e : Event) (r : C
   pub next : played (playing (contentsOf q) memory c) e ≡ playing (contentsOf (r .queue)) left (r .counts)
 
 -- what it gave, and the entries that it left
-abbrev pub playedOf : Played → List ℕ → List ℕ → Counted
-playedOf r loads stores = record { answer = r .answer; value = r .value; queue = queueOf (r .frame) loads stores; counts = r .counts }
+abbrev pub playedOf : Frame → Played → List ℕ → List ℕ → Counted
+playedOf frame r loads stores = record {
+  answer = r .answer;
+  value = r .value;
+  queue = queueOf (record { table = frame .table; words = frame .words; loads = r .loads; stores = r .stores }) loads stores;
+  counts = r .counts;
+}
 
 -- an answer and a value stand at a place of the buffers
 pub record Put (answer : ℕ) (value : Value) (i : ℕ) (b b₂ : Buffers) : Type 0 where

@@ -2,7 +2,6 @@
 ghost use mathlib.Core.Path.{_≡_};
 ghost use Prim.Native.Nat.{_<_};
 ghost use lib.ListN.{length};
-ghost use Rattle.queue.specs.declared.Value.the-variants.{Nothing};
 ghost use Rattle.queue.specs.Records.{valueIn};
 ghost use Rattle.queue.specs.Parts.{queueOf, whole};
 ghost use mathlib.Core.Bool.{true};
@@ -10,6 +9,7 @@ ghost use Rattle.replay.specs.Playing.{givenIn, wordIn};
 ghost use Rattle.replay.specs.Internal.{Plays, playedOf, Put};
 use queue::Counts;
 use queue::Frame;
+use queue::Side;
 use queue::Value;
 use queue::activation::activate_in;
 use queue::answering::Step;
@@ -21,36 +21,42 @@ use queue::taking::take_in;
 use queue::writing::write_in;
 use table::Event;
 
-// What an event gives: its answer and value, and the frame and the counts that follow.
+// What an event gives: its answer and value, and both sides and the counts that follow.
 pub struct Played {
     pub answer: u8,
     pub value: Value,
-    pub frame: Frame,
+    pub loads: Side,
+    pub stores: Side,
     pub counts: Counts,
 }
 
 // An event that changes no count.
 fn stepped(step: Step, counts: Counts) -> Played
-    ensures { λ r. ⌜ r ≡ record { answer = step .answer; value = step .value; frame = step .frame; counts = counts } ⌝ }
+    ensures { λ r. ⌜ r ≡ record { answer = step .answer; value = step .value; loads = step .loads; stores = step .stores; counts = counts } ⌝ }
 {
     let value = step.value;
-    let frame = step.frame;
+    let loads = step.loads;
+    let stores = step.stores;
     Played {
         answer: step.answer,
         value,
-        frame,
+        loads,
+        stores,
         counts,
     }
 }
 
-// An event that gives no value and changes neither frame nor counts.
-fn answered(answer: u8, frame: Frame, counts: Counts) -> Played
-    ensures { λ r. ⌜ r ≡ record { answer = answer; value = Nothing; frame = frame; counts = counts } ⌝ }
+// An event that moves neither side.
+fn unmoved(answer: u8, value: Value, frame: Frame, counts: Counts) -> Played
+    ensures { λ r. ⌜ r ≡ record { answer = answer; value = value; loads = frame .loads; stores = frame .stores; counts = counts } ⌝ }
 {
+    let loads = frame.loads;
+    let stores = frame.stores;
     Played {
         answer,
-        value: Value::Nothing,
-        frame,
+        value,
+        loads,
+        stores,
         counts,
     }
 }
@@ -66,41 +72,27 @@ pub(crate) fn play_event(
 ) -> Played
     requires { ⌜ whole (now loads) (now stores) ≡ true ⌝ }
     ensures { λ r. ⌜ Plays (queueOf frame (now (loads .entry)) (now (stores .entry))) counts (now (memory .entry)) event
-        (playedOf r (now (loads .exit)) (now (stores .exit))) (now (memory .exit)) ⌝ }
+        (playedOf frame r (now (loads .exit)) (now (stores .exit))) (now (memory .exit)) ⌝ }
 {
     match event {
         Event::Activate { group } => stepped(activate_in(frame, loads, stores, group), counts),
         Event::LoadAddress { port, address } => {
-            answered(
-                load_address_in(frame, loads, stores, port, address),
-                frame,
-                counts,
-            )
+            let answer = load_address_in(frame, loads, stores, port, address);
+            unmoved(answer, Value::Nothing, frame, counts)
         }
         Event::StoreAddress { port, address } => {
-            answered(
-                store_address_in(frame, loads, stores, port, address),
-                frame,
-                counts,
-            )
+            let answer = store_address_in(frame, loads, stores, port, address);
+            unmoved(answer, Value::Nothing, frame, counts)
         }
         Event::StoreData { port, word } => {
-            answered(
-                store_data_in(frame, loads, stores, port, word),
-                frame,
-                counts,
-            )
+            let answer = store_data_in(frame, loads, stores, port, word);
+            unmoved(answer, Value::Nothing, frame, counts)
         }
         Event::Serve { serial } => {
             let service = serve_in(frame, loads, stores, memory, counts, serial);
             let value = service.value;
-            let counts = service.counts;
-            Played {
-                answer: service.answer,
-                value,
-                frame,
-                counts,
-            }
+            let after = service.counts;
+            unmoved(service.answer, value, frame, after)
         }
         Event::Write { serial } => stepped(write_in(frame, loads, stores, memory, serial), counts),
         Event::Take { port } => stepped(take_in(frame, loads, stores, port), counts),

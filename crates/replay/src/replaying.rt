@@ -70,7 +70,10 @@ fn play_all(
         let step = play_event(frame, &mut loads, &mut stores, memory, counts, event);
         let value = step.value;
         put(step.answer, value, i, answers, given, words);
-        frame = step.frame;
+        let loads_left = step.loads;
+        let stores_left = step.stores;
+        frame.loads = loads_left;
+        frame.stores = stores_left;
         counts = step.counts;
         place = next;
         i += 1;

@@ -12,7 +12,7 @@ returns c =
     let k = c .before .before .before .before .before in
     let a = k .before .before .before .before .before .args in
     let q = queueOf (a .frame) (a .loads .now) (a .stores .now) in
-    let left = outcomeOf (k .activate-in .result) (k .activate-in .last .1 .0) (k .activate-in .last .1 .1 .0) in
+    let left = outcomeOf (a .frame) (k .activate-in .result) (k .activate-in .last .1 .0) (k .activate-in .last .1 .1 .0) in
     let rule = onParts (a .loads .now) (a .stores .now) (activate (contentsOf q) (a .group)) in
     rw (c .live-step .ensures) (moves-tell q left rule (k .activate-in .ensures))
 

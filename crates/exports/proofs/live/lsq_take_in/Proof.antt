@@ -12,7 +12,7 @@ returns c =
     let k = c .before .before .before .before .before in
     let a = k .before .before .before .before .before .args in
     let q = queueOf (a .frame) (a .loads .now) (a .stores .now) in
-    let left = outcomeOf (k .take-in .result) (k .take-in .last .1 .0) (k .take-in .last .1 .1 .0) in
+    let left = outcomeOf (a .frame) (k .take-in .result) (k .take-in .last .1 .0) (k .take-in .last .1 .1 .0) in
     let rule = onParts (a .loads .now) (a .stores .now) (take (contentsOf q) (a .port)) in
     rw (c .live-step .ensures) (takes-tell q left rule (k .take-in .ensures))
 

@@ -12,7 +12,7 @@ returns c =
     let k = c .before .before .before .before .before .before .before in
     let a = k .before .before .before .before .before .before .before .args in
     let q = queueOf (a .frame) (a .loads .now) (a .stores .now) in
-    let left = outcomeOf (k .write-in .result) (k .write-in .last .1 .0) (k .write-in .last .1 .1 .0) in
+    let left = outcomeOf (a .frame) (k .write-in .result) (k .write-in .last .1 .0) (k .write-in .last .1 .1 .0) in
     let rule = onParts (a .loads .now) (a .stores .now) (write (contentsOf q) (a .memory .now) (a .serial)) in
     rw (c .live-step .ensures) (writes-tell q left (a .memory .now) (k .write-in .last .1 .1 .1 .0) rule (k .write-in .ensures))
 

@@ -22,7 +22,7 @@ activate-in-requires c κs = search needs
 returns : tie.Need-returns
 returns c =
     let k = c .before .before .before in
-    rw (own (k .before .before .before .before .before .before)) at (k .activate-in .ensures)
+    rw (c .frame-after .ensures) (rw (own (k .before .before .before .before .before .before)) at (k .activate-in .ensures))
 
 pub activate-spec : {M : Type 1} → statement M
 activate-spec =
@@ -30,5 +30,5 @@ activate-spec =
     (tie.spec
     slice-aggregate-activate-in
     slice-aggregate-activate-in-2
-    activate-in-requires
+    activate-in-requires (λ c κs. search needs)
     returns)

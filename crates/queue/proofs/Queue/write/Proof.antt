@@ -25,7 +25,7 @@ same-length c = search needs
 returns : tie.Need-returns
 returns c =
     let k = c .before .before .before .before .before in
-    rw (own (k .before .before .before .before .before .before .before .before)) at (k .write-in .ensures)
+    rw (c .frame-after .ensures) (rw (own (k .before .before .before .before .before .before .before .before)) at (k .write-in .ensures))
 
 pub write-spec : {M : Type 1} → statement M
 write-spec =
@@ -33,6 +33,6 @@ write-spec =
     (tie.spec
     slice-aggregate-write-in
     slice-aggregate-write-in-2
-    write-in-requires
+    write-in-requires (λ c κs. search needs)
     same-length
     returns)

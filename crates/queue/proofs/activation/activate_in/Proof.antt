@@ -32,7 +32,7 @@ queueIn s = queueOf (s .args .frame) (s .args .load-entries .now) (s .args .stor
 
 -- what is handed back where the entries are as they were
 abbrev unchanged : tie.Start → Step → Outcome
-unchanged s t = outcomeOf t (s .args .load-entries .now) (s .args .store-entries .now)
+unchanged s t = outcomeOf (s .args .frame) t (s .args .load-entries .now) (s .args .store-entries .now)
 
 abbrev queue : tie.After-sound-in → Queue
 queue c = queueIn (start c)

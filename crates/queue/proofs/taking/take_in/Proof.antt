@@ -178,17 +178,17 @@ settle-requires c κs =
 
 same-length-9 : tie.Need-same-length-9
 same-length-9 c =
-    let t = c .before .before .before .before in
+    let t = c .before .before .before .before .before .before in
     let w = t .before .before .before in
     let o = w .before .before .before .before .before .before .before in
-    c .before .before .before .load-entries .given ∙ length-set (queue (sure (known o .before) .before) .«load_entries») (o .oldest-without .result) (w .pack .result)
+    c .before .before .before .before .before .load-entries .given ∙ length-set (queue (sure (known o .before) .before) .«load_entries») (o .oldest-without .result) (w .pack .result)
 
 same-length-10 : tie.Need-same-length-10
 same-length-10 c = search needs
 
 returns-5 : tie.Need-returns-5
 returns-5 c =
-    let t = c .before .before .before .before in
+    let t = c .before .before .before .before .before .before in
     let w = t .before .before .before in
     let u = w .before .before .before in
     let i = u .before .before in

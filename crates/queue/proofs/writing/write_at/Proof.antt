@@ -33,7 +33,7 @@ queue s = queueOf (s .args .frame) (s .args .load-entries .now) (s .args .store-
 
 -- what is handed back where the entries are as they were
 abbrev unchanged : tie.Start → Step → Outcome
-unchanged s t = outcomeOf t (s .args .load-entries .now) (s .args .store-entries .now)
+unchanged s t = outcomeOf (s .args .frame) t (s .args .load-entries .now) (s .args .store-entries .now)
 
 abbrev store : tie.Start → Entry
 store s = entryOf (getD (s .args .store-entries .now) (s .args .place) 0)
@@ -139,16 +139,16 @@ settle-requires c κs =
 
 same-length-4 : tie.Need-same-length-4
 same-length-4 c =
-    let p = c .before .before .before .before .before .before .before in
+    let p = c .before .before .before .before .before .before .before .before .before in
     let s = start (p .before .before .before .before .before .before .before .before) in
-    c .before .store-entries .given ∙ length-set (s .args .store-entries .now) (s .args .place) (p .pack .result)
+    c .before .before .before .store-entries .given ∙ length-set (s .args .store-entries .now) (s .args .place) (p .pack .result)
 
 same-length : tie.Need-same-length
 same-length c = search needs
 
 returns-3 : tie.Need-returns-3
 returns-3 c =
-    let t = c .before .before .before .before in
+    let t = c .before .before .before .before .before .before in
     let p = t .before .before .before in
     let u = p .before .before in
     let e2 = u .before .before in

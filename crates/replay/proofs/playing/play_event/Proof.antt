@@ -16,28 +16,28 @@ returns-2 c =
     let k = c .before .before .before in
     let e = k .before .before .before .before in
     let fits = rw (e .before .before .before .before .before .pre) at (k .load-address-in .ensures) in
-    rw (c .answered .ensures) (plays-as (e .event2 .given .1) (play-load-address _ _ _ _ _ _ fits))
+    rw (c .unmoved .ensures) (plays-as (e .event2 .given .1) (play-load-address _ _ _ _ _ _ fits))
 
 returns-3 : tie.Need-returns-3
 returns-3 c =
     let k = c .before .before .before in
     let e = k .before .before .before .before in
     let fits = rw (e .before .before .before .before .before .pre) at (k .store-address-in .ensures) in
-    rw (c .answered2 .ensures) (plays-as (e .event3 .given .1) (play-store-address _ _ _ _ _ _ fits))
+    rw (c .unmoved2 .ensures) (plays-as (e .event3 .given .1) (play-store-address _ _ _ _ _ _ fits))
 
 returns-4 : tie.Need-returns-4
 returns-4 c =
     let k = c .before .before .before in
     let e = k .before .before .before .before in
     let fits = rw (e .before .before .before .before .before .pre) at (k .store-data-in .ensures) in
-    rw (c .answered3 .ensures) (plays-as (e .event4 .given .1) (play-store-data _ _ _ _ _ _ fits))
+    rw (c .unmoved3 .ensures) (plays-as (e .event4 .given .1) (play-store-data _ _ _ _ _ _ fits))
 
 returns-5 : tie.Need-returns-5
 returns-5 c =
-    let k = c .before .before .before in
+    let k = c .before .before .before .before in
     let e = k .before .before .before .before .before in
     let fits = rw (e .before .before .before .before .before .pre) at (k .serve-in .ensures) in
-    plays-as (e .event5 .given .1) (play-serve _ _ _ _ _ fits)
+    rw (c .unmoved4 .ensures) (plays-as (e .event5 .given .1) (play-serve _ _ _ _ _ fits))
 
 returns-6 : tie.Need-returns-6
 returns-6 c =
@@ -70,6 +70,7 @@ play-event-spec =
     (λ c κs. search needs)
     (λ c κs. search needs)
     (λ c. search needs)
+    (λ c κs. search needs)
     (λ c κs. search needs)
     (λ c. search needs)
     (λ c κs. search needs)

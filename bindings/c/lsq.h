@@ -296,9 +296,10 @@ lsq_listed lsq_ready_stores_in(lsq_frame frame, const uint64_t *loads, size_t lo
 /* ---- A live queue: inline, in plain C, not proved ---- */
 
 /* A queue in one piece. It is plain data with no pointer inside: it may be
- * copied, compared field by field, saved, and sent to another host of the same
- * layout (the assertions at the end of this file). Whatever it holds when it
- * comes back, the calls test it (40). */
+ * copied, saved, and sent to another host, as it stands where that host has the
+ * same layout (the assertions at the end of this file), or else by lsq_save.
+ * Whatever it holds when it comes back, the calls test it (40). As it stands it
+ * has bytes between its fields that mean nothing and may hold anything. */
 typedef struct lsq_queue {
     lsq_frame frame;
     uint64_t loads[LSQ_ENTRIES], stores[LSQ_ENTRIES];
@@ -309,8 +310,7 @@ typedef struct lsq_queue {
  * Besides what every call is owed, q points to an lsq_queue, and nothing else
  * that is handed over lies inside it. */
 
-/* An accepted opening makes every field of *q defined, so that it can be saved
- * whole. */
+/* An accepted opening sets every field of *q, so that it can be saved. */
 static inline uint32_t lsq_open(lsq_queue *q, const uint8_t *table, size_t table_len,
                                 uint32_t load_depth, uint32_t store_depth,
                                 uint32_t first, uint32_t words)
@@ -404,6 +404,80 @@ static inline uint32_t lsq_ready_stores(const lsq_queue *q, uint32_t *out, size_
     if (listed.answer == LSQ_ACCEPTED)
         *count = (size_t)listed.count;
     return listed.answer;
+}
+
+/* ---- A saved queue: inline, in plain C, not proved ---- */
+
+/* Bytes that a queue is saved in: every field in turn, lowest byte first, the
+ * same on every host, and the same as Queue::to_bytes of the Rust wrapper. */
+#define LSQ_QUEUE_BYTES 1231
+
+static inline uint8_t *lsq_put(uint8_t *at, uint64_t number, int bytes)
+{
+    for (; bytes > 0; bytes--, number >>= 8)
+        *at++ = (uint8_t)number;
+    return at;
+}
+
+static inline const uint8_t *lsq_get(const uint8_t *at, uint64_t *number, int bytes)
+{
+    *number = 0;
+    for (int i = 0; i < bytes; i++)
+        *number |= (uint64_t)*at++ << 8 * i;
+    return at;
+}
+
+/* Every field of a table is a byte, and none lies between them. */
+static inline uint8_t *lsq_put_table(uint8_t *at, const lsq_table *table)
+{
+    memcpy(at, table, sizeof *table);
+    return at + sizeof *table;
+}
+
+static inline const uint8_t *lsq_get_table(const uint8_t *at, lsq_table *table)
+{
+    memcpy(table, at, sizeof *table);
+    return at + sizeof *table;
+}
+
+static inline uint8_t *lsq_put_side(uint8_t *at, const lsq_side *side)
+{
+    return lsq_put(lsq_put(lsq_put(at, side->depth, 1), side->count, 1), side->next, 4);
+}
+
+static inline const uint8_t *lsq_get_side(const uint8_t *at, lsq_side *side)
+{
+    uint64_t next;
+    side->depth = at[0];
+    side->count = at[1];
+    at = lsq_get(at + 2, &next, 4);
+    side->next = (uint32_t)next;
+    return at;
+}
+
+/* Puts the queue down in LSQ_QUEUE_BYTES bytes. */
+static inline void lsq_save(const lsq_queue *q, uint8_t *out)
+{
+    out = lsq_put(lsq_put_table(out, &q->frame.table), q->frame.words, 2);
+    out = lsq_put_side(lsq_put_side(out, &q->frame.loads), &q->frame.stores);
+    for (int i = 0; i < LSQ_ENTRIES; i++)
+        out = lsq_put(out, q->loads[i], 8);
+    for (int i = 0; i < LSQ_ENTRIES; i++)
+        out = lsq_put(out, q->stores[i], 8);
+}
+
+/* Sets every field of the queue from LSQ_QUEUE_BYTES bytes: those that lsq_save
+ * put down, or any. */
+static inline void lsq_restore(lsq_queue *q, const uint8_t *in)
+{
+    uint64_t words;
+    in = lsq_get(lsq_get_table(in, &q->frame.table), &words, 2);
+    q->frame.words = (uint16_t)words;
+    in = lsq_get_side(lsq_get_side(in, &q->frame.loads), &q->frame.stores);
+    for (int i = 0; i < LSQ_ENTRIES; i++)
+        in = lsq_get(in, &q->loads[i], 8);
+    for (int i = 0; i < LSQ_ENTRIES; i++)
+        in = lsq_get(in, &q->stores[i], 8);
 }
 
 /* ---- The layout that the library was compiled for ---- */

@@ -1,5 +1,7 @@
 //! A live queue: calls are made one by one, as their arguments arrive.
 
+use std::mem::{offset_of, size_of};
+
 use crate::direct;
 use crate::record::{Counts, Frame, Listed, Step, ENTRIES};
 use crate::refusal::{accepted, Refusal};
@@ -8,7 +10,9 @@ use crate::refusal::{accepted, Refusal};
 /// ([`Queue::to_bytes`]) and sent elsewhere, and it may hold anything: a record
 /// that is no right queue is refused with 40 by every call.
 ///
-/// Places beyond a side's count mean nothing; `==` looks at them too.
+/// Places beyond a side's count mean nothing; `==` looks at them too. It is laid
+/// out as `lsq_queue` of `lsq.h`.
+#[repr(C)]
 #[derive(Clone, Copy, Debug, PartialEq, Eq)]
 pub struct Queue {
     /// The table, the memory length and both sides' numbers.
@@ -18,6 +22,12 @@ pub struct Queue {
     /// The stores from the oldest, packed likewise.
     pub stores: [u64; ENTRIES],
 }
+
+const _: () = {
+    assert!(size_of::<Queue>() == 1240);
+    assert!(offset_of!(Queue, loads) == 216);
+    assert!(offset_of!(Queue, stores) == 728);
+};
 
 /// A refused call leaves the queue and all that it was lent as they were.
 impl Queue {

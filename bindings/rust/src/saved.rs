@@ -1,5 +1,6 @@
 //! A queue as bytes: every field in turn, lowest byte first, the same on every
-//! host. Any bytes of the right length make a record, which the calls test.
+//! host and the same as `lsq_save` of `lsq.h`. Any bytes of the right length
+//! make a record, which the calls test.
 
 use crate::live::Queue;
 use crate::record::{Frame, Pair, Side, Span, Table, TableParts, ENTRIES, GROUPS, PLACES};

@@ -1,6 +1,6 @@
 //! Seeded inputs for comparing implementations: valid tables, traces that lean
 //! towards conflicts, full queues and the turn of the serials, damaged bytes,
-//! and queue records that no opening leads to.
+//! queue records that no opening leads to, and calls on them.
 
 use crate::counts::Counts;
 use crate::event::{write_event, write_header, Event, Header};
@@ -789,5 +789,77 @@ pub fn nudge_table(rng: &mut Rng, table: &mut Table) {
         2 => pair.offset = 0,
         3 => pair.port = other,
         _ => pair.port = rng.pick(&[MAX_PORT, MAX_PORT + 1]),
+    }
+}
+
+// Calls on records.
+
+/// Counts that may hold anything, the edges included.
+pub fn counts(rng: &mut Rng) -> Counts {
+    let edge = u32::MAX - rng.between(0, 1);
+    Counts {
+        loads: rng.pick(&[0, 7, edge]),
+        forwarded: rng.pick(&[0, 9, edge]),
+    }
+}
+
+/// A memory of the record's length, where that can be, or of another one.
+pub fn memory_for(rng: &mut Rng, queue: &Queue) -> Vec<u32> {
+    let length = queue.memory_length.min(MAX_MEMORY + 1) as usize;
+    let other = rng.pick(&[0, length + 1, length.saturating_sub(1)]);
+    let length = if rng.chance(1, 12) { other } else { length };
+    (0..length).map(|_| rng.word()).collect()
+}
+
+/// A call on a record that is seldom beside the point.
+pub fn call_on(rng: &mut Rng, queue: &Queue) -> Event {
+    let kind = rng.pick(&[0, 1, 2, 3, 4, 4, 5, 5, 6, 6]);
+    call_of_kind(rng, queue, kind)
+}
+
+/// The same, of one of the seven kinds.
+pub fn call_of_kind(rng: &mut Rng, queue: &Queue, kind: usize) -> Event {
+    let port = port_on(rng, queue);
+    let address = rng.between(0, queue.memory_length.saturating_add(1).min(5000));
+    match kind {
+        0 => Event::Activate {
+            group: rng.between(0, queue.table.groups.len() as u32),
+        },
+        1 => Event::LoadAddress { port, address },
+        2 => Event::StoreAddress { port, address },
+        3 => Event::StoreData {
+            port,
+            word: rng.word(),
+        },
+        4 => Event::Serve {
+            serial: serial_on(rng, queue),
+        },
+        5 => Event::Write {
+            serial: serial_on(rng, queue),
+        },
+        _ => Event::Take { port },
+    }
+}
+
+/// The port of an entry, or any.
+fn port_on(rng: &mut Rng, queue: &Queue) -> u32 {
+    let (loads, stores) = (&queue.loads.entries, &queue.stores.entries);
+    match rng.below(3) {
+        0 if !loads.is_empty() => loads[rng.below(loads.len())].port,
+        1 if !stores.is_empty() => stores[rng.below(stores.len())].port,
+        _ => rng.between(0, MAX_PORT + 2),
+    }
+}
+
+/// Mostly the serial of an entry, of either side.
+fn serial_on(rng: &mut Rng, queue: &Queue) -> u32 {
+    let (loads, stores) = (&queue.loads, &queue.stores);
+    match rng.below(12) {
+        0 => rng.word(),
+        1 => loads.next_serial,
+        2 => stores.oldest_serial().wrapping_sub(1),
+        3..=7 if !loads.entries.is_empty() => loads.serial_at(rng.below(loads.entries.len())),
+        _ if !stores.entries.is_empty() => stores.serial_at(rng.below(stores.entries.len())),
+        _ => 0,
     }
 }

@@ -6,7 +6,7 @@ use crate::counts::Counts;
 use crate::event::{write_event, write_header, Event, Header};
 use crate::number::{read_number, write_number};
 use crate::play::MAX_FILE;
-use crate::queue::{LoadEntry, Queue, StoreEntry, TrustingQueue, MAX_DEPTH, MAX_MEMORY};
+use crate::queue::{LoadEntry, Queue, Side, StoreEntry, TrustingQueue, MAX_DEPTH, MAX_MEMORY};
 use crate::rng::Rng;
 use crate::table::{Access, Group, Pair, Table, MAX_PORT};
 
@@ -819,47 +819,52 @@ pub fn call_on(rng: &mut Rng, queue: &Queue) -> Event {
 
 /// The same, of one of the seven kinds.
 pub fn call_of_kind(rng: &mut Rng, queue: &Queue, kind: usize) -> Event {
-    let port = port_on(rng, queue);
+    let load_port = port_on(rng, &queue.loads, |load| load.port);
+    let store_port = port_on(rng, &queue.stores, |store| store.port);
     let address = rng.between(0, queue.memory_length.saturating_add(1).min(5000));
     match kind {
         0 => Event::Activate {
             group: rng.between(0, queue.table.groups.len() as u32),
         },
-        1 => Event::LoadAddress { port, address },
-        2 => Event::StoreAddress { port, address },
+        1 => Event::LoadAddress {
+            port: load_port,
+            address,
+        },
+        2 => Event::StoreAddress {
+            port: store_port,
+            address,
+        },
         3 => Event::StoreData {
-            port,
+            port: store_port,
             word: rng.word(),
         },
         4 => Event::Serve {
-            serial: serial_on(rng, queue),
+            serial: serial_on(rng, &queue.loads),
         },
         5 => Event::Write {
-            serial: serial_on(rng, queue),
+            serial: serial_on(rng, &queue.stores),
         },
-        _ => Event::Take { port },
+        _ => Event::Take { port: load_port },
     }
 }
 
-/// The port of an entry, or any.
-fn port_on(rng: &mut Rng, queue: &Queue) -> u32 {
-    let (loads, stores) = (&queue.loads.entries, &queue.stores.entries);
-    match rng.below(3) {
-        0 if !loads.is_empty() => loads[rng.below(loads.len())].port,
-        1 if !stores.is_empty() => stores[rng.below(stores.len())].port,
+/// Mostly the port of an entry, else any.
+fn port_on<E>(rng: &mut Rng, side: &Side<E>, port: impl Fn(&E) -> u32) -> u32 {
+    let held = side.entries.len();
+    match rng.below(5) {
+        1.. if held > 0 => port(&side.entries[rng.below(held)]),
         _ => rng.between(0, MAX_PORT + 2),
     }
 }
 
-/// Mostly the serial of an entry, of either side.
-fn serial_on(rng: &mut Rng, queue: &Queue) -> u32 {
-    let (loads, stores) = (&queue.loads, &queue.stores);
+/// Mostly the serial of an entry, else one just outside or any.
+fn serial_on<E>(rng: &mut Rng, side: &Side<E>) -> u32 {
+    let held = side.entries.len();
     match rng.below(12) {
         0 => rng.word(),
-        1 => loads.next_serial,
-        2 => stores.oldest_serial().wrapping_sub(1),
-        3..=7 if !loads.entries.is_empty() => loads.serial_at(rng.below(loads.entries.len())),
-        _ if !stores.entries.is_empty() => stores.serial_at(rng.below(stores.entries.len())),
+        1 => side.next_serial,
+        2 => side.oldest_serial().wrapping_sub(1),
+        _ if held > 0 => side.serial_at(rng.below(held)),
         _ => 0,
     }
 }

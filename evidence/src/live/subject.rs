@@ -172,18 +172,50 @@ pub(super) fn put_back(record: &mut Record, queue: &Queue) {
     record.stores.lend().copy_from_slice(&queue.stores);
 }
 
+/// Opens a queue through the Rust wrapper.
+///
+/// # Errors
+/// Those of opening.
+pub fn open(table: &[u8], header: &Header) -> Result<Queue, Refusal> {
+    let Header {
+        load_depth,
+        store_depth,
+        first_serial,
+        memory_length,
+    } = *header;
+    Queue::open(table, load_depth, store_depth, first_serial, memory_length)
+}
+
+/// Makes the call that an event stands for through the Rust wrapper; the value
+/// is that of an accepted serve or take.
+///
+/// # Errors
+/// Those of the call.
+#[inline]
+pub fn apply(
+    queue: &mut Queue,
+    memory: &mut [u32],
+    counts: &mut Counts,
+    event: &Event,
+) -> Result<Option<u32>, Refusal> {
+    let nothing = |()| None;
+    match *event {
+        Event::Activate { group } => queue.activate(group).map(nothing),
+        Event::LoadAddress { port, address } => queue.load_address(port, address).map(nothing),
+        Event::StoreAddress { port, address } => queue.store_address(port, address).map(nothing),
+        Event::StoreData { port, word } => queue.store_data(port, word).map(nothing),
+        Event::Serve { serial } => queue.serve(memory, counts, serial).map(Some),
+        Event::Write { serial } => queue.write(memory, serial).map(nothing),
+        Event::Take { port } => queue.take(port).map(Some),
+    }
+}
+
 /// The Rust wrapper: a queue is also saved and restored before each call.
 pub struct Wrapper;
 
 impl Live for Wrapper {
     fn open(&self, table: &[u8], header: &Header) -> Opened {
-        let opened = Queue::open(
-            table,
-            header.load_depth,
-            header.store_depth,
-            header.first_serial,
-            header.memory_length,
-        );
+        let opened = open(table, header);
         Opened {
             answer: number(&opened),
             frame: opened.map_or(Frame::default(), |queue| queue.frame),
@@ -200,18 +232,7 @@ impl Live for Wrapper {
         };
         let mut queue = Queue::from_bytes(&queue.to_bytes());
         let mut counts = counts;
-        let nothing = |()| None;
-        let value = match *event {
-            Event::Activate { group } => queue.activate(group).map(nothing),
-            Event::LoadAddress { port, address } => queue.load_address(port, address).map(nothing),
-            Event::StoreAddress { port, address } => {
-                queue.store_address(port, address).map(nothing)
-            }
-            Event::StoreData { port, word } => queue.store_data(port, word).map(nothing),
-            Event::Serve { serial } => queue.serve(memory, &mut counts, serial).map(Some),
-            Event::Write { serial } => queue.write(memory, serial).map(nothing),
-            Event::Take { port } => queue.take(port).map(Some),
-        };
+        let value = apply(&mut queue, memory, &mut counts, event);
         put_back(record, &queue);
         let given = value.ok().flatten();
         Made {

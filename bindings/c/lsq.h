@@ -298,8 +298,12 @@ lsq_listed lsq_ready_stores_in(lsq_frame frame, const uint64_t *loads, size_t lo
 /* A queue in one piece. It is plain data with no pointer inside: it may be
  * copied, saved, and sent to another host, as it stands where that host has the
  * same layout (the assertions at the end of this file), or else by lsq_save.
- * Whatever it holds when it comes back, the calls test it (40). As it stands it
- * has bytes between its fields that mean nothing and may hold anything. */
+ * As it stands it has bytes between its fields that mean nothing and may hold
+ * anything. The memory is the caller's, and no part of it.
+ *
+ * Whatever a queue holds when it comes back, the calls test it (40) and go by
+ * what it holds. That each port gets the values of one access after another is
+ * promised of queues that an opening and the calls led to, on one memory. */
 typedef struct lsq_queue {
     lsq_frame frame;
     uint64_t loads[LSQ_ENTRIES], stores[LSQ_ENTRIES];

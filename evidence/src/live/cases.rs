@@ -14,6 +14,8 @@ use crate::buffers::Guarded;
 pub enum Kind {
     /// Entries of any kind on a right table, one in four unsound.
     HandMade,
+    /// The same, with nearly all accesses of a side in one state, on many words.
+    Alike,
     /// The same, with one to three fields changed.
     Damaged,
     /// The same, with a run of another length than 64.
@@ -27,8 +29,8 @@ use Kind::*;
 /// The kinds, each as often as it comes.
 #[rustfmt::skip]
 const TURN: [Kind; 16] = [
-    HandMade, Damaged, HandMade, Damaged, HandMade, Damaged, HandMade, Lengths,
-    HandMade, Damaged, HandMade, Damaged, HandMade, Damaged, HandMade, Noise,
+    HandMade, Damaged, HandMade, Damaged, HandMade, Damaged, Alike, Lengths,
+    HandMade, Damaged, HandMade, Damaged, HandMade, Damaged, Alike, Noise,
 ];
 
 /// A record, and the queue that it was made from.
@@ -55,6 +57,7 @@ impl RecordCase {
         record.hold(&made_from);
         match kind {
             HandMade => {}
+            Alike => make_alike(&mut rng, &mut record),
             Damaged => (0..rng.pick(&[1, 1, 3])).for_each(|_| damage(&mut rng, &mut record)),
             Lengths => other_lengths(&mut rng, &mut record),
             Noise => record.frame = noise(&mut rng),
@@ -76,6 +79,46 @@ pub fn blank(rng: &mut Rng) -> Record {
         loads: Guarded::new(ENTRIES, || rng.bits()),
         stores: Guarded::new(ENTRIES, || rng.bits()),
     }
+}
+
+/// Marks of an entry, from the lowest: it has its address, its word, is finished.
+const READY_LOAD: u64 = 0b001;
+const SERVED_LOAD: u64 = 0b011;
+const READY_STORE: u64 = 0b011;
+const FINISHED: u64 = 0b111;
+
+/// Mostly full sides whose accesses are nearly all ready, served or finished, so
+/// that many can be listed and many leave at once.
+fn make_alike(rng: &mut Rng, record: &mut Record) {
+    let frame = &mut record.frame;
+    frame.words = rng.pick(&[64, 1_000, 4_096]);
+    for side in [&mut frame.loads, &mut frame.stores] {
+        side.depth = rng.pick(&[side.depth, 64]);
+        side.count = rng.pick(&[side.count, side.depth, side.depth]);
+    }
+    let (loads, stores) = (frame.loads.count, frame.stores.count);
+    let (words, few) = (frame.words, rng.pick(&[8, 64, 1_000]));
+    let marks = rng.pick(&[READY_LOAD, READY_LOAD, SERVED_LOAD, FINISHED]);
+    for load in record.loads.lend() {
+        *load = alike_entry(rng, *load, marks, few) | before_and_address(rng, stores, words);
+    }
+    let marks = rng.pick(&[READY_STORE, READY_STORE, FINISHED]);
+    for store in record.stores.lend() {
+        *store = alike_entry(rng, *store, marks, few) | before_and_address(rng, loads, words);
+    }
+}
+
+/// The entry's port and word with these marks, which are others in one of `few`.
+fn alike_entry(rng: &mut Rng, entry: u64, marks: u64, few: usize) -> u64 {
+    let changed = if rng.chance(1, few) { rng.bits() } else { 0 };
+    let marks = (marks ^ changed) & 0b111;
+    entry & 0xFFFF_FFFF_0000_001F | marks << 5
+}
+
+fn before_and_address(rng: &mut Rng, others: u8, words: u16) -> u64 {
+    let before = rng.below(usize::from(others) + 1) as u64;
+    let address = rng.below(words.into()) as u64;
+    before << 8 | address << 16
 }
 
 fn damage(rng: &mut Rng, record: &mut Record) {

@@ -1,8 +1,11 @@
 //! One live call on both sides, and the first difference.
 
+use std::fmt::Debug;
+
 use lsq::record::{Counts, Frame, Side, Table, TableRead};
 use lsq_ref::event::write_event;
 use lsq_ref::number::write_number;
+use lsq_ref::queue::Side as HeldSide;
 use lsq_ref::refusal::{KIND, UNSOUND};
 use lsq_ref::{Counts as HeldCounts, Event, Header, Queue, Table as HeldTable};
 
@@ -71,6 +74,12 @@ impl<S: Live> Checker<'_, S> {
         };
         let answer = outcome.err().unwrap_or(0);
         self.tally.note(Place::of(event), answer);
+        if answer == 0 && matches!(event, Event::Write { .. } | Event::Take { .. }) {
+            self.tally
+                .left(gone(before.frame.loads, state.record.frame.loads));
+            self.tally
+                .left(gone(before.frame.stores, state.record.frame.stores));
+        }
         let left = || match answer {
             0 => followed(&before, state),
             _ => kept(&before, &state.record),
@@ -100,6 +109,9 @@ impl<S: Live> Checker<'_, S> {
         };
         let outcome = outcome.map(|front| front.len());
         let place = Place::of_ready(ready);
+        if let Ok(count) = outcome {
+            self.tally.listed(count);
+        }
         self.answered(place, outcome, listed.answer, listed.count)?;
         same_run(&format!("{place:?}"), "out", &expected, &found)
     }
@@ -245,6 +257,11 @@ fn event_of(kind: u32, first: u32, second: u32) -> Option<Event> {
     Some(event)
 }
 
+/// How many entries a side has lost.
+fn gone(before: Side, after: Side) -> usize {
+    before.count.saturating_sub(after.count).into()
+}
+
 fn same_made(
     outcome: Result<Option<u32>, u8>,
     counts: HeldCounts,
@@ -267,8 +284,40 @@ fn kept(before: &Record, after: &Record) -> Result<(), Difference> {
 /// The record holds what the rules give, and nothing beside the runs changed.
 fn followed(before: &Record, state: &State) -> Result<(), Difference> {
     let after = &state.record;
-    same_shown("queue", &state.queue, &after.held())?;
+    match (&state.queue, after.held()) {
+        (Some(expected), Some(found)) => same_queue(expected, &found)?,
+        (expected, found) => same_shown("queue", expected, &found)?,
+    }
     let loads_kept = before.loads.same_margins(&after.loads);
     let stores_kept = before.stores.same_margins(&after.stores);
     same("margins kept", true, loads_kept && stores_kept)
+}
+
+fn same_queue(expected: &Queue, found: &Queue) -> Result<(), Difference> {
+    same_shown("table", &expected.table, &found.table)?;
+    same("load depth", expected.load_depth, found.load_depth)?;
+    same("store depth", expected.store_depth, found.store_depth)?;
+    same("memory length", expected.memory_length, found.memory_length)?;
+    same_side("loads", &expected.loads, &found.loads)?;
+    same_side("stores", &expected.stores, &found.stores)
+}
+
+fn same_side<E: PartialEq + Debug>(
+    name: &str,
+    expected: &HeldSide<E>,
+    found: &HeldSide<E>,
+) -> Result<(), Difference> {
+    if expected == found {
+        return Ok(());
+    }
+    same_shown(
+        &format!("next serial of {name}"),
+        &expected.next_serial,
+        &found.next_serial,
+    )?;
+    let (mine, others) = (&expected.entries, &found.entries);
+    same(&format!("{name} held"), mine.len(), others.len())?;
+    let differ = |&place: &usize| mine[place] != others[place];
+    let place = (0..mine.len()).find(differ).unwrap_or(0);
+    same_shown(&format!("{name}[{place}]"), &mine[place], &others[place])
 }

@@ -45,8 +45,13 @@ static void must(uint32_t answer, const char *call)
 /* Activates the group as often as there is room. */
 static void activate(struct loop *loop)
 {
-    while (loop->activated < ITERATIONS && lsq_activate(&loop->queue, 0) == LSQ_ACCEPTED)
+    while (loop->activated < ITERATIONS) {
+        uint32_t answer = lsq_activate(&loop->queue, 0);
+        if (answer == LSQ_NO_PLACE)
+            return;
+        must(answer, "activate");
         loop->activated++;
+    }
 }
 
 /* Gives two iterations the addresses that they wait for. */
@@ -71,10 +76,12 @@ static void serve_ready(struct loop *loop)
 /* Takes the values that were loaded, and hands on each with 1 added. */
 static void add(struct loop *loop)
 {
-    uint32_t value;
-    while (lsq_take(&loop->queue, 0, &value) == LSQ_ACCEPTED) {
+    for (;; loop->added++) {
+        uint32_t value, answer = lsq_take(&loop->queue, 0, &value);
+        if (answer == LSQ_NONE_UNTAKEN || answer == LSQ_NOT_SERVED)
+            return;
+        must(answer, "take");
         must(lsq_store_data(&loop->queue, 0, value + 1), "store data");
-        loop->added++;
     }
 }
 

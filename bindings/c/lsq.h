@@ -7,9 +7,9 @@
  * lsq_queue, are plain C over those and are not proved; each is a few lines.
  *
  * Every function is total: it tests what it is handed. Those that can refuse
- * answer with a number of enum lsq_answer; what the others answer is said at
- * each. Nothing is allocated and nothing is kept between calls. A run of bytes
- * or numbers is a pointer and a length (in elements).
+ * give a number of enum lsq_answer, by itself or in a field `answer`; what the
+ * others give is said at each. Nothing is allocated and nothing is kept between
+ * calls. A run of bytes or numbers is a pointer and a length (in elements).
  * What the caller owes, since C cannot show it:
  *   - a pointer is not NULL, even where its length is 0, and is aligned for
  *     its type;

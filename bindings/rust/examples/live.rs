@@ -44,10 +44,15 @@ impl Loop {
     }
 
     /// Activates the group as often as there is room.
-    fn activate(&mut self) {
-        while self.activated < ITERATIONS && self.queue.activate(0).is_ok() {
+    fn activate(&mut self) -> Result<(), Refusal> {
+        while self.activated < ITERATIONS {
+            match self.queue.activate(0) {
+                Err(Refusal::NO_PLACE) => break,
+                activated => activated?,
+            }
             self.activated += 1;
         }
+        Ok(())
     }
 
     /// Gives two iterations the addresses that they wait for.
@@ -70,11 +75,14 @@ impl Loop {
 
     /// Takes the values that were loaded, and hands on each with 1 added.
     fn add(&mut self) -> Result<(), Refusal> {
-        while let Ok(value) = self.queue.take(0) {
+        loop {
+            let value = match self.queue.take(0) {
+                Err(Refusal::NONE_UNTAKEN | Refusal::NOT_SERVED) => return Ok(()),
+                taken => taken?,
+            };
             self.queue.store_data(0, value + 1)?;
             self.added += 1;
         }
-        Ok(())
     }
 
     fn write_ready(&mut self) -> Result<(), Refusal> {
@@ -98,7 +106,7 @@ impl Loop {
         let mut saved = false;
         let mut step = 0;
         while self.queue.frame.stores.count > 0 || self.added < ITERATIONS {
-            self.activate();
+            self.activate()?;
             self.give_addresses()?;
             self.serve_ready()?;
             self.add()?;

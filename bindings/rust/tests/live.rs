@@ -179,4 +179,6 @@ fn numbers_and_events_are_written() {
 fn refusals_can_be_read() {
     let words = Refusal(28).to_string();
     assert_eq!(words, "refused with 28: an earlier store has no address");
+    assert_eq!(Refusal::EARLIER_STORE_ADDRESS, Refusal(28));
+    assert_eq!(Refusal(41).meaning(), "no number of the paper's");
 }

@@ -1,9 +1,14 @@
 /* The group-allocated load-store queue: the functions of libexports.a, which
- * `rt staticlib exports` writes to target/staticlib/.
+ * `rt staticlib exports` writes to target/staticlib/, and a live queue on top.
  *
- * Every function is total: it tests what it is handed. The three that can
- * refuse answer with a number of enum lsq_answer; what the others answer is
- * said at each. Nothing is allocated and nothing is kept between
+ * What is proved, and what is not. Every function that is declared here and
+ * not defined is one of the library's: its whole outcome, for whatever it is
+ * handed, is stated and proved. The `static inline` functions at the end, on an
+ * lsq_queue, are plain C over those and are not proved; each is a few lines.
+ *
+ * Every function is total: it tests what it is handed. Those that can refuse
+ * give a number of enum lsq_answer, by itself or in a field `answer`; what the
+ * others give is said at each. Nothing is allocated and nothing is kept between
  * calls. A run of bytes or numbers is a pointer and a length (in elements).
  * What the caller owes, since C cannot show it:
  *   - a pointer is not NULL, even where its length is 0, and is aligned for
@@ -17,9 +22,13 @@
 
 #include <stddef.h>
 #include <stdint.h>
+#include <string.h>
 
 #ifdef __cplusplus
+#define LSQ_HOLDS(condition) static_assert(condition, #condition)
 extern "C" {
+#else
+#define LSQ_HOLDS(condition) _Static_assert(condition, #condition)
 #endif
 
 /* The least length of the text buffer of lsq_text: no text is longer. */
@@ -57,7 +66,9 @@ enum lsq_answer {
     LSQ_EARLIER_STORE = 32,         /* an earlier unwritten store is in the way */
     LSQ_NONE_UNTAKEN = 33,          /* no untaken load of the port is queued */
     LSQ_NOT_SERVED = 34,            /* the port's oldest untaken load is unserved */
-    LSQ_KIND = 35                   /* an event's kind is above 6 */
+    LSQ_KIND = 35,                  /* an event's kind is above 6 */
+    LSQ_FILE_LENGTH = 36,           /* above 16,384 bytes; in the text of lsq_text alone */
+    LSQ_UNSOUND = 40                /* no right queue: see lsq_sound_in */
 };
 
 /* 0 where the bytes spell a right table, else 1 to 9. */
@@ -107,6 +118,397 @@ uint64_t lsq_share(uint32_t loads, uint32_t forwarded);
 uint64_t lsq_text(const uint8_t *table, size_t table_len,
                   const uint8_t *trace, size_t trace_len,
                   uint8_t *out, size_t out_len);
+
+/* ---- Tables, and the bytes of tables, numbers and events ---- */
+
+/* Where a group's accesses stand in a table: the first load's place and how
+ * many loads, the first store's place and how many stores. */
+typedef struct lsq_span {
+    uint8_t first_load, loads, first_store, stores;
+} lsq_span;
+
+/* An access of a group: how many accesses of the other kind come before it in
+ * the group, and its port. */
+typedef struct lsq_pair {
+    uint8_t offset, port;
+} lsq_pair;
+
+/* A group table. Places beyond the count, or that no group has, mean nothing. */
+typedef struct lsq_table {
+    uint8_t count;
+    lsq_span groups[16];
+    lsq_pair loads[32], stores[32];
+} lsq_table;
+
+/* What reading a table answers: 0, or 1 to 9 and the table of no groups, which
+ * is 0 in every field. */
+typedef struct lsq_table_read {
+    uint32_t answer;
+    lsq_table table;
+} lsq_table_read;
+
+/* What a writer answers: 0 and how many bytes stand at the front of the buffer,
+ * or the refusal number and 0. The rest of the buffer, or all of it where the
+ * writer refuses, keeps its contents. */
+typedef struct lsq_written {
+    uint32_t answer;
+    uint64_t count;
+} lsq_written;
+
+/* Reads a table that takes up all of the bytes. */
+lsq_table_read lsq_read_table(const uint8_t *bytes, size_t bytes_len);
+
+/* Writes a table, whatever its record holds: 4, 5, 8, 6, 7, then 10. */
+lsq_written lsq_write_table(lsq_table table, uint8_t *out, size_t out_len);
+
+/* Writes a number in the fewest bytes: 10. */
+lsq_written lsq_write_number(uint32_t value, uint8_t *out, size_t out_len);
+
+/* Writes an event: 35 for a kind above 6, then 10. Kinds: 0 activate (group),
+ * 1 load address (port, address), 2 store address (port, address), 3 store data
+ * (port, word), 4 serve (serial), 5 write (serial), 6 take (port). Of a kind
+ * with one number the second is not looked at. */
+lsq_written lsq_write_event(uint32_t kind, uint32_t first, uint32_t second,
+                            uint8_t *out, size_t out_len);
+
+/* ---- A queue, and the library's calls on it ---- */
+
+/* One side of a queue: its depth, how many entries it holds, and the next
+ * serial. */
+typedef struct lsq_side {
+    uint8_t depth, count;
+    uint32_t next;
+} lsq_side;
+
+/* All of a queue but its entries: its table, the memory length that it was
+ * opened for, and both sides. */
+typedef struct lsq_frame {
+    lsq_table table;
+    uint16_t words;
+    lsq_side loads, stores;
+} lsq_frame;
+
+/* Loads served, and loads forwarded. When either stands at 4294967295 both
+ * stop. */
+typedef struct lsq_counts {
+    uint32_t loads, forwarded;
+} lsq_counts;
+
+/* What opening answers. The frame of a refused opening is 0 in every field. */
+typedef struct lsq_opened {
+    uint32_t answer;
+    lsq_frame frame;
+} lsq_opened;
+
+/* What a call that may change the frame answers: the number, 1 or 0 as it gave
+ * a value or none, the value or 0, and the frame that follows. */
+typedef struct lsq_step {
+    uint32_t answer, given, value;
+    lsq_frame frame;
+} lsq_step;
+
+/* The same for serving, which changes the counts and not the frame. */
+typedef struct lsq_service {
+    uint32_t answer, given, value;
+    lsq_counts counts;
+} lsq_service;
+
+/* What a ready call answers: 0 and how many serials stand at the front of the
+ * run, or the refusal number and 0. */
+typedef struct lsq_listed {
+    uint32_t answer;
+    uint64_t count;
+} lsq_listed;
+
+/* Numbers that a side's entries are packed into, one each. */
+#define LSQ_ENTRIES 64
+
+/* The library's calls go by parts: the frame is handed over by value, and the
+ * entries of both sides, from the oldest, are lent as two runs of LSQ_ENTRIES
+ * numbers. An entry is its port (bits 0 to 4), whether it has its address
+ * (bit 5), whether it has its word, which is a load's value or a store's data
+ * (bit 6), whether a load was taken or a store written (bit 7), how many queued
+ * entries of the other kind come before it (bits 8 to 15), its address (bits 16
+ * to 31) and its word (the rest). Numbers beyond a side's count mean nothing.
+ *
+ * The parts may come from anywhere. Each call first answers 40 (LSQ_UNSOUND)
+ * where a run has another length than LSQ_ENTRIES, a depth or the memory length
+ * is outside its limits, a side holds more entries than its depth, an entry
+ * remembers more of the other kind than are held, a filled-in address is not
+ * below the memory length, or the table meets one of 4 to 8. A refused call
+ * leaves everything lent as it was, and gives back the frame, or the counts,
+ * that it was handed. */
+
+/* Opens a queue on a table's bytes: 1 to 9 of the table, then 11 to 14. Both
+ * series of serials begin at `first`. The queue holds no entry, so the two runs
+ * of entries that go with the frame may hold anything. */
+lsq_opened lsq_open_in(const uint8_t *table, size_t table_len, uint32_t load_depth,
+                       uint32_t store_depth, uint32_t first, uint32_t words);
+
+/* 0 where a call with these parts would answer 40, else 1. */
+uint32_t lsq_sound_in(lsq_frame frame, const uint64_t *loads, size_t loads_len,
+                      const uint64_t *stores, size_t stores_len);
+
+/* Queues a group's accesses: 40, 20, 21. */
+lsq_step lsq_activate_in(lsq_frame frame, uint64_t *loads, size_t loads_len,
+                         uint64_t *stores, size_t stores_len, uint32_t group);
+
+/* Gives an address to the port's oldest load that has none: 40, 22, 23, 24. */
+uint32_t lsq_load_address_in(lsq_frame frame, uint64_t *loads, size_t loads_len,
+                             const uint64_t *stores, size_t stores_len,
+                             uint32_t port, uint32_t address);
+
+/* Gives an address to the port's oldest store that has none: 40, 22, 23, 24. */
+uint32_t lsq_store_address_in(lsq_frame frame, const uint64_t *loads, size_t loads_len,
+                              uint64_t *stores, size_t stores_len,
+                              uint32_t port, uint32_t address);
+
+/* Gives data to the port's oldest store that has none: 40, 22, 24. */
+uint32_t lsq_store_data_in(lsq_frame frame, const uint64_t *loads, size_t loads_len,
+                           uint64_t *stores, size_t stores_len,
+                           uint32_t port, uint32_t word);
+
+/* Serves the load with this serial and counts it: 40, 30, 25 to 29. */
+lsq_service lsq_serve_in(lsq_frame frame, uint64_t *loads, size_t loads_len,
+                         const uint64_t *stores, size_t stores_len,
+                         const uint32_t *memory, size_t memory_len,
+                         lsq_counts counts, uint32_t serial);
+
+/* Writes the store with this serial to memory: 40, 30, 25, 26, 27, 29, 31, 32. */
+lsq_step lsq_write_in(lsq_frame frame, uint64_t *loads, size_t loads_len,
+                      uint64_t *stores, size_t stores_len,
+                      uint32_t *memory, size_t memory_len, uint32_t serial);
+
+/* Takes the value of the port's oldest untaken load: 40, 22, 33, 34. */
+lsq_step lsq_take_in(lsq_frame frame, uint64_t *loads, size_t loads_len,
+                     uint64_t *stores, size_t stores_len, uint32_t port);
+
+/* Puts the serials of the loads that serve would now accept, or of the stores
+ * that write would now accept, oldest first, at the front of out: 40, 10. The
+ * rest of out keeps its contents; LSQ_ENTRIES places are always enough. */
+lsq_listed lsq_ready_loads_in(lsq_frame frame, const uint64_t *loads, size_t loads_len,
+                              const uint64_t *stores, size_t stores_len,
+                              uint32_t *out, size_t out_len);
+lsq_listed lsq_ready_stores_in(lsq_frame frame, const uint64_t *loads, size_t loads_len,
+                               const uint64_t *stores, size_t stores_len,
+                               uint32_t *out, size_t out_len);
+
+/* ---- A live queue: inline, in plain C, not proved ---- */
+
+/* A queue in one piece. It is plain data with no pointer inside: it may be
+ * copied, saved, and sent to another host, as it stands where that host has the
+ * same layout (the assertions at the end of this file), or else by lsq_save.
+ * As it stands it has bytes between its fields that mean nothing and may hold
+ * anything. The memory is the caller's, and no part of it.
+ *
+ * Whatever a queue holds when it comes back, the calls test it (40) and go by
+ * what it holds. That each port gets the values of one access after another is
+ * promised of queues that an opening and the calls led to, on one memory. */
+typedef struct lsq_queue {
+    lsq_frame frame;
+    uint64_t loads[LSQ_ENTRIES], stores[LSQ_ENTRIES];
+} lsq_queue;
+
+/* Each of these answers 0 or the refusal number of the call that it stands on.
+ * A refusal leaves *q, *value, *counts, *count, memory and out as they were.
+ * Besides what every call is owed, q points to an lsq_queue, and nothing else
+ * that is handed over lies inside it. */
+
+/* An accepted opening sets every field of *q, so that it can be saved. */
+static inline uint32_t lsq_open(lsq_queue *q, const uint8_t *table, size_t table_len,
+                                uint32_t load_depth, uint32_t store_depth,
+                                uint32_t first, uint32_t words)
+{
+    lsq_opened opened = lsq_open_in(table, table_len, load_depth, store_depth, first, words);
+    if (opened.answer == LSQ_ACCEPTED) {
+        memset(q, 0, sizeof *q);
+        q->frame = opened.frame;
+    }
+    return opened.answer;
+}
+
+/* 1 where no call answers 40, else 0. */
+static inline uint32_t lsq_sound(const lsq_queue *q)
+{
+    return lsq_sound_in(q->frame, q->loads, LSQ_ENTRIES, q->stores, LSQ_ENTRIES);
+}
+
+static inline uint32_t lsq_activate(lsq_queue *q, uint32_t group)
+{
+    lsq_step step = lsq_activate_in(q->frame, q->loads, LSQ_ENTRIES, q->stores, LSQ_ENTRIES, group);
+    if (step.answer == LSQ_ACCEPTED)
+        q->frame = step.frame;
+    return step.answer;
+}
+
+static inline uint32_t lsq_load_address(lsq_queue *q, uint32_t port, uint32_t address)
+{
+    return lsq_load_address_in(q->frame, q->loads, LSQ_ENTRIES, q->stores, LSQ_ENTRIES,
+                               port, address);
+}
+
+static inline uint32_t lsq_store_address(lsq_queue *q, uint32_t port, uint32_t address)
+{
+    return lsq_store_address_in(q->frame, q->loads, LSQ_ENTRIES, q->stores, LSQ_ENTRIES,
+                                port, address);
+}
+
+static inline uint32_t lsq_store_data(lsq_queue *q, uint32_t port, uint32_t word)
+{
+    return lsq_store_data_in(q->frame, q->loads, LSQ_ENTRIES, q->stores, LSQ_ENTRIES, port, word);
+}
+
+static inline uint32_t lsq_serve(lsq_queue *q, const uint32_t *memory, size_t memory_len,
+                                 lsq_counts *counts, uint32_t serial, uint32_t *value)
+{
+    lsq_service service = lsq_serve_in(q->frame, q->loads, LSQ_ENTRIES, q->stores, LSQ_ENTRIES,
+                                       memory, memory_len, *counts, serial);
+    if (service.answer == LSQ_ACCEPTED) {
+        *counts = service.counts;
+        *value = service.value;
+    }
+    return service.answer;
+}
+
+static inline uint32_t lsq_write(lsq_queue *q, uint32_t *memory, size_t memory_len,
+                                 uint32_t serial)
+{
+    lsq_step step = lsq_write_in(q->frame, q->loads, LSQ_ENTRIES, q->stores, LSQ_ENTRIES,
+                                 memory, memory_len, serial);
+    if (step.answer == LSQ_ACCEPTED)
+        q->frame = step.frame;
+    return step.answer;
+}
+
+static inline uint32_t lsq_take(lsq_queue *q, uint32_t port, uint32_t *value)
+{
+    lsq_step step = lsq_take_in(q->frame, q->loads, LSQ_ENTRIES, q->stores, LSQ_ENTRIES, port);
+    if (step.answer == LSQ_ACCEPTED) {
+        q->frame = step.frame;
+        *value = step.value;
+    }
+    return step.answer;
+}
+
+static inline uint32_t lsq_ready_loads(const lsq_queue *q, uint32_t *out, size_t out_len,
+                                       size_t *count)
+{
+    lsq_listed listed = lsq_ready_loads_in(q->frame, q->loads, LSQ_ENTRIES, q->stores, LSQ_ENTRIES,
+                                           out, out_len);
+    if (listed.answer == LSQ_ACCEPTED)
+        *count = (size_t)listed.count;
+    return listed.answer;
+}
+
+static inline uint32_t lsq_ready_stores(const lsq_queue *q, uint32_t *out, size_t out_len,
+                                        size_t *count)
+{
+    lsq_listed listed = lsq_ready_stores_in(q->frame, q->loads, LSQ_ENTRIES, q->stores, LSQ_ENTRIES,
+                                            out, out_len);
+    if (listed.answer == LSQ_ACCEPTED)
+        *count = (size_t)listed.count;
+    return listed.answer;
+}
+
+/* ---- A saved queue: inline, in plain C, not proved ---- */
+
+/* Bytes that a queue is saved in: every field in turn, lowest byte first, the
+ * same on every host, and the same as Queue::to_bytes of the Rust wrapper. */
+#define LSQ_QUEUE_BYTES 1231
+
+static inline uint8_t *lsq_put(uint8_t *at, uint64_t number, int bytes)
+{
+    for (; bytes > 0; bytes--, number >>= 8)
+        *at++ = (uint8_t)number;
+    return at;
+}
+
+static inline const uint8_t *lsq_get(const uint8_t *at, uint64_t *number, int bytes)
+{
+    *number = 0;
+    for (int i = 0; i < bytes; i++)
+        *number |= (uint64_t)*at++ << 8 * i;
+    return at;
+}
+
+/* Every field of a table is a byte, and none lies between them. */
+static inline uint8_t *lsq_put_table(uint8_t *at, const lsq_table *table)
+{
+    memcpy(at, table, sizeof *table);
+    return at + sizeof *table;
+}
+
+static inline const uint8_t *lsq_get_table(const uint8_t *at, lsq_table *table)
+{
+    memcpy(table, at, sizeof *table);
+    return at + sizeof *table;
+}
+
+static inline uint8_t *lsq_put_side(uint8_t *at, const lsq_side *side)
+{
+    return lsq_put(lsq_put(lsq_put(at, side->depth, 1), side->count, 1), side->next, 4);
+}
+
+static inline const uint8_t *lsq_get_side(const uint8_t *at, lsq_side *side)
+{
+    uint64_t next;
+    side->depth = at[0];
+    side->count = at[1];
+    at = lsq_get(at + 2, &next, 4);
+    side->next = (uint32_t)next;
+    return at;
+}
+
+/* Puts the queue down in LSQ_QUEUE_BYTES bytes. */
+static inline void lsq_save(const lsq_queue *q, uint8_t *out)
+{
+    out = lsq_put(lsq_put_table(out, &q->frame.table), q->frame.words, 2);
+    out = lsq_put_side(lsq_put_side(out, &q->frame.loads), &q->frame.stores);
+    for (int i = 0; i < LSQ_ENTRIES; i++)
+        out = lsq_put(out, q->loads[i], 8);
+    for (int i = 0; i < LSQ_ENTRIES; i++)
+        out = lsq_put(out, q->stores[i], 8);
+}
+
+/* Sets every field of the queue from LSQ_QUEUE_BYTES bytes: those that lsq_save
+ * put down, or any. */
+static inline void lsq_restore(lsq_queue *q, const uint8_t *in)
+{
+    uint64_t words;
+    in = lsq_get(lsq_get_table(in, &q->frame.table), &words, 2);
+    q->frame.words = (uint16_t)words;
+    in = lsq_get_side(lsq_get_side(in, &q->frame.loads), &q->frame.stores);
+    for (int i = 0; i < LSQ_ENTRIES; i++)
+        in = lsq_get(in, &q->loads[i], 8);
+    for (int i = 0; i < LSQ_ENTRIES; i++)
+        in = lsq_get(in, &q->stores[i], 8);
+}
+
+/* ---- The layout that the library was compiled for ---- */
+
+LSQ_HOLDS(sizeof(size_t) == 8);
+LSQ_HOLDS(sizeof(lsq_table) == 193);
+LSQ_HOLDS(offsetof(lsq_table, groups) == 1);
+LSQ_HOLDS(offsetof(lsq_table, loads) == 65);
+LSQ_HOLDS(offsetof(lsq_table, stores) == 129);
+LSQ_HOLDS(sizeof(lsq_table_read) == 200);
+LSQ_HOLDS(sizeof(lsq_side) == 8);
+LSQ_HOLDS(offsetof(lsq_side, next) == 4);
+LSQ_HOLDS(sizeof(lsq_frame) == 212);
+LSQ_HOLDS(offsetof(lsq_frame, words) == 194);
+LSQ_HOLDS(offsetof(lsq_frame, loads) == 196);
+LSQ_HOLDS(offsetof(lsq_frame, stores) == 204);
+LSQ_HOLDS(sizeof(lsq_counts) == 8);
+LSQ_HOLDS(sizeof(lsq_opened) == 216);
+LSQ_HOLDS(sizeof(lsq_step) == 224);
+LSQ_HOLDS(sizeof(lsq_service) == 20);
+LSQ_HOLDS(sizeof(lsq_listed) == 16);
+LSQ_HOLDS(sizeof(lsq_written) == 16);
+LSQ_HOLDS(sizeof(lsq_queue) == 1240);
+LSQ_HOLDS(offsetof(lsq_queue, loads) == 216);
+LSQ_HOLDS(offsetof(lsq_queue, stores) == 728);
+
+#undef LSQ_HOLDS
 
 #ifdef __cplusplus
 }

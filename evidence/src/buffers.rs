@@ -43,6 +43,14 @@ impl<T: Copy + PartialEq> Guarded<T> {
         self.whole.iter().all(|&each| each == element)
     }
 
+    /// Whether the margins are those of `other`, which is as long.
+    #[must_use]
+    pub fn same_margins(&self, other: &Self) -> bool {
+        let behind = MARGIN + self.length();
+        self.whole[..MARGIN] == other.whole[..MARGIN]
+            && self.whole[behind..] == other.whole[behind..]
+    }
+
     /// Where this and `other`, margins included, first differ: the place (below
     /// 0 or from the length on in a margin) and both elements.
     #[must_use]

@@ -209,7 +209,11 @@ pub fn tries_wrapper(case: &Case) -> bool {
     case.kind == Kind::Lengths || (case.seed / 3).is_multiple_of(8)
 }
 
-fn same<T: PartialEq + Display>(what: &str, expected: T, found: T) -> Result<(), Difference> {
+pub(crate) fn same<T: PartialEq + Display>(
+    what: &str,
+    expected: T,
+    found: T,
+) -> Result<(), Difference> {
     if expected == found {
         return Ok(());
     }
@@ -217,7 +221,11 @@ fn same<T: PartialEq + Display>(what: &str, expected: T, found: T) -> Result<(),
     Err(Difference(words))
 }
 
-fn same_shown<T: PartialEq + Debug>(what: &str, expected: &T, found: &T) -> Result<(), Difference> {
+pub(crate) fn same_shown<T: PartialEq + Debug>(
+    what: &str,
+    expected: &T,
+    found: &T,
+) -> Result<(), Difference> {
     if expected == found {
         return Ok(());
     }
@@ -233,7 +241,7 @@ fn same_buffers(what: &str, expected: &Buffers, found: &Buffers) -> Result<(), D
     same_run(what, "counts", &expected.counts, &found.counts)
 }
 
-fn same_run<T: Copy + PartialEq + Display>(
+pub(crate) fn same_run<T: Copy + PartialEq + Display>(
     what: &str,
     name: &str,
     expected: &Guarded<T>,

@@ -1,6 +1,6 @@
 //! The static library of the proved queue, held to the independent
-//! implementation in `reference/` (`differential`) and measured against it
-//! (`benchmark`).
+//! implementation in `reference/` (`differential`, `records`) and measured
+//! against it (`benchmark`).
 
 #![deny(unsafe_code)]
 #![warn(missing_docs)]
@@ -9,6 +9,7 @@ pub mod buffers;
 pub mod cases;
 pub mod clock;
 pub mod compare;
+pub mod live;
 pub mod program;
 pub mod subject;
 pub mod tally;

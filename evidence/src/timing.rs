@@ -5,27 +5,35 @@ use std::time::Duration;
 
 use lsq::direct;
 use lsq_ref::replay::{replay, trace_fault, Lent};
+use lsq_ref::{Counts, Queue, Table};
 
 use crate::clock::processor_time;
+use crate::live::subject;
 use crate::workloads::Workload;
 
 /// What is measured.
 #[derive(Clone, Copy, Debug, PartialEq, Eq)]
 pub enum Implementation {
-    /// The static library.
+    /// The static library's replay.
     Proved,
-    /// The in-place Rust queue that makes check 40 on every call.
+    /// A replay on the in-place Rust queue that makes check 40 on every call.
     Checked,
     /// The same without that check.
     Unchecked,
+    /// The static library's live calls, made one by one through the Rust
+    /// wrapper from events that were read before.
+    Live,
+    /// The same calls on the in-place Rust queue with check 40.
+    InPlace,
 }
 
-/// All of them, in this order.
-pub const IMPLEMENTATIONS: [Implementation; 3] = [
-    Implementation::Proved,
-    Implementation::Checked,
-    Implementation::Unchecked,
-];
+use Implementation::*;
+
+/// Replays, in this order.
+pub const REPLAYS: [Implementation; 3] = [Proved, Checked, Unchecked];
+
+/// Calls one by one, in this order.
+pub const CALLS: [Implementation; 2] = [Live, InPlace];
 
 /// Buffers of just the right lengths.
 #[derive(Clone, Debug, PartialEq, Eq)]
@@ -50,8 +58,8 @@ impl Run {
         }
     }
 
-    /// Plays the workload once: opens the queue, and for each event decodes it,
-    /// makes the call, and stores answer and value.
+    /// Plays the workload once: opens the queue, and for each event decodes it
+    /// (in a replay), makes the call, and stores answer and value.
     ///
     /// # Panics
     /// When the workload is refused.
@@ -60,12 +68,51 @@ impl Run {
         // Counts that reach the last number would stop, and cost less.
         self.counts = [0; 2];
         let answer = match implementation {
-            Implementation::Proved => direct::replay(table, trace, self.lend_to_library()),
-            Implementation::Checked => refusal(replay::<true>(table, trace, self.lend())),
-            Implementation::Unchecked => refusal(replay::<false>(table, trace, self.lend())),
+            Proved => direct::replay(table, trace, self.lend_to_library()),
+            Checked => refusal(replay::<true>(table, trace, self.lend())),
+            Unchecked => refusal(replay::<false>(table, trace, self.lend())),
+            Live => self.play_live(workload),
+            InPlace => self.play_in_place(workload),
         };
         assert_eq!(answer, 0, "the workload was refused");
         black_box(&self.values);
+    }
+
+    fn play_live(&mut self, workload: &Workload) -> u32 {
+        let mut queue = match subject::open(&workload.table, &workload.header) {
+            Ok(queue) => queue,
+            Err(refusal) => return refusal.0,
+        };
+        let mut counts = lsq::Counts::default();
+        for (place, event) in workload.events.iter().enumerate() {
+            let made = subject::apply(&mut queue, &mut self.memory, &mut counts, event);
+            self.note(place, made.map_err(|refusal| refusal.0 as u8));
+        }
+        self.counts = [counts.loads, counts.forwarded];
+        0
+    }
+
+    fn play_in_place(&mut self, workload: &Workload) -> u32 {
+        let table = Table::read(&workload.table);
+        let mut queue = match table.and_then(|table| Queue::open(table, workload.header)) {
+            Ok(queue) => queue,
+            Err(refusal) => return refusal.into(),
+        };
+        let mut counts = Counts::default();
+        for (place, event) in workload.events.iter().enumerate() {
+            let made = queue.apply(event, &mut self.memory, &mut counts);
+            self.note(place, made);
+        }
+        self.counts = [counts.loads, counts.forwarded];
+        0
+    }
+
+    #[inline]
+    fn note(&mut self, place: usize, outcome: Result<Option<u32>, u8>) {
+        let value = outcome.ok().flatten();
+        self.answers[place] = outcome.err().unwrap_or(0);
+        self.given[place] = value.is_some().into();
+        self.values[place] = value.unwrap_or(0);
     }
 
     fn lend(&mut self) -> Lent<'_> {
@@ -97,12 +144,14 @@ fn refusal(played: Result<(), u8>) -> u32 {
 /// counts.
 #[must_use]
 pub fn agree(workload: &Workload) -> bool {
-    let runs = IMPLEMENTATIONS.map(|implementation| {
+    let played = |implementation| {
         let mut run = Run::new(workload);
         run.play(implementation, workload);
         run
-    });
-    runs[0] == runs[1] && runs[1] == runs[2]
+    };
+    let proved = played(Proved);
+    let others = [Checked, Unchecked, Live, InPlace];
+    others.into_iter().all(|other| played(other) == proved)
 }
 
 /// Nanoseconds per event of a workload played `repeats` times.
@@ -110,13 +159,18 @@ fn per_event(time: Duration, repeats: usize, workload: &Workload) -> f64 {
     time.as_nanos() as f64 / (repeats * workload.calls) as f64
 }
 
-/// Nanoseconds per call of each implementation, round by round.
+/// Nanoseconds per call of each of some implementations, round by round.
 #[must_use]
-pub fn rounds(workload: &Workload, count: usize, sample: Duration) -> Vec<[f64; 3]> {
+pub fn rounds<const N: usize>(
+    implementations: [Implementation; N],
+    workload: &Workload,
+    count: usize,
+    sample: Duration,
+) -> Vec<[f64; N]> {
     let mut run = Run::new(workload);
     let repeats = repeats(&mut run, workload, sample);
     let round = |_| {
-        IMPLEMENTATIONS.map(|implementation| {
+        implementations.map(|implementation| {
             let start = processor_time();
             (0..repeats).for_each(|_| run.play(implementation, workload));
             per_event(processor_time() - start, repeats, workload)
@@ -131,7 +185,7 @@ fn repeats(run: &mut Run, workload: &Workload, sample: Duration) -> usize {
     let start = processor_time();
     let mut count = 0;
     while processor_time() - start < sample {
-        run.play(Implementation::Checked, workload);
+        run.play(Checked, workload);
         count += 1;
     }
     count

@@ -20,6 +20,10 @@ pub struct Workload {
     pub table: Vec<u8>,
     /// The trace's bytes.
     pub trace: Vec<u8>,
+    /// The trace's leading numbers.
+    pub header: Header,
+    /// Its events.
+    pub events: Vec<Event>,
     /// Words of memory.
     pub memory_length: usize,
     /// Calls of the trace.
@@ -39,6 +43,8 @@ impl Workload {
             title,
             table,
             trace,
+            header: scenario.header,
+            events: scenario.events.clone(),
             memory_length: scenario.header.memory_length as usize,
             calls: scenario.events.len(),
             accepted: 0,

@@ -1,12 +1,12 @@
 //! Seeded inputs for comparing implementations: valid tables, traces that lean
 //! towards conflicts, full queues and the turn of the serials, damaged bytes,
-//! and queue records that no opening leads to.
+//! queue records that no opening leads to, and calls on them.
 
 use crate::counts::Counts;
 use crate::event::{write_event, write_header, Event, Header};
 use crate::number::{read_number, write_number};
 use crate::play::MAX_FILE;
-use crate::queue::{LoadEntry, Queue, StoreEntry, TrustingQueue, MAX_DEPTH, MAX_MEMORY};
+use crate::queue::{LoadEntry, Queue, Side, StoreEntry, TrustingQueue, MAX_DEPTH, MAX_MEMORY};
 use crate::rng::Rng;
 use crate::table::{Access, Group, Pair, Table, MAX_PORT};
 
@@ -789,5 +789,82 @@ pub fn nudge_table(rng: &mut Rng, table: &mut Table) {
         2 => pair.offset = 0,
         3 => pair.port = other,
         _ => pair.port = rng.pick(&[MAX_PORT, MAX_PORT + 1]),
+    }
+}
+
+// Calls on records.
+
+/// Counts that may hold anything, the edges included.
+pub fn counts(rng: &mut Rng) -> Counts {
+    let edge = u32::MAX - rng.between(0, 1);
+    Counts {
+        loads: rng.pick(&[0, 7, edge]),
+        forwarded: rng.pick(&[0, 9, edge]),
+    }
+}
+
+/// A memory of the record's length, where that can be, or of another one.
+pub fn memory_for(rng: &mut Rng, queue: &Queue) -> Vec<u32> {
+    let length = queue.memory_length.min(MAX_MEMORY + 1) as usize;
+    let other = rng.pick(&[0, length + 1, length.saturating_sub(1)]);
+    let length = if rng.chance(1, 12) { other } else { length };
+    (0..length).map(|_| rng.word()).collect()
+}
+
+/// A call on a record that is seldom beside the point.
+pub fn call_on(rng: &mut Rng, queue: &Queue) -> Event {
+    let kind = rng.pick(&[0, 1, 2, 3, 4, 4, 5, 5, 6, 6]);
+    call_of_kind(rng, queue, kind)
+}
+
+/// The same, of one of the seven kinds.
+pub fn call_of_kind(rng: &mut Rng, queue: &Queue, kind: usize) -> Event {
+    let load_port = port_on(rng, &queue.loads, |load| load.port);
+    let store_port = port_on(rng, &queue.stores, |store| store.port);
+    let address = rng.between(0, queue.memory_length.saturating_add(1).min(5000));
+    match kind {
+        0 => Event::Activate {
+            group: rng.between(0, queue.table.groups.len() as u32),
+        },
+        1 => Event::LoadAddress {
+            port: load_port,
+            address,
+        },
+        2 => Event::StoreAddress {
+            port: store_port,
+            address,
+        },
+        3 => Event::StoreData {
+            port: store_port,
+            word: rng.word(),
+        },
+        4 => Event::Serve {
+            serial: serial_on(rng, &queue.loads),
+        },
+        5 => Event::Write {
+            serial: serial_on(rng, &queue.stores),
+        },
+        _ => Event::Take { port: load_port },
+    }
+}
+
+/// Mostly the port of an entry, else any.
+fn port_on<E>(rng: &mut Rng, side: &Side<E>, port: impl Fn(&E) -> u32) -> u32 {
+    let held = side.entries.len();
+    match rng.below(5) {
+        1.. if held > 0 => port(&side.entries[rng.below(held)]),
+        _ => rng.between(0, MAX_PORT + 2),
+    }
+}
+
+/// Mostly the serial of an entry, else one just outside or any.
+fn serial_on<E>(rng: &mut Rng, side: &Side<E>) -> u32 {
+    let held = side.entries.len();
+    match rng.below(12) {
+        0 => rng.word(),
+        1 => side.next_serial,
+        2 => side.oldest_serial().wrapping_sub(1),
+        _ if held > 0 => side.serial_at(rng.below(held)),
+        _ => 0,
     }
 }

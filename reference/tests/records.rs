@@ -269,57 +269,6 @@ fn activate(q: &mut Queue, group: usize) {
 
 // Comparison.
 
-/// Counts that may hold anything, the edges included.
-fn any_counts(rng: &mut Rng) -> Counts {
-    let edge = u32::MAX - rng.between(0, 1);
-    Counts {
-        loads: rng.pick(&[0, 7, edge]),
-        forwarded: rng.pick(&[0, 9, edge]),
-    }
-}
-
-/// A memory of the record's length, where that can be, or of another one.
-fn any_memory(rng: &mut Rng, q: &Queue) -> Vec<u32> {
-    let length = q.memory_length.min(4097) as usize;
-    let other = rng.pick(&[0, length + 1, length.saturating_sub(1)]);
-    let length = if rng.chance(1, 12) { other } else { length };
-    (0..length).map(|_| rng.word()).collect()
-}
-
-/// A call on the record that is seldom beside the point.
-fn any_event(rng: &mut Rng, q: &Queue) -> Event {
-    let loads = with_serials(&q.loads);
-    let stores = with_serials(&q.stores);
-    let port = match rng.below(3) {
-        0 if !loads.is_empty() => rng.pick(&loads).1.port,
-        1 if !stores.is_empty() => rng.pick(&stores).1.port,
-        _ => rng.between(0, 33),
-    };
-    let address = rng.between(0, q.memory_length.saturating_add(1).min(5000));
-    let serial = match rng.below(12) {
-        0 => rng.word(),
-        1 => q.loads.next_serial,
-        2 => q.stores.next_serial.wrapping_sub(stores.len() as u32 + 1),
-        3..=7 if !loads.is_empty() => rng.pick(&loads).0,
-        _ if !stores.is_empty() => rng.pick(&stores).0,
-        _ => 0,
-    };
-    match rng.below(10) {
-        0 => Event::Activate {
-            group: rng.between(0, q.table.groups.len() as u32),
-        },
-        1 => Event::LoadAddress { port, address },
-        2 => Event::StoreAddress { port, address },
-        3 => Event::StoreData {
-            port,
-            word: rng.word(),
-        },
-        4..=5 => Event::Serve { serial },
-        6..=7 => Event::Write { serial },
-        _ => Event::Take { port },
-    }
-}
-
 fn compare_call(q: &Queue, event: &Event, memory: &[u32], counts: Counts) -> Outcome {
     let expected = outcome(q, event, memory, counts);
     let (mut after, mut words, mut tally) = (q.clone(), memory.to_vec(), counts);
@@ -366,11 +315,11 @@ fn every_call_follows_what_the_record_holds() {
     for seed in 0..6000 {
         let mut rng = Rng::new(seed);
         let mut q = gen::record(&mut rng);
-        let mut memory = any_memory(&mut rng, &q);
-        let mut counts = any_counts(&mut rng);
+        let mut memory = gen::memory_for(&mut rng, &q);
+        let mut counts = gen::counts(&mut rng);
         assert_eq!(q.sound(), !unsound(&q));
         for _ in 0..24 {
-            let event = any_event(&mut rng, &q);
+            let event = gen::call_on(&mut rng, &q);
             let (answer, after, words, tally) = compare_call(&q, &event, &memory, counts);
             seen[usize::from(answer.err().unwrap_or(0))] += 1;
             (q, memory, counts) = (after, words, tally);
@@ -406,7 +355,7 @@ fn without_check_40_sound_records_are_answered_alike() {
         let mut memory = vec![0; checked.memory_length as usize];
         let mut counts = Counts::default();
         for _ in 0..24 {
-            let event = any_event(&mut rng, &checked);
+            let event = gen::call_on(&mut rng, &checked);
             let mut words = memory.clone();
             let mut tally = counts;
             let answer = trusting.apply(&event, &mut words, &mut tally);

@@ -2,57 +2,9 @@
 //! lengths themselves, so nothing is asked of a caller; the crate's root has
 //! the same calls with errors that can be read.
 
+use crate::ffi;
+use crate::record::{Counts, Frame, Listed, Opened, Service, Step, Table, TableRead, Written};
 use crate::Lent;
-
-/// The declarations of `bindings/c/lsq.h`.
-mod ffi {
-    unsafe extern "C" {
-        pub fn lsq_table_fault(table: *const u8, table_len: usize) -> u32;
-        pub fn lsq_trace_fault(
-            table: *const u8,
-            table_len: usize,
-            trace: *const u8,
-            trace_len: usize,
-        ) -> u32;
-        pub fn lsq_event_count(
-            table: *const u8,
-            table_len: usize,
-            trace: *const u8,
-            trace_len: usize,
-        ) -> u64;
-        pub fn lsq_memory_length(
-            table: *const u8,
-            table_len: usize,
-            trace: *const u8,
-            trace_len: usize,
-        ) -> u32;
-        pub fn lsq_replay(
-            table: *const u8,
-            table_len: usize,
-            trace: *const u8,
-            trace_len: usize,
-            memory: *mut u32,
-            memory_len: usize,
-            counts: *mut u32,
-            counts_len: usize,
-            answers: *mut u8,
-            answers_len: usize,
-            given: *mut u8,
-            given_len: usize,
-            values: *mut u32,
-            values_len: usize,
-        ) -> u32;
-        pub fn lsq_share(loads: u32, forwarded: u32) -> u64;
-        pub fn lsq_text(
-            table: *const u8,
-            table_len: usize,
-            trace: *const u8,
-            trace_len: usize,
-            out: *mut u8,
-            out_len: usize,
-        ) -> u64;
-    }
-}
 
 // A slice's pointer and length are what each function asks for: the pointer is
 // never null, and no slice that is written overlaps another. That is the whole
@@ -129,6 +81,221 @@ pub fn text(table: &[u8], trace: &[u8], out: &mut [u8]) -> u64 {
             table.len(),
             trace.as_ptr(),
             trace.len(),
+            out.as_mut_ptr(),
+            out.len(),
+        )
+    }
+}
+
+/// Reads a table that takes up all of `bytes`.
+#[must_use]
+pub fn read_table(bytes: &[u8]) -> TableRead {
+    unsafe { ffi::lsq_read_table(bytes.as_ptr(), bytes.len()) }
+}
+
+/// Writes a table: 4, 5, 8, 6, 7, then 10.
+#[must_use]
+pub fn write_table(table: Table, out: &mut [u8]) -> Written {
+    unsafe { ffi::lsq_write_table(table, out.as_mut_ptr(), out.len()) }
+}
+
+/// Writes a number in the fewest bytes: 10.
+#[must_use]
+pub fn write_number(value: u32, out: &mut [u8]) -> Written {
+    unsafe { ffi::lsq_write_number(value, out.as_mut_ptr(), out.len()) }
+}
+
+/// Writes an event: 35, then 10.
+#[must_use]
+pub fn write_event(kind: u32, first: u32, second: u32, out: &mut [u8]) -> Written {
+    unsafe { ffi::lsq_write_event(kind, first, second, out.as_mut_ptr(), out.len()) }
+}
+
+/// Opens a queue on a table's bytes: 1 to 9 of the table, then 11 to 14.
+#[must_use]
+pub fn open_in(table: &[u8], load_depth: u32, store_depth: u32, first: u32, words: u32) -> Opened {
+    let (bytes, length) = (table.as_ptr(), table.len());
+    unsafe { ffi::lsq_open_in(bytes, length, load_depth, store_depth, first, words) }
+}
+
+/// 0 where a call with these parts would answer 40, else 1.
+#[must_use]
+pub fn sound_in(frame: Frame, loads: &[u64], stores: &[u64]) -> u32 {
+    unsafe {
+        ffi::lsq_sound_in(
+            frame,
+            loads.as_ptr(),
+            loads.len(),
+            stores.as_ptr(),
+            stores.len(),
+        )
+    }
+}
+
+/// Queues a group's accesses: 40, 20, 21.
+#[must_use]
+pub fn activate_in(frame: Frame, loads: &mut [u64], stores: &mut [u64], group: u32) -> Step {
+    unsafe {
+        ffi::lsq_activate_in(
+            frame,
+            loads.as_mut_ptr(),
+            loads.len(),
+            stores.as_mut_ptr(),
+            stores.len(),
+            group,
+        )
+    }
+}
+
+/// Gives an address to the port's oldest load that has none: 40, 22, 23, 24.
+#[must_use]
+pub fn load_address_in(
+    frame: Frame,
+    loads: &mut [u64],
+    stores: &[u64],
+    port: u32,
+    address: u32,
+) -> u32 {
+    unsafe {
+        ffi::lsq_load_address_in(
+            frame,
+            loads.as_mut_ptr(),
+            loads.len(),
+            stores.as_ptr(),
+            stores.len(),
+            port,
+            address,
+        )
+    }
+}
+
+/// Gives an address to the port's oldest store that has none: 40, 22, 23, 24.
+#[must_use]
+pub fn store_address_in(
+    frame: Frame,
+    loads: &[u64],
+    stores: &mut [u64],
+    port: u32,
+    address: u32,
+) -> u32 {
+    unsafe {
+        ffi::lsq_store_address_in(
+            frame,
+            loads.as_ptr(),
+            loads.len(),
+            stores.as_mut_ptr(),
+            stores.len(),
+            port,
+            address,
+        )
+    }
+}
+
+/// Gives data to the port's oldest store that has none: 40, 22, 24.
+#[must_use]
+pub fn store_data_in(frame: Frame, loads: &[u64], stores: &mut [u64], port: u32, word: u32) -> u32 {
+    unsafe {
+        ffi::lsq_store_data_in(
+            frame,
+            loads.as_ptr(),
+            loads.len(),
+            stores.as_mut_ptr(),
+            stores.len(),
+            port,
+            word,
+        )
+    }
+}
+
+/// Serves the load with this serial and counts it: 40, 30, 25 to 29.
+#[must_use]
+pub fn serve_in(
+    frame: Frame,
+    loads: &mut [u64],
+    stores: &[u64],
+    memory: &[u32],
+    counts: Counts,
+    serial: u32,
+) -> Service {
+    unsafe {
+        ffi::lsq_serve_in(
+            frame,
+            loads.as_mut_ptr(),
+            loads.len(),
+            stores.as_ptr(),
+            stores.len(),
+            memory.as_ptr(),
+            memory.len(),
+            counts,
+            serial,
+        )
+    }
+}
+
+/// Writes the store with this serial to memory: 40, 30, 25, 26, 27, 29, 31, 32.
+#[must_use]
+pub fn write_in(
+    frame: Frame,
+    loads: &mut [u64],
+    stores: &mut [u64],
+    memory: &mut [u32],
+    serial: u32,
+) -> Step {
+    unsafe {
+        ffi::lsq_write_in(
+            frame,
+            loads.as_mut_ptr(),
+            loads.len(),
+            stores.as_mut_ptr(),
+            stores.len(),
+            memory.as_mut_ptr(),
+            memory.len(),
+            serial,
+        )
+    }
+}
+
+/// Takes the value of the port's oldest untaken load: 40, 22, 33, 34.
+#[must_use]
+pub fn take_in(frame: Frame, loads: &mut [u64], stores: &mut [u64], port: u32) -> Step {
+    unsafe {
+        ffi::lsq_take_in(
+            frame,
+            loads.as_mut_ptr(),
+            loads.len(),
+            stores.as_mut_ptr(),
+            stores.len(),
+            port,
+        )
+    }
+}
+
+/// Puts the serials that serve would now accept at the front of `out`: 40, 10.
+#[must_use]
+pub fn ready_loads_in(frame: Frame, loads: &[u64], stores: &[u64], out: &mut [u32]) -> Listed {
+    unsafe {
+        ffi::lsq_ready_loads_in(
+            frame,
+            loads.as_ptr(),
+            loads.len(),
+            stores.as_ptr(),
+            stores.len(),
+            out.as_mut_ptr(),
+            out.len(),
+        )
+    }
+}
+
+/// Puts the serials that write would now accept at the front of `out`: 40, 10.
+#[must_use]
+pub fn ready_stores_in(frame: Frame, loads: &[u64], stores: &[u64], out: &mut [u32]) -> Listed {
+    unsafe {
+        ffi::lsq_ready_stores_in(
+            frame,
+            loads.as_ptr(),
+            loads.len(),
+            stores.as_ptr(),
+            stores.len(),
             out.as_mut_ptr(),
             out.len(),
         )

@@ -1,16 +1,33 @@
 //! Safe calls into the static library of the group-allocated load-store queue.
 //!
-//! [`replay`] and [`text`] say which of the things lent has a wrong length.
-//! [`direct`] has the library's functions as they are, with the paper's numbers
-//! for answers.
+//! [`Queue`] is a live queue, on which calls are made one by one. [`replay`]
+//! plays a whole trace; it and [`text`] say which of the things lent has a
+//! wrong length. [`direct`] has the library's functions as they are, with the
+//! paper's numbers for answers.
+//!
+//! The library's functions are proved; what stands over them here is plain
+//! Rust and is not.
 
 #![warn(missing_docs)]
 
 use std::fmt;
 
-pub mod direct;
+use refusal::accepted;
 
+mod bytes;
+pub mod direct;
+mod ffi;
+mod live;
+pub mod record;
+mod refusal;
+mod saved;
+
+pub use bytes::{read_table, write_event, write_number, write_table};
 pub use direct::{event_count, memory_length, share, table_fault, trace_fault};
+pub use live::Queue;
+pub use record::Counts;
+pub use refusal::Refusal;
+pub use saved::QUEUE_BYTES;
 
 /// The least length of the buffer lent to [`text`]: no text is longer.
 pub const TEXT_BYTES: usize = 1_224_789;
@@ -79,6 +96,12 @@ impl fmt::Display for Error {
 
 impl std::error::Error for Error {}
 
+impl From<Refusal> for Error {
+    fn from(Refusal(number): Refusal) -> Self {
+        Self::Refused(number)
+    }
+}
+
 /// Plays every event of the trace from a fresh opening, on the memory and the
 /// counts as lent, and gives the number of events. Answers and values stand at
 /// the front of their buffers. Every length is tested before the library's
@@ -102,13 +125,6 @@ pub fn replay(table: &[u8], trace: &[u8], lent: Lent) -> Result<usize, Error> {
     at_least(Buffer::Values, lent.values.len(), events)?;
     accepted(direct::replay(table, trace, lent))?;
     Ok(events)
-}
-
-fn accepted(answer: u32) -> Result<(), Error> {
-    match answer {
-        0 => Ok(()),
-        number => Err(Error::Refused(number)),
-    }
 }
 
 fn at_least(buffer: Buffer, lent: usize, needed: usize) -> Result<(), Error> {

@@ -1,6 +1,6 @@
 //! `copies` counts what a call on the queue copies: every memcpy, memmove and
-//! memset that a replay makes, by size, divided by the calls on the queue.
-//! Copies that the compiler makes inline are not seen.
+//! memset that a replay, or live calls in a row, make, by size, divided by the
+//! calls on the queue. Copies that the compiler makes inline are not seen.
 
 use std::ffi::c_void;
 use std::sync::atomic::{AtomicU64, Ordering::Relaxed};
@@ -58,6 +58,7 @@ fn main() {
     for workload in MAIN.into_iter().filter_map(named) {
         print_row(&workload, Implementation::Proved);
         print_row(&workload, Implementation::Checked);
+        print_row(&workload, Implementation::Live);
     }
 }
 

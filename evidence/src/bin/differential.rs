@@ -1,6 +1,7 @@
 //! `differential [SEED [CALLS]]` compares the static library with the
 //! reference on the cases of a seed, one after another, until CALLS calls were
-//! made. Cases of different seeds are different. `differential case NUMBER`
+//! made: each trace is replayed, and then its calls are made live, one by one.
+//! Cases of different seeds are different. `differential case NUMBER`
 //! compares one case again. Exit status 1: a difference; 2: none, but something
 //! that can occur never did, or bad arguments.
 //!
@@ -14,6 +15,10 @@ use std::{env, fs};
 
 use evidence::cases::Case;
 use evidence::compare::{tries_wrapper, wrapper, Comparer, Difference};
+use evidence::live::compare::Checker;
+use evidence::live::header::Header;
+use evidence::live::tally::{LiveTally, IN_LISTS};
+use evidence::live::{lists, subject};
 use evidence::program;
 use evidence::subject::Library;
 use evidence::tally::Tally;
@@ -45,9 +50,9 @@ fn first_case(seed: u64) -> u64 {
 
 fn all(seed: u64, calls: u64) -> ExitCode {
     let start = Instant::now();
-    let mut tally = Tally::default();
-    let compared = run(first_case(seed), calls, &mut tally);
-    println!("{tally}");
+    let mut run = Run::new();
+    let compared = run.cases(first_case(seed), calls);
+    run.print();
     let end = compared.and_then(|()| run_program(first_case(seed)));
     match end {
         Ok(program) => println!("{program}"),
@@ -58,7 +63,7 @@ fn all(seed: u64, calls: u64) -> ExitCode {
     }
     let seconds = start.elapsed().as_secs_f64();
     println!("seed {seed}: no difference in {seconds:.1} s");
-    let missing = tally.missing();
+    let missing = run.missing();
     if missing.is_empty() {
         return ExitCode::SUCCESS;
     }
@@ -67,7 +72,7 @@ fn all(seed: u64, calls: u64) -> ExitCode {
 }
 
 fn one(number: u64) -> ExitCode {
-    match run(number, 0, &mut Tally::default()) {
+    match Run::new().cases(number, 0) {
         Ok(()) => println!("case {number}: no difference"),
         Err(report) => {
             println!("{report}");
@@ -77,36 +82,78 @@ fn one(number: u64) -> ExitCode {
     ExitCode::SUCCESS
 }
 
-/// Goes through the cases from this one on, at least one; a difference ends the
-/// run and is reported.
-fn run(first: u64, calls: u64, tally: &mut Tally) -> Result<(), String> {
-    let show = env::var_os("LSQ_SHOW_CASES").is_some();
-    let mut comparer = Comparer::new(&Library);
-    for number in first.. {
-        if show {
-            eprintln!("case {number}");
-        }
-        let case = Case::new(number);
-        let compared = compare(&mut comparer, &case, tally);
-        compared.map_err(|difference| report(&case, &difference))?;
-        if tally.calls >= calls {
-            break;
-        }
-    }
-    Ok(())
+/// What was compared.
+struct Run {
+    replayed: Tally,
+    live: LiveTally,
+    over_library: LiveTally,
 }
 
-fn compare(
-    comparer: &mut Comparer<Library>,
-    case: &Case,
-    tally: &mut Tally,
-) -> Result<(), Difference> {
-    comparer.case(case, tally)?;
-    if tries_wrapper(case) {
-        tally.wrapped += 1;
-        wrapper(case)?;
+impl Run {
+    fn new() -> Self {
+        Self {
+            replayed: Tally::default(),
+            live: LiveTally::new(IN_LISTS),
+            over_library: LiveTally::new(IN_LISTS),
+        }
     }
-    Ok(())
+
+    /// Goes through the cases from this one on, at least one; a difference ends
+    /// the run and is reported.
+    fn cases(&mut self, first: u64, calls: u64) -> Result<(), String> {
+        let show = env::var_os("LSQ_SHOW_CASES").is_some();
+        let mut comparer = Comparer::new(&Library);
+        for number in first.. {
+            if show {
+                eprintln!("case {number}");
+            }
+            let case = Case::new(number);
+            let compared = self.case(&mut comparer, &case);
+            compared.map_err(|difference| report(&case, &difference))?;
+            if self.replayed.calls >= calls {
+                break;
+            }
+        }
+        Ok(())
+    }
+
+    fn case(&mut self, comparer: &mut Comparer<Library>, case: &Case) -> Result<(), Difference> {
+        comparer.case(case, &mut self.replayed)?;
+        held("the library", &subject::Library, case, &mut self.live)?;
+        if !tries_wrapper(case) {
+            return Ok(());
+        }
+        self.replayed.wrapped += 1;
+        wrapper(case)?;
+        let over = &mut self.over_library;
+        held("the Rust wrapper", &subject::Wrapper, case, over)?;
+        held("the C header", &Header, case, over)
+    }
+
+    fn print(&self) {
+        println!("{}", self.replayed);
+        println!("Lists of live calls from an opening:");
+        println!("{}", self.live);
+        let over = self.over_library.calls();
+        println!("{over:>9} live calls through the Rust wrapper and the C header");
+    }
+
+    fn missing(&self) -> Vec<String> {
+        let live = self.live.missing().into_iter();
+        let live = live.map(|missing| format!("{missing}, live"));
+        self.replayed.missing().into_iter().chain(live).collect()
+    }
+}
+
+/// Makes the case's calls live.
+fn held(
+    name: &str,
+    subject: &impl subject::Live,
+    case: &Case,
+    tally: &mut LiveTally,
+) -> Result<(), Difference> {
+    let compared = lists::compare(&mut Checker { subject, tally }, case);
+    compared.map_err(|Difference(words)| Difference(format!("live calls of {name}: {words}")))
 }
 
 fn run_program(first: u64) -> Result<String, String> {

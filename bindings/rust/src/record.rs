@@ -1,0 +1,214 @@
+//! The records that the library's live calls take and give, laid out as in
+//! `bindings/c/lsq.h`. They are plain data and may hold anything: every call
+//! tests what it is handed.
+
+use std::mem::{offset_of, size_of};
+
+/// Groups that a table has places for.
+pub const GROUPS: usize = 16;
+/// Accesses of one kind that a table has places for.
+pub const PLACES: usize = 32;
+/// Numbers that a side's entries are packed into, one each.
+pub const ENTRIES: usize = 64;
+
+/// Where a group's accesses stand in a table.
+#[repr(C)]
+#[derive(Clone, Copy, Debug, Default, PartialEq, Eq)]
+pub struct Span {
+    /// The first load's place.
+    pub first_load: u8,
+    /// How many loads.
+    pub loads: u8,
+    /// The first store's place.
+    pub first_store: u8,
+    /// How many stores.
+    pub stores: u8,
+}
+
+/// An access of a group.
+#[repr(C)]
+#[derive(Clone, Copy, Debug, Default, PartialEq, Eq)]
+pub struct Pair {
+    /// How many accesses of the other kind come before it in the group.
+    pub offset: u8,
+    /// Its port.
+    pub port: u8,
+}
+
+/// A group table as the library holds it. What it holds is shown by
+/// [`Table::parts`]; nothing else in this crate knows the layout.
+#[repr(C)]
+#[derive(Clone, Copy, Debug, Default, PartialEq, Eq)]
+pub struct Table {
+    count: u8,
+    groups: [Span; GROUPS],
+    loads: [Pair; PLACES],
+    stores: [Pair; PLACES],
+}
+
+/// What a table's record holds. Places beyond the count, or that no group has,
+/// mean nothing.
+#[derive(Clone, Copy, Debug, Default, PartialEq, Eq)]
+pub struct TableParts {
+    /// How many groups.
+    pub count: u8,
+    /// Where each group's accesses stand.
+    pub groups: [Span; GROUPS],
+    /// The loads of all groups.
+    pub loads: [Pair; PLACES],
+    /// The stores of all groups.
+    pub stores: [Pair; PLACES],
+}
+
+impl Table {
+    /// The record that holds these parts, right or wrong.
+    #[must_use]
+    pub fn new(parts: TableParts) -> Self {
+        Self {
+            count: parts.count,
+            groups: parts.groups,
+            loads: parts.loads,
+            stores: parts.stores,
+        }
+    }
+
+    /// What the record holds.
+    #[must_use]
+    pub fn parts(&self) -> TableParts {
+        TableParts {
+            count: self.count,
+            groups: self.groups,
+            loads: self.loads,
+            stores: self.stores,
+        }
+    }
+}
+
+/// One side of a queue.
+#[repr(C)]
+#[derive(Clone, Copy, Debug, Default, PartialEq, Eq)]
+pub struct Side {
+    /// The most entries that it holds.
+    pub depth: u8,
+    /// How many it holds.
+    pub count: u8,
+    /// The next serial.
+    pub next: u32,
+}
+
+/// All of a queue but its entries.
+#[repr(C)]
+#[derive(Clone, Copy, Debug, Default, PartialEq, Eq)]
+pub struct Frame {
+    /// The groups that can be activated.
+    pub table: Table,
+    /// The memory length that the queue was opened for.
+    pub words: u16,
+    /// The loads' side.
+    pub loads: Side,
+    /// The stores' side.
+    pub stores: Side,
+}
+
+/// Loads served, and loads forwarded. When either stands at 4294967295 both
+/// stop.
+#[repr(C)]
+#[derive(Clone, Copy, Debug, Default, PartialEq, Eq)]
+pub struct Counts {
+    /// Loads served.
+    pub loads: u32,
+    /// Loads served that got a queued store's data.
+    pub forwarded: u32,
+}
+
+/// What opening answers.
+#[repr(C)]
+#[derive(Clone, Copy, Debug, PartialEq, Eq)]
+pub struct Opened {
+    /// 0, or the refusal number.
+    pub answer: u32,
+    /// The frame; of a refused opening it is 0 in every field.
+    pub frame: Frame,
+}
+
+/// What a call that may change the frame answers.
+#[repr(C)]
+#[derive(Clone, Copy, Debug, PartialEq, Eq)]
+pub struct Step {
+    /// 0, or the refusal number.
+    pub answer: u32,
+    /// 1 or 0 as the call gave a value or none.
+    pub given: u32,
+    /// The value, or 0.
+    pub value: u32,
+    /// The frame that follows; of a refused call it is the one handed in.
+    pub frame: Frame,
+}
+
+/// What serving answers.
+#[repr(C)]
+#[derive(Clone, Copy, Debug, PartialEq, Eq)]
+pub struct Service {
+    /// 0, or the refusal number.
+    pub answer: u32,
+    /// 1 or 0 as the call gave a value or none.
+    pub given: u32,
+    /// The value, or 0.
+    pub value: u32,
+    /// The counts that follow; of a refused call they are those handed in.
+    pub counts: Counts,
+}
+
+/// What a ready call answers: 0 and how many serials stand at the front of the
+/// run, or the refusal number and 0.
+#[repr(C)]
+#[derive(Clone, Copy, Debug, PartialEq, Eq)]
+pub struct Listed {
+    /// 0, or the refusal number.
+    pub answer: u32,
+    /// How many serials.
+    pub count: u64,
+}
+
+/// What a writer answers: 0 and how many bytes stand at the front of the
+/// buffer, or the refusal number and 0.
+#[repr(C)]
+#[derive(Clone, Copy, Debug, PartialEq, Eq)]
+pub struct Written {
+    /// 0, or the refusal number.
+    pub answer: u32,
+    /// How many bytes.
+    pub count: u64,
+}
+
+/// What reading a table answers.
+#[repr(C)]
+#[derive(Clone, Copy, Debug, PartialEq, Eq)]
+pub struct TableRead {
+    /// 0, or 1 to 9.
+    pub answer: u32,
+    /// The table; of bytes that are refused it is 0 in every field.
+    pub table: Table,
+}
+
+// The layout that the library was compiled for; `lsq.h` has the same numbers.
+const _: () = {
+    assert!(size_of::<usize>() == 8);
+    assert!(size_of::<Table>() == 193);
+    assert!(offset_of!(Table, groups) == 1);
+    assert!(offset_of!(Table, loads) == 65);
+    assert!(offset_of!(Table, stores) == 129);
+    assert!(size_of::<TableRead>() == 200);
+    assert!(size_of::<Side>() == 8);
+    assert!(offset_of!(Side, next) == 4);
+    assert!(size_of::<Frame>() == 212);
+    assert!(offset_of!(Frame, words) == 194);
+    assert!(offset_of!(Frame, loads) == 196);
+    assert!(offset_of!(Frame, stores) == 204);
+    assert!(size_of::<Counts>() == 8);
+    assert!(size_of::<Opened>() == 216);
+    assert!(size_of::<Step>() == 224);
+    assert!(size_of::<Service>() == 20);
+    assert!(size_of::<Listed>() == 16);
+    assert!(size_of::<Written>() == 16);
+};

@@ -1,0 +1,129 @@
+//! `records [SEED [RECORDS]]` compares every live call with the reference on
+//! the records of a seed: hand-made and damaged ones, and runs of entries of
+//! other lengths than 64. Records of different seeds are different. `records
+//! case NUMBER` compares one record again. Exit status 1: a difference; 2: none,
+//! but some answer that can occur never did, or bad arguments.
+
+use std::collections::BTreeMap;
+use std::env;
+use std::process::ExitCode;
+use std::time::Instant;
+
+use evidence::compare::Difference;
+use evidence::live::cases::RecordCase;
+use evidence::live::compare::Checker;
+use evidence::live::header::Header;
+use evidence::live::records::compare;
+use evidence::live::subject::{Library, Live, Wrapper};
+use evidence::live::tally::{LiveTally, IN_RECORDS};
+
+const SEED: u64 = 1;
+const RECORDS: u64 = 1_000_000;
+/// One record in so many is also handed to the Rust wrapper and to the C
+/// header's inline functions.
+const OVER_LIBRARY_EVERY: u64 = 9;
+
+fn main() -> ExitCode {
+    let args: Vec<String> = env::args().skip(1).collect();
+    let numbers: Vec<Option<u64>> = args.iter().map(|arg| arg.parse().ok()).collect();
+    match numbers[..] {
+        [] => all(SEED, RECORDS),
+        [Some(seed)] => all(seed, RECORDS),
+        [Some(seed), Some(records)] => all(seed, records),
+        [None, Some(number)] if args[0] == "case" => one(number),
+        _ => {
+            eprintln!("usage: records [SEED [RECORDS]] | case NUMBER");
+            ExitCode::from(2)
+        }
+    }
+}
+
+fn all(seed: u64, records: u64) -> ExitCode {
+    let start = Instant::now();
+    let mut run = Run::new();
+    let first = seed.wrapping_mul(1 << 32);
+    for number in first..first + records {
+        if let Err(report) = run.case(number) {
+            println!("{report}");
+            return ExitCode::from(1);
+        }
+    }
+    run.print(records);
+    let seconds = start.elapsed().as_secs_f64();
+    println!("seed {seed}: no difference in {seconds:.1} s");
+    let missing = run.library.missing();
+    if missing.is_empty() {
+        return ExitCode::SUCCESS;
+    }
+    println!(
+        "but never answered, on so few records: {}",
+        missing.join("; ")
+    );
+    ExitCode::from(2)
+}
+
+fn one(number: u64) -> ExitCode {
+    match Run::new().case(number) {
+        Ok(()) => println!("record {number}: no difference"),
+        Err(report) => {
+            println!("{report}");
+            return ExitCode::from(1);
+        }
+    }
+    ExitCode::SUCCESS
+}
+
+/// What was compared.
+struct Run {
+    library: LiveTally,
+    over_library: LiveTally,
+    kinds: BTreeMap<String, u64>,
+}
+
+impl Run {
+    fn new() -> Self {
+        Self {
+            library: LiveTally::new(IN_RECORDS),
+            over_library: LiveTally::new(IN_RECORDS),
+            kinds: BTreeMap::new(),
+        }
+    }
+
+    fn case(&mut self, number: u64) -> Result<(), String> {
+        let case = RecordCase::new(number);
+        *self.kinds.entry(format!("{:?}", case.kind)).or_default() += 1;
+        held(&Library, "the library", &case, &mut self.library)?;
+        if number.is_multiple_of(OVER_LIBRARY_EVERY) {
+            held(&Wrapper, "the Rust wrapper", &case, &mut self.over_library)?;
+            held(&Header, "the C header", &case, &mut self.over_library)?;
+        }
+        Ok(())
+    }
+
+    fn print(&self, records: u64) {
+        println!("{records:>9} records");
+        for (kind, count) in &self.kinds {
+            println!("{count:>9}   {kind}");
+        }
+        let over = self.over_library.calls();
+        println!("{over:>9} calls through the Rust wrapper and the C header");
+        print!("{}", self.library);
+    }
+}
+
+/// Compares a record, and says what differs and how to see it again.
+fn held(
+    subject: &impl Live,
+    name: &str,
+    case: &RecordCase,
+    tally: &mut LiveTally,
+) -> Result<(), String> {
+    let compared = compare(&mut Checker { subject, tally }, case);
+    let RecordCase { seed, kind, .. } = case;
+    compared.map_err(|Difference(words)| {
+        format!(
+            "DIFFERENCE of {name} on record {seed} ({kind:?}): {words}\n\
+             again: evidence/run records case {seed}"
+        )
+    })
+}

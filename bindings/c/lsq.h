@@ -200,14 +200,15 @@ typedef struct lsq_opened {
     lsq_frame frame;
 } lsq_opened;
 
-/* What a call that may change the frame answers: the number, 1 or 0 as it gave
- * a value or none, the value or 0, and the frame that follows. */
+/* What a call that may move the sides answers: the number, 1 or 0 as it gave a
+ * value or none, the value or 0, and both sides that follow. The rest of the
+ * frame stays as it is. */
 typedef struct lsq_step {
     uint32_t answer, given, value;
-    lsq_frame frame;
+    lsq_side loads, stores;
 } lsq_step;
 
-/* The same for serving, which changes the counts and not the frame. */
+/* The same for serving, which changes the counts and no side. */
 typedef struct lsq_service {
     uint32_t answer, given, value;
     lsq_counts counts;
@@ -236,7 +237,7 @@ typedef struct lsq_listed {
  * is outside its limits, a side holds more entries than its depth, an entry
  * remembers more of the other kind than are held, a filled-in address is not
  * below the memory length, or the table meets one of 4 to 8. A refused call
- * leaves everything lent as it was, and gives back the frame, or the counts,
+ * leaves everything lent as it was, and gives back the sides, or the counts,
  * that it was handed. */
 
 /* Opens a queue on a table's bytes: 1 to 9 of the table, then 11 to 14. Both
@@ -333,12 +334,20 @@ static inline uint32_t lsq_sound(const lsq_queue *q)
     return lsq_sound_in(q->frame, q->loads, LSQ_ENTRIES, q->stores, LSQ_ENTRIES);
 }
 
+/* Puts both sides of an accepted step in place. */
+static inline uint32_t lsq_follow(lsq_queue *q, const lsq_step *step)
+{
+    if (step->answer == LSQ_ACCEPTED) {
+        q->frame.loads = step->loads;
+        q->frame.stores = step->stores;
+    }
+    return step->answer;
+}
+
 static inline uint32_t lsq_activate(lsq_queue *q, uint32_t group)
 {
     lsq_step step = lsq_activate_in(q->frame, q->loads, LSQ_ENTRIES, q->stores, LSQ_ENTRIES, group);
-    if (step.answer == LSQ_ACCEPTED)
-        q->frame = step.frame;
-    return step.answer;
+    return lsq_follow(q, &step);
 }
 
 static inline uint32_t lsq_load_address(lsq_queue *q, uint32_t port, uint32_t address)
@@ -375,19 +384,15 @@ static inline uint32_t lsq_write(lsq_queue *q, uint32_t *memory, size_t memory_l
 {
     lsq_step step = lsq_write_in(q->frame, q->loads, LSQ_ENTRIES, q->stores, LSQ_ENTRIES,
                                  memory, memory_len, serial);
-    if (step.answer == LSQ_ACCEPTED)
-        q->frame = step.frame;
-    return step.answer;
+    return lsq_follow(q, &step);
 }
 
 static inline uint32_t lsq_take(lsq_queue *q, uint32_t port, uint32_t *value)
 {
     lsq_step step = lsq_take_in(q->frame, q->loads, LSQ_ENTRIES, q->stores, LSQ_ENTRIES, port);
-    if (step.answer == LSQ_ACCEPTED) {
-        q->frame = step.frame;
+    if (step.answer == LSQ_ACCEPTED)
         *value = step.value;
-    }
-    return step.answer;
+    return lsq_follow(q, &step);
 }
 
 static inline uint32_t lsq_ready_loads(const lsq_queue *q, uint32_t *out, size_t out_len,
@@ -500,7 +505,7 @@ LSQ_HOLDS(offsetof(lsq_frame, loads) == 196);
 LSQ_HOLDS(offsetof(lsq_frame, stores) == 204);
 LSQ_HOLDS(sizeof(lsq_counts) == 8);
 LSQ_HOLDS(sizeof(lsq_opened) == 216);
-LSQ_HOLDS(sizeof(lsq_step) == 224);
+LSQ_HOLDS(sizeof(lsq_step) == 28);
 LSQ_HOLDS(sizeof(lsq_service) == 20);
 LSQ_HOLDS(sizeof(lsq_listed) == 16);
 LSQ_HOLDS(sizeof(lsq_written) == 16);

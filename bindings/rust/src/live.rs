@@ -159,10 +159,11 @@ impl Queue {
         front(listed, out)
     }
 
-    /// Puts the frame of an accepted step in place and gives the step's value.
+    /// Puts both sides of an accepted step in place and gives the step's value.
     fn follow(&mut self, step: Step) -> Result<u32, Refusal> {
         accepted(step.answer)?;
-        self.frame = step.frame;
+        self.frame.loads = step.loads;
+        self.frame.stores = step.stores;
         Ok(step.value)
     }
 }

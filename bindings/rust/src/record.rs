@@ -131,7 +131,8 @@ pub struct Opened {
     pub frame: Frame,
 }
 
-/// What a call that may change the frame answers.
+/// What a call that may move the sides answers. The rest of the frame stays as
+/// it is.
 #[repr(C)]
 #[derive(Clone, Copy, Debug, PartialEq, Eq)]
 pub struct Step {
@@ -141,8 +142,10 @@ pub struct Step {
     pub given: u32,
     /// The value, or 0.
     pub value: u32,
-    /// The frame that follows; of a refused call it is the one handed in.
-    pub frame: Frame,
+    /// The load side that follows; of a refused call it is the one handed in.
+    pub loads: Side,
+    /// The store side, likewise.
+    pub stores: Side,
 }
 
 /// What serving answers.
@@ -207,7 +210,7 @@ const _: () = {
     assert!(offset_of!(Frame, stores) == 204);
     assert!(size_of::<Counts>() == 8);
     assert!(size_of::<Opened>() == 216);
-    assert!(size_of::<Step>() == 224);
+    assert!(size_of::<Step>() == 28);
     assert!(size_of::<Service>() == 20);
     assert!(size_of::<Listed>() == 16);
     assert!(size_of::<Written>() == 16);

@@ -95,7 +95,8 @@ impl Live for Library {
             ),
             Event::Take { port } => (direct::take_in(frame, loads, stores, port), counts),
         };
-        record.frame = step.frame;
+        record.frame.loads = step.loads;
+        record.frame.stores = step.stores;
         Made {
             answer: step.answer,
             given: step.given,
@@ -133,13 +134,14 @@ impl Live for Library {
     }
 }
 
-/// The step of a call that gives no value and leaves the frame.
+/// The step of a call that gives no value and moves neither side.
 fn still(frame: Frame, answer: u32) -> Step {
     Step {
         answer,
         given: 0,
         value: 0,
-        frame,
+        loads: frame.loads,
+        stores: frame.stores,
     }
 }
 
@@ -148,7 +150,8 @@ fn served(frame: Frame, service: Service) -> (Step, Counts) {
         answer: service.answer,
         given: service.given,
         value: service.value,
-        frame,
+        loads: frame.loads,
+        stores: frame.stores,
     };
     (step, service.counts)
 }

@@ -21,7 +21,8 @@ use Rattle.queue.specs.Contents.{Load, Store, Contents, loadOf, storeOf,
 use Rattle.queue.specs.Sound.{sound}
 use Rattle.queue.specs.Arguments.{isLoadPort, isStorePort, loadLacksAddress, storeLacksAddress, storeLacksWord, loadWithAddress, storeWithAddress, storeWithWord, loadAddress, storeAddress, storeData}
 use Rattle.queue.specs.Outcome.{Moves}
-use Rattle.queue.specs.Internal.{loadsIn, storesIn, queueOf, answered, lacks}
+use Rattle.queue.specs.Parts.{queueOf, answered}
+use Rattle.queue.specs.Internal.{loadsIn, storesIn, lacks}
 use Rattle.queue.specs.InternalArguments.{markOf, withArgument, waitingAt, givenAt, Given}
 use Rattle.queue.proofs.ContentsLaws.{side-length, load-anew, store-anew}
 use Rattle.queue.proofs.EntryLaws.{entry-small, entry-number, side-place-same}

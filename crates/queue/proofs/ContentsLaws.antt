@@ -11,7 +11,8 @@ use Rattle.table.specs.Basics.{held, nth}
 use Rattle.table.proofs.CheckLaws.{held-few, held-length}
 use Rattle.queue.specs.declared.Queue.{Queue}
 use Rattle.queue.specs.Contents.{Load, Store, loadIn, storeIn, contentsOf, withLoads, withStores, updateAt, age, oldest, loadPlace, storePlace}
-use Rattle.queue.specs.Internal.{sideOf, loadsIn, storesIn, queueOf}
+use Rattle.queue.specs.Parts.{queueOf}
+use Rattle.queue.specs.Internal.{sideOf, loadsIn, storesIn}
 use Rattle.queue.proofs.Lists.{take-map}
 
 -- ---- a list's places

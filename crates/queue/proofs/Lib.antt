@@ -8,6 +8,7 @@ pub mod EntryLaws
 -- walks over a side's entries
 pub mod WalkLaws
 pub mod SoundLaws
+pub mod PartsLaws
 pub mod GroupLaws
 pub mod AppendLaws
 pub mod ActivateLaws

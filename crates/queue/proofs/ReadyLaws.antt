@@ -8,14 +8,15 @@ use mathlib.Core.Path.{_≡_, refl, sym, ap, _∙_}
 use mathlib.Core.Bool.{Bool, true, false, not, _&&_}
 use mathlib.Core.List.{List, [], _∷_, _++_, append-assoc, append-nil}
 use mathlib.Core.Option.{Option, none, some}
-use lib.Dec.{eqb}
+use lib.Dec.{eqb, leb}
 use lib.ListN.{length, getD, take, drop, set, length-append, length-drop, length-replicate}
 use lib.Seq.{length-take-le, take-append-seam}
-use borrow.Author.Tests.{not-true, lt-leb, le-leb}
+use borrow.Author.Tests.{not-true}
 use Rattle.table.specs.Basics.{pick, all, nth, filter}
 use Rattle.queue.specs.declared.serving.Supply.{Supply}
 use Rattle.queue.specs.declared.serving.Supply.the-variants.{Unknown, NoStore, NoWord, Forwarded}
 use Rattle.queue.specs.declared.ready.Serials.{Serials}
+use Rattle.queue.specs.declared.ready.ReadyCount.{ReadyCount}
 use Rattle.queue.specs.declared.Entry.{Entry}
 use Rattle.queue.specs.declared.Queue.{Queue}
 use Rattle.queue.specs.declared.Readied.{Readied}
@@ -28,11 +29,12 @@ use Rattle.queue.specs.Sound.{sound}
 use Rattle.queue.specs.Serve.{hasAddress, nearest, sourceOf, storesBefore, serve}
 use Rattle.queue.specs.Write.{loadGivesWay, storeGivesWay, write}
 use Rattle.queue.specs.Ready.{serials, anyMemory, wouldServe, wouldWrite, servable, writable, readyLoads, readyStores}
-use Rattle.queue.specs.ReadyOutcome.{ReadyWell, Readies, Fronts}
+use Rattle.queue.specs.ReadyOutcome.{Readies, Fronts}
+use Rattle.queue.specs.Parts.{readiedOf}
 use Rattle.queue.specs.Internal.{loadsIn, storesIn}
 use Rattle.queue.specs.InternalServe.{supplyFrom, servedWith, serveAt}
 use Rattle.queue.specs.InternalWrite.{mayWrite, mayWriteAt, writtenWith, writeAt}
-use Rattle.queue.specs.InternalReady.{supplyReady, addressReady, loadReady, loadReadyAt, storeReadyAt, listed, Noted, Lists}
+use Rattle.queue.specs.InternalReady.{supplyReady, addressReady, loadReady, loadReadyAt, storeReadyAt, listed, Noted, Lists, HandedOut}
 use Rattle.queue.proofs.ContentsLaws.{side-length, side-nth, side-take, loads-held, stores-held, load-place, store-place}
 use Rattle.queue.proofs.Refusals.{proper, need-proper, have-proper}
 use Rattle.queue.proofs.Progress.{place-of-serial, oldest-small}
@@ -235,30 +237,28 @@ module _ (q : Contents) (run : List ℕ) where
   unfolding readyLoads
   ready-loads-unsound e = rw e
 
-  pub ready-loads-short : sound q ≡ true → length run < length (servable q) → readyLoads q run ≡ refuse tooShort
+  pub ready-loads-sound : sound q ≡ true → readyLoads q run ≡ need (leb (length (servable q)) (length run)) tooShort (accept (servable q))
   unfolding readyLoads
-  ready-loads-short right h = rw (right, lt-leb (length (servable q)) (length run) h)
-
-  pub ready-loads-enough : sound q ≡ true → length (servable q) ≤ length run → readyLoads q run ≡ accept (servable q)
-  unfolding readyLoads
-  ready-loads-enough right h = rw (right, le-leb (length (servable q)) (length run) h)
+  ready-loads-sound right = rw right
 
   pub ready-stores-unsound : sound q ≡ false → readyStores q run ≡ refuse unsound
   unfolding readyStores
   ready-stores-unsound e = rw e
 
-  pub ready-stores-short : sound q ≡ true → length run < length (writable q) → readyStores q run ≡ refuse tooShort
+  pub ready-stores-sound : sound q ≡ true → readyStores q run ≡ need (leb (length (writable q)) (length run)) tooShort (accept (writable q))
   unfolding readyStores
-  ready-stores-short right h = rw (right, lt-leb (length (writable q)) (length run) h)
+  ready-stores-sound right = rw right
 
-  pub ready-stores-enough : sound q ≡ true → length (writable q) ≤ length run → readyStores q run ≡ accept (writable q)
-  unfolding readyStores
-  ready-stores-enough right h = rw (right, le-leb (length (writable q)) (length run) h)
-
--- the serials at the front of the run
-pub ready-well : (q : Queue) {found lent run : List ℕ} {s : Serials} → Lists found s → run ≡ listed s ++ drop (s .count) lent
-    → ReadyWell q found lent (record { answer = 0; count = s .count; queue = q }) run
-ready-well q {found} {lent} {run} {s} l e = record { outcome = rw (l .size); run-is = e ∙ rw (l .are, l .size) }
+-- serials that were handed out are what the rule gives
+pub handed : (q : Queue) {found lent run : List ℕ} {s : Serials} {r : ReadyCount} → Lists found s → HandedOut s lent r run
+    → Readies q lent (need (leb (length found) (length lent)) tooShort (accept found)) (readiedOf r q) run
+handed q {found} {lent} {run} {s} {r} l h = rw (← l .size) (go (leb (s .count) (length lent)) (h .gives) (h .leaves))
+  where
+    go : (room : Bool) → r ≡ pick room (record { answer = 0; count = s .count }) (record { answer = tooShort; count = 0 })
+        → run ≡ pick room (listed s ++ drop (s .count) lent) lent
+        → Readies q lent (need room tooShort (accept found)) (readiedOf r q) run
+    go true e d = record { outcome = rw (e, l .size); run-is = d ∙ rw (l .are, l .size) }
+    go false e d = record { outcome = rw e; run-is = d }
 
 -- the front part that is handed back
 pub fronts : (q : Queue) (lent : List ℕ) (rule : Ruled (List ℕ)) (r : Readied) (run : List ℕ) → Readies q lent rule r run

@@ -20,8 +20,9 @@ use Rattle.queue.specs.Entry.{entryOf}
 use Rattle.queue.specs.Sound.{sound}
 use Rattle.queue.specs.Serve.{Served, hasAddress, nearest, sourceOf, loadWithValue, serve}
 use Rattle.queue.specs.Outcome.{ServedWell}
-use Rattle.queue.specs.Internal.{storesIn, queueOf, Whole}
-use Rattle.queue.specs.InternalServe.{wordIn, supplyOf, supplyFrom, servedAs, Filled, countedOf, servedWith, serveAt}
+use Rattle.queue.specs.Parts.{queueOf, countedOf}
+use Rattle.queue.specs.Internal.{storesIn, Whole}
+use Rattle.queue.specs.InternalServe.{wordIn, supplyOf, supplyFrom, servedAs, Filled, servedWith, serveAt}
 use Rattle.queue.proofs.ContentsLaws.{nth-past, side-nth, side-take, loads-held, stores-held, loads-count, words-held, load-place, load-anew}
 
 -- the answer by what the earlier stores supply

@@ -14,7 +14,8 @@ use Rattle.queue.specs.declared.Entry.{Entry}
 use Rattle.queue.specs.Entry.{entryOf, numberOf, Small}
 use Rattle.queue.specs.Contents.{loadOf, storeOf, contentsOf}
 use Rattle.queue.specs.Write.{leaving, loadFinished, storeFinished, loadAfterLeaving, storeAfterLeaving, settle}
-use Rattle.queue.specs.Internal.{sideOf, entriesIn, loadsIn, storesIn, queueOf, finished}
+use Rattle.queue.specs.Parts.{queueOf}
+use Rattle.queue.specs.Internal.{sideOf, entriesIn, loadsIn, storesIn, finished}
 use Rattle.queue.specs.InternalWrite.{Shifted, shorter, lowered}
 use Rattle.queue.proofs.Lists.{map-same}
 use Rattle.queue.proofs.ContentsLaws.{side-few, side-length}

@@ -8,8 +8,6 @@ use lib.ListN.{length}
 use Rattle.table.specs.Basics.{pick, held}
 use Rattle.queue.specs.declared.Entry.{Entry}
 use Rattle.queue.specs.declared.Frame.{Frame}
-use Rattle.queue.specs.declared.Queue.{Queue}
-use Rattle.queue.specs.declared.Outcome.{Outcome}
 use Rattle.queue.specs.declared.Value.the-variants.{Nothing}
 use Rattle.queue.specs.declared.answering.Step.{Step}
 use Rattle.queue.specs.declared.entries.Mark.{Mark}
@@ -17,18 +15,7 @@ use Rattle.queue.specs.declared.entries.Mark.the-variants.{Addressed, Fi
 use Rattle.queue.specs.Entry.{entryOf}
 use Rattle.queue.specs.Contents.{Load, Store, loadIn, storeIn}
 
--- ---- a queue and its parts
-abbrev pub queueOf : Frame → List ℕ → List ℕ → Queue
-queueOf frame loads stores = record { frame = frame; «load_entries» = loads; «store_entries» = stores }
-
--- an answer with no value
-abbrev pub answered : ℕ → Queue → Outcome
-answered n q = record { answer = n; value = Nothing; queue = q }
-
--- what a call gave, and the entries that it left
-abbrev pub outcomeOf : Step → List ℕ → List ℕ → Outcome
-outcomeOf s loads stores = record { answer = s .answer; value = s .value; queue = queueOf (s .frame) loads stores }
-
+-- ---- what a call on the parts gives where it is refused
 abbrev pub refusedStep : ℕ → Frame → Step
 refusedStep n frame = record { answer = n; value = Nothing; frame = frame }
 
@@ -45,7 +32,7 @@ loadsIn n l = sideOf loadIn 0 n l
 abbrev pub storesIn : ℕ → List ℕ → List Store
 storesIn n l = sideOf storeIn 0 n l
 
--- an array of entries that may be changed: nothing is known of the length behind a reference
+-- a run of entries, with just as many numbers as a side has places
 abbrev pub Whole : List ℕ → Type 0
 Whole l = length l ≡ 64
 

@@ -4,12 +4,14 @@ use mathlib.Core.Path.{_≡_}
 use mathlib.Core.Bool.{Bool, true, false, not, _&&_}
 use mathlib.Core.List.{List, [], _∷_, _++_}
 use mathlib.Core.Option.{Option, none, some}
-use lib.Dec.{eqb}
-use lib.ListN.{length, getD, take}
+use lib.Dec.{eqb, leb}
+use lib.ListN.{length, getD, take, drop}
 use Rattle.table.specs.Basics.{pick}
+use Rattle.table.specs.Refusal.{tooShort}
 use Rattle.queue.specs.declared.serving.Supply.{Supply}
 use Rattle.queue.specs.declared.serving.Supply.the-variants.{Unknown, NoStore, NoWord, Forwarded}
 use Rattle.queue.specs.declared.ready.Serials.{Serials}
+use Rattle.queue.specs.declared.ready.ReadyCount.{ReadyCount}
 use Rattle.queue.specs.Entry.{entryOf}
 use Rattle.queue.specs.Ruled.{isSome, number}
 use Rattle.queue.specs.Contents.{Load, Store, loadIn}
@@ -53,3 +55,8 @@ pub record Lists (l : List ℕ) (r : Serials) : Type 0 where
   pub few : r .count ≤ 64
   pub size : r .count ≡ length l
   pub are : listed r ≡ l
+
+-- the serials stand at the front of a run that has room for them
+pub record HandedOut (s : Serials) (lent : List ℕ) (r : ReadyCount) (run : List ℕ) : Type 0 where
+  pub gives : r ≡ pick (leb (s .count) (length lent)) (record { answer = 0; count = s .count }) (record { answer = tooShort; count = 0 })
+  pub leaves : run ≡ pick (leb (s .count) (length lent)) (listed s ++ drop (s .count) lent) lent

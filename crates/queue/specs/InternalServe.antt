@@ -10,9 +10,7 @@ use Rattle.queue.specs.declared.serving.Supply.{Supply}
 use Rattle.queue.specs.declared.serving.Supply.the-variants.{Unknown, NoStore, NoWord, Forwarded}
 use Rattle.queue.specs.declared.Value.the-variants.{Word, Nothing}
 use Rattle.queue.specs.declared.serving.Service.{Service}
-use Rattle.queue.specs.declared.Queue.{Queue}
 use Rattle.queue.specs.declared.Counts.{Counts}
-use Rattle.queue.specs.declared.Counted.{Counted}
 use Rattle.queue.specs.Contents.{Store, Contents, loadIn, withLoads, updateAt}
 use Rattle.queue.specs.Serve.{hasAddress, nearest, sourceOf, storesBefore, loadWithValue, Served}
 use Rattle.queue.specs.Refusal.{noSerial, alreadyDone, noAddress, earlierStoreUnknown}
@@ -47,10 +45,6 @@ pub record Filled (at word : ℕ) (l left : List ℕ) : Type 0 where
   pub number : ℕ
   pub holds : loadIn number ≡ loadWithValue word (loadIn (getD l at 0))
   pub leaves : left ≡ set l at number
-
--- what a serve gave, and the queue that it left
-abbrev pub countedOf : Service → Queue → Counted
-countedOf s q = record { answer = s .answer; value = s .value; queue = q; counts = s .counts }
 
 -- the load at a place is served
 abbrev pub servedWith : Contents → ℕ → ℕ → Bool → Served

@@ -16,6 +16,7 @@ pub mod Counts
 pub mod Outcome
 pub mod ServeLent
 pub mod ReadyOutcome
+pub mod Parts
 pub mod ReadyExact
 pub mod Calls
 pub mod Call

@@ -6,7 +6,8 @@ ghost use lib.Dec.{leb};
 ghost use Rattle.queue.specs.Contents.{contentsOf};
 ghost use Rattle.queue.specs.Activate.{activate};
 ghost use Rattle.queue.specs.Outcome.{Moves};
-ghost use Rattle.queue.specs.Internal.{queueOf, outcomeOf, Whole};
+ghost use Rattle.queue.specs.Parts.{queueOf, outcomeOf, onParts};
+ghost use Rattle.queue.specs.Internal.{Whole};
 ghost use Rattle.queue.specs.InternalActivate.{PairsFit, Appended, longer};
 use crate::Entry;
 use crate::Frame;
@@ -20,10 +21,11 @@ use crate::entries::pack;
 use crate::refusal::NO_GROUP;
 use crate::refusal::NO_PLACE;
 use crate::refusal::UNSOUND;
-use crate::sound::parts_sound;
+use crate::sound::sound_in;
 use table::Group;
-use table::Pairs;
+use table::Span;
 use table::parts::group_at;
+use table::parts::unpack_pair;
 
 // Enough free places on a side: a finished entry that an older one holds back is not free.
 fn side_has_room(count: u8, more: u8, depth: u8) -> bool
@@ -46,16 +48,16 @@ fn has_room(loads: Side, stores: Side, group: Group) -> bool
 
 // Puts a group's entries of one kind behind those held. An entry comes after all of the other kind that are held and those of
 // its group that its offset counts.
-fn append(entries: &mut [u64; 64], held: u8, pairs: Pairs, others: u8)
-    requires { ⌜ PairsFit held pairs × (others ≤ 64) × Whole (now entries) ⌝ }
-    ensures { λ _. ⌜ Appended held pairs others (now (entries .entry)) (now (entries .exit)) ⌝ }
+fn append(entries: &mut [u64], held: u8, places: &[u16; 32], pairs: Span, others: u8)
+    requires { ⌜ PairsFit held (now places) pairs × (others ≤ 64) × Whole (now entries) ⌝ }
+    ensures { λ _. ⌜ Appended held (now (places .entry)) pairs others (now (entries .entry)) (now (entries .exit)) ⌝ }
 {
     let start = held as usize;
     let more = pairs.count as usize;
     let first = pairs.first as usize;
     let mut j: usize = 0;
     while j < more {
-        let pair = pairs.places[first + j];
+        let pair = unpack_pair(places[first + j]);
         let entry = Entry {
             port: pair.port,
             before: others + pair.offset,
@@ -83,18 +85,18 @@ fn longer(side: Side, more: u8) -> Side
 }
 
 // Activate on a queue's parts: 40, 20, 21. Each side goes by the other's count before the activation.
-fn activate_in(
+pub fn activate_in(
     frame: Frame,
-    load_entries: &mut [u64; 64],
-    store_entries: &mut [u64; 64],
+    load_entries: &mut [u64],
+    store_entries: &mut [u64],
     group: u32,
 ) -> Step
-    requires { ⌜ Whole (now «load_entries») × Whole (now «store_entries») ⌝ }
     ensures { λ r. ⌜ Moves (queueOf frame (now («load_entries» .entry)) (now («store_entries» .entry)))
-        (activate (contentsOf (queueOf frame (now («load_entries» .entry)) (now («store_entries» .entry)))) group)
+        (onParts (now («load_entries» .entry)) (now («store_entries» .entry))
+        (activate (contentsOf (queueOf frame (now («load_entries» .entry)) (now («store_entries» .entry)))) group))
         (outcomeOf r (now («load_entries» .exit)) (now («store_entries» .exit))) ⌝ }
 {
-    if !parts_sound(frame, load_entries, store_entries) {
+    if !sound_in(frame, load_entries, store_entries) {
         return refused(UNSOUND, frame);
     }
     let table = frame.table;
@@ -102,7 +104,7 @@ fn activate_in(
         return refused(NO_GROUP, frame);
     }
     let at = group as usize;
-    let chosen = group_at(table, at);
+    let chosen = group_at(&table.groups, at);
     let loads = frame.loads;
     let stores = frame.stores;
     if !has_room(loads, stores, chosen) {
@@ -110,8 +112,20 @@ fn activate_in(
     }
     let new_loads = chosen.loads;
     let new_stores = chosen.stores;
-    append(load_entries, loads.count, new_loads, stores.count);
-    append(store_entries, stores.count, new_stores, loads.count);
+    append(
+        load_entries,
+        loads.count,
+        &table.loads,
+        new_loads,
+        stores.count,
+    );
+    append(
+        store_entries,
+        stores.count,
+        &table.stores,
+        new_stores,
+        loads.count,
+    );
     let more_loads = longer(loads, new_loads.count);
     let more_stores = longer(stores, new_stores.count);
     let after = Frame {

@@ -1,10 +1,10 @@
-// What the calls on a queue work with: they are handed the frame, and the entries are lent to them.
+// What the calls on a queue's parts hand back: they are handed the frame, and both runs of entries are lent to them.
 ghost use mathlib.Core.Path.{_≡_};
 ghost use Rattle.queue.specs.Internal.{refusedStep};
 use crate::Frame;
 use crate::Value;
 
-// What a call that may change the frame gives: its answer and value, and the frame that follows.
+// What a call that may change the frame hands back: its answer and value, and the frame that follows.
 pub struct Step {
     pub answer: u8,
     pub value: Value,

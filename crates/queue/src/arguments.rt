@@ -1,10 +1,11 @@
 // Arguments: "an argument goes to its port's oldest entry that lacks it".
 ghost use mathlib.Core.Path.{_≡_};
 ghost use Prim.Native.Nat.{_≤_};
+ghost use lib.ListN.{length};
 ghost use Rattle.queue.specs.Contents.{contentsOf};
 ghost use Rattle.queue.specs.Arguments.{loadAddress, storeAddress, storeData};
 ghost use Rattle.queue.specs.Outcome.{Moves};
-ghost use Rattle.queue.specs.Internal.{queueOf, answered, Whole};
+ghost use Rattle.queue.specs.Parts.{queueOf, answered, onParts};
 ghost use Rattle.queue.specs.InternalArguments.{markOf, withArgument, Given};
 use crate::Entry;
 use crate::Frame;
@@ -20,7 +21,7 @@ use crate::refusal::BAD_ADDRESS;
 use crate::refusal::NO_PORT;
 use crate::refusal::NONE_WAITS;
 use crate::refusal::UNSOUND;
-use crate::sound::parts_sound;
+use crate::sound::sound_in;
 
 // What an entry waits for.
 pub enum Argument {
@@ -57,8 +58,8 @@ pub(crate) fn with_argument(mut entry: Entry, argument: Argument) -> Entry
 }
 
 // Gives the argument to the port's oldest entry that lacks it, and answers 0; or 24, and changes nothing.
-fn give(entries: &mut [u64; 64], held: u8, port: u32, argument: Argument) -> u8
-    requires { ⌜ held ≤ 64 ⌝ }
+fn give(entries: &mut [u64], held: u8, port: u32, argument: Argument) -> u8
+    requires { ⌜ held ≤ length (now entries) ⌝ }
     ensures { λ r. ⌜ Given held port argument (now (entries .entry)) r (now (entries .exit)) ⌝ }
 {
     let mark = mark_of(argument);
@@ -73,23 +74,30 @@ fn give(entries: &mut [u64; 64], held: u8, port: u32, argument: Argument) -> u8
 }
 
 // Load address on a queue's parts: 40, 22, 23, 24.
-fn load_address_in(
+pub fn load_address_in(
     frame: Frame,
-    load_entries: &mut [u64; 64],
-    store_entries: &[u64; 64],
+    load_entries: &mut [u64],
+    store_entries: &[u64],
     port: u32,
     address: u32,
 ) -> u8
-    requires { ⌜ Whole (now «load_entries») ⌝ }
     ensures { λ r. ⌜ Moves (queueOf frame (now («load_entries» .entry)) (now («store_entries» .entry)))
-        (loadAddress (contentsOf (queueOf frame (now («load_entries» .entry)) (now («store_entries» .entry)))) port address)
+        (onParts (now («load_entries» .entry)) (now («store_entries» .entry))
+        (loadAddress (contentsOf (queueOf frame (now («load_entries» .entry)) (now («store_entries» .entry)))) port address))
         (answered r (queueOf frame (now («load_entries» .exit)) (now («store_entries» .entry)))) ⌝ }
 {
-    if !parts_sound(frame, load_entries, store_entries) {
+    if !sound_in(frame, load_entries, store_entries) {
         return UNSOUND;
     }
-    let table = frame.table;
-    if !has_port(table, false, port) {
+    let named = has_port(
+        frame.table.count,
+        &frame.table.groups,
+        &frame.table.loads,
+        &frame.table.stores,
+        false,
+        port,
+    );
+    if !named {
         return NO_PORT;
     }
     if frame.words as u32 <= address {
@@ -101,23 +109,30 @@ fn load_address_in(
 }
 
 // Store address on a queue's parts: 40, 22, 23, 24.
-fn store_address_in(
+pub fn store_address_in(
     frame: Frame,
-    load_entries: &[u64; 64],
-    store_entries: &mut [u64; 64],
+    load_entries: &[u64],
+    store_entries: &mut [u64],
     port: u32,
     address: u32,
 ) -> u8
-    requires { ⌜ Whole (now «store_entries») ⌝ }
     ensures { λ r. ⌜ Moves (queueOf frame (now («load_entries» .entry)) (now («store_entries» .entry)))
-        (storeAddress (contentsOf (queueOf frame (now («load_entries» .entry)) (now («store_entries» .entry)))) port address)
+        (onParts (now («load_entries» .entry)) (now («store_entries» .entry))
+        (storeAddress (contentsOf (queueOf frame (now («load_entries» .entry)) (now («store_entries» .entry)))) port address))
         (answered r (queueOf frame (now («load_entries» .entry)) (now («store_entries» .exit)))) ⌝ }
 {
-    if !parts_sound(frame, load_entries, store_entries) {
+    if !sound_in(frame, load_entries, store_entries) {
         return UNSOUND;
     }
-    let table = frame.table;
-    if !has_port(table, true, port) {
+    let named = has_port(
+        frame.table.count,
+        &frame.table.groups,
+        &frame.table.loads,
+        &frame.table.stores,
+        true,
+        port,
+    );
+    if !named {
         return NO_PORT;
     }
     if frame.words as u32 <= address {
@@ -129,23 +144,30 @@ fn store_address_in(
 }
 
 // Store data on a queue's parts: 40, 22, 24.
-fn store_data_in(
+pub fn store_data_in(
     frame: Frame,
-    load_entries: &[u64; 64],
-    store_entries: &mut [u64; 64],
+    load_entries: &[u64],
+    store_entries: &mut [u64],
     port: u32,
     word: u32,
 ) -> u8
-    requires { ⌜ Whole (now «store_entries») ⌝ }
     ensures { λ r. ⌜ Moves (queueOf frame (now («load_entries» .entry)) (now («store_entries» .entry)))
-        (storeData (contentsOf (queueOf frame (now («load_entries» .entry)) (now («store_entries» .entry)))) port word)
+        (onParts (now («load_entries» .entry)) (now («store_entries» .entry))
+        (storeData (contentsOf (queueOf frame (now («load_entries» .entry)) (now («store_entries» .entry)))) port word))
         (answered r (queueOf frame (now («load_entries» .entry)) (now («store_entries» .exit)))) ⌝ }
 {
-    if !parts_sound(frame, load_entries, store_entries) {
+    if !sound_in(frame, load_entries, store_entries) {
         return UNSOUND;
     }
-    let table = frame.table;
-    if !has_port(table, true, port) {
+    let named = has_port(
+        frame.table.count,
+        &frame.table.groups,
+        &frame.table.loads,
+        &frame.table.stores,
+        true,
+        port,
+    );
+    if !named {
         return NO_PORT;
     }
     let stores = frame.stores;

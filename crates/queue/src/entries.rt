@@ -1,6 +1,7 @@
 // Entries: the number that one is packed into, and the oldest that lacks something.
 ghost use mathlib.Core.Path.{_≡_};
 ghost use Prim.Native.Nat.{_≤_};
+ghost use lib.ListN.{length};
 ghost use Rattle.queue.specs.Entry.{bit, entryOf, numberOf};
 ghost use Rattle.queue.specs.Contents.{firstPlace};
 ghost use Rattle.queue.specs.Internal.{has, lacks, entriesIn};
@@ -69,8 +70,8 @@ fn lacks(entry: Entry, port: u32, mark: Mark) -> bool
 }
 
 // The place of the port's oldest entry without the mark, or the count where there is none.
-pub(crate) fn oldest_without(entries: &[u64; 64], held: u8, port: u32, mark: Mark) -> usize
-    requires { ⌜ held ≤ 64 ⌝ }
+pub(crate) fn oldest_without(entries: &[u64], held: u8, port: u32, mark: Mark) -> usize
+    requires { ⌜ held ≤ length (now entries) ⌝ }
     ensures { λ r. ⌜ r ≡ firstPlace (lacks mark port) (entriesIn held (now (entries .entry))) ⌝ }
 {
     let count = held as usize;

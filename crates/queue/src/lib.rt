@@ -1,5 +1,6 @@
 // The group-allocated load-store queue: its record, and every call on it.
-// A call is handed the queue by value and gives back the queue that follows.
+// A call is handed the queue by value and gives back the queue that follows. The calls named `.._in` do the work: they are handed
+// the frame, and both sides' entries are lent to them as runs of numbers, so that nothing of these is copied.
 use table::Table;
 
 pub mod activation;
@@ -33,6 +34,7 @@ pub struct Entry {
 }
 
 // One side of a queue: its depth, how many entries it holds, and the next serial.
+#[repr(C)]
 pub struct Side {
     pub depth: u8,
     pub count: u8,
@@ -40,6 +42,7 @@ pub struct Side {
 }
 
 // All of a queue but its entries: its table, the memory length that it was opened for, and both sides.
+#[repr(C)]
 pub struct Frame {
     pub table: Table,
     pub words: u16,
@@ -55,6 +58,7 @@ pub struct Queue {
 }
 
 // Loads served, and loads forwarded.
+#[repr(C)]
 pub struct Counts {
     pub loads: u32,
     pub forwarded: u32,

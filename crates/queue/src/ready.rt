@@ -7,10 +7,11 @@ ghost use lib.ListN.{length, drop};
 ghost use Rattle.queue.specs.Contents.{loadOf, contentsOf};
 ghost use Rattle.queue.specs.Sound.{sound};
 ghost use Rattle.queue.specs.Ready.{servable, writable, readyLoads, readyStores};
-ghost use Rattle.queue.specs.ReadyOutcome.{unready, Readies, Fronts};
+ghost use Rattle.queue.specs.ReadyOutcome.{Readies, Fronts};
 ghost use denote.Ref.{ptr};
-ghost use Rattle.queue.specs.Internal.{storesIn, queueOf};
-ghost use Rattle.queue.specs.InternalReady.{loadReady, listed, Noted, Lists};
+ghost use Rattle.queue.specs.Parts.{queueOf, onParts, readiedOf};
+ghost use Rattle.queue.specs.Internal.{storesIn, Whole};
+ghost use Rattle.queue.specs.InternalReady.{loadReady, listed, Noted, Lists, HandedOut};
 use crate::Entry;
 use crate::Frame;
 use crate::Queue;
@@ -21,7 +22,7 @@ use crate::refusal::UNSOUND;
 use crate::serial::oldest_serial;
 use crate::serving::Supply;
 use crate::serving::supply_for;
-use crate::sound::parts_sound;
+use crate::sound::sound_in;
 use crate::writing::write_fault;
 use table::refusal::TOO_SHORT;
 
@@ -32,8 +33,8 @@ pub struct Serials {
 }
 
 // Would the load be served now?
-fn load_ready(load: Entry, store_entries: &[u64; 64]) -> bool
-    requires { ⌜ load .before ≤ 64 ⌝ }
+fn load_ready(load: Entry, store_entries: &[u64]) -> bool
+    requires { ⌜ load .before ≤ length (now «store_entries») ⌝ }
     ensures { λ r. ⌜ r ≡ loadReady (storesIn (load .before) (now («store_entries» .entry))) (loadOf load) ⌝ }
 {
     if load.filled {
@@ -79,8 +80,9 @@ fn put_serials(serials: Serials, out: &mut [u32])
 }
 
 // The serials of the loads that would be served now.
-fn servable_loads(frame: Frame, load_entries: &[u64; 64], store_entries: &[u64; 64]) -> Serials
-    requires { ⌜ sound (contentsOf (queueOf frame (now «load_entries») (now «store_entries»))) ≡ true ⌝ }
+fn servable_loads(frame: Frame, load_entries: &[u64], store_entries: &[u64]) -> Serials
+    requires { ⌜ (sound (contentsOf (queueOf frame (now «load_entries») (now «store_entries»))) ≡ true)
+        × Whole (now «load_entries») × Whole (now «store_entries») ⌝ }
     ensures { λ r. ⌜ Lists (servable (contentsOf (queueOf frame (now («load_entries» .entry)) (now («store_entries» .entry))))) r ⌝ }
 {
     let loads = frame.loads;
@@ -102,8 +104,9 @@ fn servable_loads(frame: Frame, load_entries: &[u64; 64], store_entries: &[u64; 
 }
 
 // The serials of the stores that would be written now.
-fn writable_stores(frame: Frame, load_entries: &[u64; 64], store_entries: &[u64; 64]) -> Serials
-    requires { ⌜ sound (contentsOf (queueOf frame (now «load_entries») (now «store_entries»))) ≡ true ⌝ }
+fn writable_stores(frame: Frame, load_entries: &[u64], store_entries: &[u64]) -> Serials
+    requires { ⌜ (sound (contentsOf (queueOf frame (now «load_entries») (now «store_entries»))) ≡ true)
+        × Whole (now «load_entries») × Whole (now «store_entries») ⌝ }
     ensures { λ r. ⌜ Lists (writable (contentsOf (queueOf frame (now («load_entries» .entry)) (now («store_entries» .entry))))) r ⌝ }
 {
     let stores = frame.stores;
@@ -123,18 +126,73 @@ fn writable_stores(frame: Frame, load_entries: &[u64; 64], store_entries: &[u64;
     found
 }
 
-impl Queue {
-    // A refused ready call.
-    fn unready(self, answer: u8) -> Readied
-        ensures { λ r. ⌜ r ≡ unready answer self ⌝ }
-    {
-        Readied {
-            answer,
-            count: 0,
-            queue: self,
-        }
-    }
+// What a ready call on a queue's parts hands back: its answer, and how many serials stand at the front of the lent run.
+pub struct ReadyCount {
+    pub answer: u8,
+    pub count: usize,
+}
 
+// Puts the serials at the front of the lent run, where it has room for them: 10 where not.
+fn hand_out(found: Serials, out: &mut [u32]) -> ReadyCount
+    requires { ⌜ found .count ≤ 64 ⌝ }
+    ensures { λ r. ⌜ HandedOut found (now (out .entry)) r (now (out .exit)) ⌝ }
+{
+    let count = found.count;
+    if out.len() < count {
+        return ReadyCount {
+            answer: TOO_SHORT,
+            count: 0,
+        };
+    }
+    put_serials(found, out);
+    ReadyCount { answer: 0, count }
+}
+
+// Ready loads on a queue's parts: 40, 10.
+pub fn ready_loads_in(
+    frame: Frame,
+    load_entries: &[u64],
+    store_entries: &[u64],
+    out: &mut [u32],
+) -> ReadyCount
+    ensures { λ r. ⌜ Readies (queueOf frame (now («load_entries» .entry)) (now («store_entries» .entry))) (now (out .entry))
+        (onParts (now («load_entries» .entry)) (now («store_entries» .entry))
+        (readyLoads (contentsOf (queueOf frame (now («load_entries» .entry)) (now («store_entries» .entry)))) (now (out .entry))))
+        (readiedOf r (queueOf frame (now («load_entries» .entry)) (now («store_entries» .entry)))) (now (out .exit)) ⌝ }
+{
+    if !sound_in(frame, load_entries, store_entries) {
+        return ReadyCount {
+            answer: UNSOUND,
+            count: 0,
+        };
+    }
+    let found = servable_loads(frame, load_entries, store_entries);
+    hand_out(found, out)
+}
+
+// Ready stores on a queue's parts: 40, 10.
+pub fn ready_stores_in(
+    frame: Frame,
+    load_entries: &[u64],
+    store_entries: &[u64],
+    out: &mut [u32],
+) -> ReadyCount
+    ensures { λ r. ⌜ Readies (queueOf frame (now («load_entries» .entry)) (now («store_entries» .entry))) (now (out .entry))
+        (onParts (now («load_entries» .entry)) (now («store_entries» .entry))
+        (readyStores (contentsOf (queueOf frame (now («load_entries» .entry)) (now («store_entries» .entry)))) (now (out .entry))))
+        (readiedOf r (queueOf frame (now («load_entries» .entry)) (now («store_entries» .entry)))) (now (out .exit)) ⌝ }
+{
+    if !sound_in(frame, load_entries, store_entries) {
+        return ReadyCount {
+            answer: UNSOUND,
+            count: 0,
+        };
+    }
+    let found = writable_stores(frame, load_entries, store_entries);
+    hand_out(found, out)
+}
+
+impl Queue {
     // Puts the serials of the loads that serve would now accept at the front of the lent run, and says how many.
     pub fn ready_loads_into(self, out: &mut [u32]) -> Readied
         ensures { λ r. ⌜ Readies self (now (out .entry)) (readyLoads (contentsOf self) (now (out .entry))) r (now (out .exit)) ⌝ }
@@ -142,18 +200,10 @@ impl Queue {
         let frame = self.frame;
         let load_entries = self.load_entries;
         let store_entries = self.store_entries;
-        if !parts_sound(frame, &load_entries, &store_entries) {
-            return self.unready(UNSOUND);
-        }
-        let found = servable_loads(frame, &load_entries, &store_entries);
-        let count = found.count;
-        if out.len() < count {
-            return self.unready(TOO_SHORT);
-        }
-        put_serials(found, out);
+        let ready = ready_loads_in(frame, &load_entries, &store_entries, out);
         Readied {
-            answer: 0,
-            count,
+            answer: ready.answer,
+            count: ready.count,
             queue: self,
         }
     }
@@ -165,18 +215,10 @@ impl Queue {
         let frame = self.frame;
         let load_entries = self.load_entries;
         let store_entries = self.store_entries;
-        if !parts_sound(frame, &load_entries, &store_entries) {
-            return self.unready(UNSOUND);
-        }
-        let found = writable_stores(frame, &load_entries, &store_entries);
-        let count = found.count;
-        if out.len() < count {
-            return self.unready(TOO_SHORT);
-        }
-        put_serials(found, out);
+        let ready = ready_stores_in(frame, &load_entries, &store_entries, out);
         Readied {
-            answer: 0,
-            count,
+            answer: ready.answer,
+            count: ready.count,
             queue: self,
         }
     }

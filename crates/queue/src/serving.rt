@@ -9,8 +9,9 @@ ghost use Rattle.queue.specs.Sound.{sound};
 ghost use Rattle.queue.specs.Serve.{supplies, serve};
 ghost use Rattle.queue.specs.Outcome.{Serves};
 ghost use Rattle.queue.specs.ServeLent.{withCounts};
-ghost use Rattle.queue.specs.Internal.{storesIn, queueOf, Whole};
-ghost use Rattle.queue.specs.InternalServe.{wordFrom, supplyFrom, unserved, servedAs, Filled, countedOf, serveAt};
+ghost use Rattle.queue.specs.Parts.{queueOf, countedOf, onParts};
+ghost use Rattle.queue.specs.Internal.{storesIn, Whole};
+ghost use Rattle.queue.specs.InternalServe.{wordFrom, supplyFrom, unserved, servedAs, Filled, serveAt};
 use crate::Counted;
 use crate::Counts;
 use crate::Entry;
@@ -31,7 +32,7 @@ use crate::refusal::NO_SERIAL;
 use crate::refusal::UNSOUND;
 use crate::refusal::WRONG_MEMORY;
 use crate::serial::place_of;
-use crate::sound::parts_sound;
+use crate::sound::sound_in;
 
 // What the stores before a load have for it.
 pub enum Supply {
@@ -70,8 +71,8 @@ fn supplies_address(store: Entry, address: u16) -> bool
 
 // What the first n stores have for a load of the address. They are walked from the oldest: a later store that supplies the
 // address takes the place of an earlier one, or the load would get a stale word.
-pub(crate) fn supply_for(entries: &[u64; 64], n: usize, address: u16) -> Supply
-    requires { ⌜ n ≤ 64 ⌝ }
+pub(crate) fn supply_for(entries: &[u64], n: usize, address: u16) -> Supply
+    requires { ⌜ n ≤ length (now entries) ⌝ }
     ensures { λ r. ⌜ r ≡ supplyFrom address (storesIn n (now (entries .entry))) ⌝ }
 {
     let mut found = Supply::NoStore;
@@ -91,7 +92,7 @@ pub(crate) fn supply_for(entries: &[u64; 64], n: usize, address: u16) -> Supply
     found
 }
 
-// What a serve gives beside the queue: its answer and value, and the counts that follow.
+// What a serve on a queue's parts hands back: its answer and value, and the counts that follow.
 pub struct Service {
     pub answer: u8,
     pub value: Value,
@@ -111,13 +112,13 @@ fn unserved(answer: u8, counts: Counts) -> Service
 
 // The load at a place gets its value: an accepted serve.
 fn served(
-    load_entries: &mut [u64; 64],
+    load_entries: &mut [u64],
     at: usize,
     word: u32,
     forwarded: bool,
     counts: Counts,
 ) -> Service
-    requires { ⌜ at < 64 ⌝ }
+    requires { ⌜ at < length (now «load_entries») ⌝ }
     ensures { λ r. ⌜ (r ≡ servedAs word forwarded counts) × Filled at word (now («load_entries» .entry)) (now («load_entries» .exit)) ⌝ }
 {
     let load = unpack(load_entries[at]);
@@ -133,14 +134,14 @@ fn served(
 // Serve the load at a place: 25, 26, 27, 28, 29.
 fn serve_at(
     frame: Frame,
-    load_entries: &mut [u64; 64],
-    store_entries: &[u64; 64],
+    load_entries: &mut [u64],
+    store_entries: &[u64],
     memory: &[u32],
     counts: Counts,
     place: u32,
 ) -> Service
     requires { ⌜ (sound (contentsOf (queueOf frame (now «load_entries») (now «store_entries»))) ≡ true) × (length (now memory) ≡ frame .words)
-        × Whole (now «load_entries») ⌝ }
+        × Whole (now «load_entries») × Whole (now «store_entries») ⌝ }
     ensures { λ r. ⌜ Serves (queueOf frame (now («load_entries» .entry)) (now («store_entries» .entry))) counts
         (serveAt (contentsOf (queueOf frame (now («load_entries» .entry)) (now («store_entries» .entry)))) (now (memory .entry)) place)
         (countedOf r (queueOf frame (now («load_entries» .exit)) (now («store_entries» .entry)))) ⌝ }
@@ -172,20 +173,20 @@ fn serve_at(
 }
 
 // Serve on a queue's parts: 40, 30, and then as `serve_at`.
-fn serve_in(
+pub fn serve_in(
     frame: Frame,
-    load_entries: &mut [u64; 64],
-    store_entries: &[u64; 64],
+    load_entries: &mut [u64],
+    store_entries: &[u64],
     memory: &[u32],
     counts: Counts,
     serial: u32,
 ) -> Service
-    requires { ⌜ Whole (now «load_entries») ⌝ }
     ensures { λ r. ⌜ Serves (queueOf frame (now («load_entries» .entry)) (now («store_entries» .entry))) counts
-        (serve (contentsOf (queueOf frame (now («load_entries» .entry)) (now («store_entries» .entry)))) (now (memory .entry)) serial)
+        (onParts (now («load_entries» .entry)) (now («store_entries» .entry))
+        (serve (contentsOf (queueOf frame (now («load_entries» .entry)) (now («store_entries» .entry)))) (now (memory .entry)) serial))
         (countedOf r (queueOf frame (now («load_entries» .exit)) (now («store_entries» .entry)))) ⌝ }
 {
-    if !parts_sound(frame, load_entries, store_entries) {
+    if !sound_in(frame, load_entries, store_entries) {
         return unserved(UNSOUND, counts);
     }
     if memory.len() != frame.words as usize {

@@ -3,16 +3,18 @@ ghost use mathlib.Core.Path.{_≡_};
 ghost use mathlib.Core.Bool.{_&&_};
 ghost use Prim.Native.Nat.{_≤_};
 ghost use lib.Dec.{leb};
+ghost use lib.ListN.{length};
 ghost use Rattle.table.specs.Basics.{all};
 ghost use Rattle.queue.specs.Contents.{contentsOf};
 ghost use Rattle.queue.specs.Sound.{depthRight, memoryRight, sound};
-ghost use Rattle.queue.specs.Internal.{queueOf, entriesIn, entryRight};
+ghost use Rattle.queue.specs.Parts.{queueOf, whole};
+ghost use Rattle.queue.specs.Internal.{entriesIn, entryRight};
 use crate::Entry;
 use crate::Frame;
 use crate::Queue;
 use crate::Side;
 use crate::entries::unpack;
-use table::check::table_fault;
+use table::check::fault_in;
 
 // A depth is 1 to 64.
 pub(crate) fn depth_right(depth: u32) -> bool
@@ -48,8 +50,8 @@ fn entry_right(entry: Entry, words: u16, others: u8) -> bool
 }
 
 // Is every entry held right?
-fn entries_right(entries: &[u64; 64], held: u8, words: u16, others: u8) -> bool
-    requires { ⌜ held ≤ 64 ⌝ }
+fn entries_right(entries: &[u64], held: u8, words: u16, others: u8) -> bool
+    requires { ⌜ held ≤ length (now entries) ⌝ }
     ensures { λ r. ⌜ r ≡ all (entryRight words others) (entriesIn held (now (entries .entry))) ⌝ }
 {
     let count = held as usize;
@@ -74,11 +76,18 @@ fn side_right(side: Side) -> bool
     side.count <= side.depth
 }
 
-// Is the queue of these parts sound? The entries are lent, so that they are not copied. The cheap tests come first: the loops
-// are safe only once the counts are known, and the table takes longest.
-pub(crate) fn parts_sound(frame: Frame, load_entries: &[u64; 64], store_entries: &[u64; 64]) -> bool
-    ensures { λ r. ⌜ r ≡ sound (contentsOf (queueOf frame (now («load_entries» .entry)) (now («store_entries» .entry)))) ⌝ }
+// Are these the parts of a sound queue? A run that has not just 64 numbers is no side's places. The cheap tests come first: the
+// loops are safe only once the lengths and the counts are known, and the table takes longest.
+pub fn sound_in(frame: Frame, load_entries: &[u64], store_entries: &[u64]) -> bool
+    ensures { λ r. ⌜ r ≡ whole (now («load_entries» .entry)) (now («store_entries» .entry))
+        && sound (contentsOf (queueOf frame (now («load_entries» .entry)) (now («store_entries» .entry)))) ⌝ }
 {
+    if load_entries.len() != 64 {
+        return false;
+    }
+    if store_entries.len() != 64 {
+        return false;
+    }
     let loads = frame.loads;
     let stores = frame.stores;
     if !side_right(loads) {
@@ -96,8 +105,13 @@ pub(crate) fn parts_sound(frame: Frame, load_entries: &[u64; 64], store_entries:
     if !entries_right(store_entries, stores.count, frame.words, loads.count) {
         return false;
     }
-    let table = frame.table;
-    table_fault(table) == 0
+    let fault = fault_in(
+        frame.table.count,
+        &frame.table.groups,
+        &frame.table.loads,
+        &frame.table.stores,
+    );
+    fault == 0
 }
 
 impl Queue {
@@ -108,6 +122,6 @@ impl Queue {
         let frame = self.frame;
         let load_entries = self.load_entries;
         let store_entries = self.store_entries;
-        parts_sound(frame, &load_entries, &store_entries)
+        sound_in(frame, &load_entries, &store_entries)
     }
 }

@@ -3,7 +3,7 @@
 ghost use Rattle.queue.specs.Contents.{contentsOf};
 ghost use Rattle.queue.specs.Take.{take};
 ghost use Rattle.queue.specs.Outcome.{Takes};
-ghost use Rattle.queue.specs.Internal.{queueOf, outcomeOf, Whole};
+ghost use Rattle.queue.specs.Parts.{queueOf, outcomeOf, onParts};
 use crate::Frame;
 use crate::Outcome;
 use crate::Queue;
@@ -19,26 +19,28 @@ use crate::refusal::NO_PORT;
 use crate::refusal::NONE_UNTAKEN;
 use crate::refusal::NOT_SERVED;
 use crate::refusal::UNSOUND;
-use crate::sound::parts_sound;
+use crate::sound::sound_in;
 use crate::writing::settle;
 
 // Take on a queue's parts: 40, 22, 33, 34.
-fn take_in(
-    frame: Frame,
-    load_entries: &mut [u64; 64],
-    store_entries: &mut [u64; 64],
-    port: u32,
-) -> Step
-    requires { ⌜ Whole (now «load_entries») × Whole (now «store_entries») ⌝ }
+pub fn take_in(frame: Frame, load_entries: &mut [u64], store_entries: &mut [u64], port: u32) -> Step
     ensures { λ r. ⌜ Takes (queueOf frame (now («load_entries» .entry)) (now («store_entries» .entry)))
-        (take (contentsOf (queueOf frame (now («load_entries» .entry)) (now («store_entries» .entry)))) port)
+        (onParts (now («load_entries» .entry)) (now («store_entries» .entry))
+        (take (contentsOf (queueOf frame (now («load_entries» .entry)) (now («store_entries» .entry)))) port))
         (outcomeOf r (now («load_entries» .exit)) (now («store_entries» .exit))) ⌝ }
 {
-    if !parts_sound(frame, load_entries, store_entries) {
+    if !sound_in(frame, load_entries, store_entries) {
         return refused(UNSOUND, frame);
     }
-    let table = frame.table;
-    if !has_port(table, false, port) {
+    let named = has_port(
+        frame.table.count,
+        &frame.table.groups,
+        &frame.table.loads,
+        &frame.table.stores,
+        false,
+        port,
+    );
+    if !named {
         return refused(NO_PORT, frame);
     }
     let loads = frame.loads;

@@ -11,7 +11,8 @@ ghost use Rattle.queue.specs.Write.{leaving, settle, write};
 ghost use Rattle.queue.specs.Sound.{sound};
 ghost use Rattle.queue.specs.Ruled.{number};
 ghost use Rattle.queue.specs.Outcome.{Writes};
-ghost use Rattle.queue.specs.Internal.{queueOf, outcomeOf, entriesIn, finished, Whole};
+ghost use Rattle.queue.specs.Parts.{queueOf, outcomeOf, onParts};
+ghost use Rattle.queue.specs.Internal.{entriesIn, finished, Whole};
 ghost use Rattle.queue.specs.InternalWrite.{givesWay, Shifted, shorter, mayWriteAt, writeAt};
 use crate::Entry;
 use crate::Frame;
@@ -34,7 +35,7 @@ use crate::refusal::NO_SERIAL;
 use crate::refusal::UNSOUND;
 use crate::refusal::WRONG_MEMORY;
 use crate::serial::place_of;
-use crate::sound::parts_sound;
+use crate::sound::sound_in;
 
 // An entry that is done with the memory (a served load, a written store), or is known to be of another word, gives way to a
 // write to the address. Writing past an unserved load of the word would spoil that load.
@@ -51,8 +52,8 @@ fn gives_way(entry: Entry, done: Mark, address: u16) -> bool
 }
 
 // Do the first n entries give way to a write to the address?
-fn all_give_way(entries: &[u64; 64], n: usize, done: Mark, address: u16) -> bool
-    requires { ⌜ n ≤ 64 ⌝ }
+fn all_give_way(entries: &[u64], n: usize, done: Mark, address: u16) -> bool
+    requires { ⌜ n ≤ length (now entries) ⌝ }
     ensures { λ r. ⌜ r ≡ all (givesWay done address) (entriesIn n (now (entries .entry))) ⌝ }
 {
     let mut i: usize = 0;
@@ -67,8 +68,8 @@ fn all_give_way(entries: &[u64; 64], n: usize, done: Mark, address: u16) -> bool
 }
 
 // Why the store at a place may not be written, or 0: 26, 27, 29, 31, 32.
-pub(crate) fn write_fault(load_entries: &[u64; 64], store_entries: &[u64; 64], at: usize) -> u8
-    requires { ⌜ (at < 64) × (entryOf (getD (now «store_entries») at 0) .before ≤ 64) ⌝ }
+pub(crate) fn write_fault(load_entries: &[u64], store_entries: &[u64], at: usize) -> u8
+    requires { ⌜ (at < length (now «store_entries»)) × (entryOf (getD (now «store_entries») at 0) .before ≤ length (now «load_entries»)) ⌝ }
     ensures { λ r. ⌜ r ≡ number (mayWriteAt (now («load_entries» .entry)) (now («store_entries» .entry)) at) ⌝ }
 {
     let store = unpack(store_entries[at]);
@@ -96,8 +97,8 @@ pub(crate) fn write_fault(load_entries: &[u64; 64], store_entries: &[u64; 64], a
 }
 
 // How many entries at the oldest end are finished. A finished entry behind an unfinished one keeps its place.
-fn finished(entries: &[u64; 64], held: u8) -> u8
-    requires { ⌜ held ≤ 64 ⌝ }
+fn finished(entries: &[u64], held: u8) -> u8
+    requires { ⌜ held ≤ length (now entries) ⌝ }
     ensures { λ r. ⌜ r ≡ leaving finished (entriesIn held (now (entries .entry))) ⌝ }
 {
     let mut i: u8 = 0;
@@ -120,8 +121,8 @@ fn less(before: u8, gone: u8) -> u8
 }
 
 // Moves the `left` entries behind the first `gone` to the front; each forgets `others`, as many of the other kind as go too.
-fn shift(entries: &mut [u64; 64], gone: u8, left: u8, others: u8)
-    requires { ⌜ (gone + left ≤ 64) × Whole (now entries) ⌝ }
+fn shift(entries: &mut [u64], gone: u8, left: u8, others: u8)
+    requires { ⌜ gone + left ≤ length (now entries) ⌝ }
     ensures { λ _. ⌜ Shifted gone left others (now (entries .entry)) (now (entries .exit)) ⌝ }
 {
     let from = gone as usize;
@@ -148,12 +149,8 @@ fn shorter(side: Side, gone: u8) -> Side
 }
 
 // Finished entries leave; one that stays forgets those of the other kind that left.
-pub(crate) fn settle(
-    frame: Frame,
-    load_entries: &mut [u64; 64],
-    store_entries: &mut [u64; 64],
-) -> Frame
-    requires { ⌜ (frame .loads .count ≤ 64) × (frame .stores .count ≤ 64) × Whole (now «load_entries») × Whole (now «store_entries») ⌝ }
+pub(crate) fn settle(frame: Frame, load_entries: &mut [u64], store_entries: &mut [u64]) -> Frame
+    requires { ⌜ (frame .loads .count ≤ length (now «load_entries»)) × (frame .stores .count ≤ length (now «store_entries»)) ⌝ }
     ensures { λ r. ⌜ contentsOf (queueOf r (now («load_entries» .exit)) (now («store_entries» .exit)))
         ≡ settle (contentsOf (queueOf frame (now («load_entries» .entry)) (now («store_entries» .entry)))) ⌝ }
 {
@@ -177,8 +174,8 @@ pub(crate) fn settle(
 // Write the store at a place: 25, 26, 27, 29, 31, 32.
 fn write_at(
     frame: Frame,
-    load_entries: &mut [u64; 64],
-    store_entries: &mut [u64; 64],
+    load_entries: &mut [u64],
+    store_entries: &mut [u64],
     memory: &mut [u32],
     place: u32,
 ) -> Step
@@ -210,19 +207,19 @@ fn write_at(
 }
 
 // Write on a queue's parts: 40, 30, and then as `write_at`.
-fn write_in(
+pub fn write_in(
     frame: Frame,
-    load_entries: &mut [u64; 64],
-    store_entries: &mut [u64; 64],
+    load_entries: &mut [u64],
+    store_entries: &mut [u64],
     memory: &mut [u32],
     serial: u32,
 ) -> Step
-    requires { ⌜ Whole (now «load_entries») × Whole (now «store_entries») ⌝ }
     ensures { λ r. ⌜ Writes (queueOf frame (now («load_entries» .entry)) (now («store_entries» .entry))) (now (memory .entry))
-        (write (contentsOf (queueOf frame (now («load_entries» .entry)) (now («store_entries» .entry)))) (now (memory .entry)) serial)
+        (onParts (now («load_entries» .entry)) (now («store_entries» .entry))
+        (write (contentsOf (queueOf frame (now («load_entries» .entry)) (now («store_entries» .entry)))) (now (memory .entry)) serial))
         (outcomeOf r (now («load_entries» .exit)) (now («store_entries» .exit))) (now (memory .exit)) ⌝ }
 {
-    if !parts_sound(frame, load_entries, store_entries) {
+    if !sound_in(frame, load_entries, store_entries) {
         return refused(UNSOUND, frame);
     }
     if memory.len() != frame.words as usize {

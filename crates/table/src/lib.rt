@@ -10,18 +10,21 @@ pub mod trace;
 pub mod write;
 
 // An access of a group: how many accesses of the other kind come before it in the group, and its port.
+#[repr(C)]
 pub struct Pair {
     pub offset: u8,
     pub port: u8,
 }
 
 // Where the accesses of one kind in a group stand, in program order: so many, from the first one's place on.
+#[repr(C)]
 pub struct Span {
     pub first: u8,
     pub count: u8,
 }
 
 // A group: where its loads and its stores stand in a table.
+#[repr(C)]
 pub struct Group {
     pub loads: Span,
     pub stores: Span,

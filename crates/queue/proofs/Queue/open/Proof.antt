@@ -1,140 +1,18 @@
--- Each test that is left behind is a step of the rule; the test that fails is its refusal.
-use mathlib.Core.Path.{_≡_, refl, sym, _∙_}
-use mathlib.Core.Bool.{true}
-use native.Mathlib.Omega.{arith}
-use borrow.Author.Tests.{not-true, not-false, ne-eqb}
-use Rattle.table.specs.Table.{groupsOf, tableFault}
-use Rattle.queue.specs.Contents.{contentsOf}
-use Rattle.queue.specs.Sound.{depthRight, memoryRight}
+use Rattle.table.specs.Table.{groupsOf}
 use Rattle.queue.specs.Open.{openQueue}
-use Rattle.queue.proofs.SoundLaws.{within-most}
-use Rattle.queue.proofs.GroupLaws.{groups-few}
+use Rattle.queue.proofs.PartsLaws.{opens}
 use borrow.Author.Needs.{needs}
 use Rattle.queue.proofs.Queue.open.Statement.{statement}
 use Rattle.queue.proofs.Queue.open.Tie as tie
 
-table-right : (c : tie.Else1) → tableFault (groupsOf (c .before .before .args .table)) ≡ 0
-table-right c = sym (c .before .table-fault .ensures) ∙ c .if1 .left
-
-load-depth : (c : tie.Else2) → depthRight (c .before .before .before .before .args .load-depth) ≡ true
-load-depth c = sym (c .before .depth-right .ensures) ∙ not-false _ (c .if2 .left)
-
-store-depth : (c : tie.Else3) → depthRight (c .before .before .before .before .before .before .args .store-depth) ≡ true
-store-depth c = sym (c .before .depth-right2 .ensures) ∙ not-false _ (c .if3 .left)
-
-memory : (c : tie.Else4) → memoryRight (c .before .before .before .before .before .before .before .before .args .words) ≡ true
-memory c = sym (c .before .memory-right .ensures) ∙ not-false _ (c .if4 .left)
-
-table-fault-requires : tie.Need-table-fault-requires
-table-fault-requires c κs = search needs
-
-refused-requires : tie.Need-refused-requires
-refused-requires c κs = search needs
+open-in-requires : tie.Need-open-in-requires
+open-in-requires c κs = search needs
 
 returns : tie.Need-returns
-unfolding openQueue
 returns c =
-    let t = c .before .before in
-    rw (ne-eqb (tableFault (groupsOf (t .before .args .table))) 0 (λ z. c .before .if1 .taken (t .table-fault .ensures ∙ z)), ← t .table-fault .ensures) (c .refused .ensures)
-
-depth-right-requires : tie.Need-depth-right-requires
-depth-right-requires c κs = search needs
-
-refused-requires-2 : tie.Need-refused-requires-2
-refused-requires-2 c κs = search needs
-
-returns-2 : tie.Need-returns-2
-unfolding openQueue
-returns-2 c =
-    let p = c .before .before in
-    rw (table-right (p .before), sym (p .depth-right .ensures) ∙ not-true _ (c .before .if2 .taken)) (c .refused2 .ensures)
-
-depth-right-requires-2 : tie.Need-depth-right-requires-2
-depth-right-requires-2 c κs = search needs
-
-refused-requires-3 : tie.Need-refused-requires-3
-refused-requires-3 c κs = search needs
-
-returns-3 : tie.Need-returns-3
-unfolding openQueue
-returns-3 c =
-    let p = c .before .before in
-    rw (table-right (p .before .before .before), load-depth (p .before), sym (p .depth-right2 .ensures) ∙ not-true _ (c .before .if3 .taken)) (c .refused3 .ensures)
-
-memory-right-requires : tie.Need-memory-right-requires
-memory-right-requires c κs = search needs
-
-refused-requires-4 : tie.Need-refused-requires-4
-refused-requires-4 c κs = search needs
-
-returns-4 : tie.Need-returns-4
-unfolding openQueue
-returns-4 c =
-    let p = c .before .before in
-    let s = p .before in
-    rw (table-right (s .before .before .before .before), load-depth (s .before .before), store-depth s, sym (p .memory-right .ensures) ∙ not-true _ (c .before .if4 .taken)) (c .refused4 .ensures)
-
-groups-fit-requires : tie.Need-groups-fit-requires
-groups-fit-requires c κs = groups-few _ (table-right (c .before .before .before .before .before .before))
-
-refused-requires-5 : tie.Need-refused-requires-5
-refused-requires-5 c κs = search needs
-
-returns-5 : tie.Need-returns-5
-unfolding openQueue
-returns-5 c =
-    let p = c .before .before in
-    let m = p .before in
-    let s = m .before .before in
-    rw (table-right (s .before .before .before .before), load-depth (s .before .before), store-depth s, memory m, sym (p .groups-fit .ensures) ∙ not-true _ (c .before .if5 .taken)) (c .refused5 .ensures)
-
-cast-fresh-queue : tie.Need-cast-fresh-queue
-cast-fresh-queue c =
-    let s = c .before .before .before .before in
-    omega (arith, within-most 1 64 (s .before .before .before .before .before .before .args .load-depth) (load-depth (s .before .before)))
-
-cast-fresh-queue-2 : tie.Need-cast-fresh-queue-2
-cast-fresh-queue-2 c =
-    let s = c .before .before .before .before in
-    omega (arith, within-most 1 64 (s .before .before .before .before .before .before .args .store-depth) (store-depth s))
-
-cast-fresh-queue-3 : tie.Need-cast-fresh-queue-3
-cast-fresh-queue-3 c =
-    let m = c .before .before in
-    omega (arith, within-most 1 4096 (m .before .before .before .before .before .before .before .before .args .words) (memory m))
-
-fresh-queue-requires : tie.Need-fresh-queue-requires
-fresh-queue-requires c κs = search needs
-
-returns-6 : tie.Need-returns-6
-unfolding openQueue contentsOf
-returns-6 c =
-    let p = c .before .before in
-    let m = p .before in
-    let s = m .before .before in
-    rw (table-right (s .before .before .before .before), load-depth (s .before .before), store-depth s, memory m, sym (p .groups-fit .ensures) ∙ not-false _ (c .before .if5 .left)) (refl, rw (c .fresh-queue .ensures))
+    let o = c .before in
+    let a = o .before .args in
+    opens (openQueue (groupsOf (a .table)) (a .load-depth) (a .store-depth) (a .first) (a .words)) (o .open-in .result) (o .open-in .ensures)
 
 pub open-spec : {M : Type 1} → statement M
-open-spec =
-    tie.close
-    (tie.spec
-    table-fault-requires
-    refused-requires
-    returns
-    depth-right-requires
-    refused-requires-2
-    returns-2
-    depth-right-requires-2
-    refused-requires-3
-    returns-3
-    memory-right-requires
-    refused-requires-4
-    returns-4
-    groups-fit-requires
-    refused-requires-5
-    returns-5
-    cast-fresh-queue
-    cast-fresh-queue-2
-    cast-fresh-queue-3
-    fresh-queue-requires
-    returns-6)
+open-spec = tie.close (tie.spec open-in-requires returns)

@@ -1,70 +1,38 @@
-use mathlib.Core.Path.{_≡_, refl, sym, _∙_}
-use mathlib.Core.Bool.{true, false}
-use borrow.Author.Tests.{not-true, not-false}
-use Rattle.queue.specs.Contents.{contentsOf}
-use Rattle.queue.specs.Sound.{sound}
-use Rattle.queue.proofs.ReadyLaws.{ready-stores-unsound, ready-stores-short, ready-stores-enough, ready-well}
+use mathlib.Core.Path.{_≡_}
+use mathlib.Core.Bool.{true}
+use Rattle.queue.specs.Parts.{whole}
+use Rattle.queue.proofs.PartsLaws.{both-whole}
 use borrow.Author.Needs.{needs}
 use Rattle.queue.proofs.Queue.ready_stores_into.Statement.{statement}
 use Rattle.queue.proofs.Queue.ready_stores_into.Tie as tie
 
-abbrev start : tie.After-parts-sound → tie.Start
-start c = c .before .before .before .before .before .before .before
+-- a queue's own arrays are whole runs
+own : (c : tie.Start) → whole (c .args .self .«load_entries») (c .args .self .«store_entries») ≡ true
+own c = both-whole (c .args .self .«load_entries») (c .args .self .«store_entries») (search needs) (search needs)
 
-right : (c : tie.Else1) → sound (contentsOf (start (c .before) .args .self)) ≡ true
-right c = sym (c .before .parts-sound .ensures) ∙ not-false _ (c .if1 .left)
+slice-aggregate-ready-stores-in : tie.Need-slice-aggregate-ready-stores-in
+slice-aggregate-ready-stores-in c = search needs
 
-wrong : (c : tie.Then1) → sound (contentsOf (start (c .before) .args .self)) ≡ false
-wrong c = sym (c .before .parts-sound .ensures) ∙ not-true _ (c .if1 .taken)
+slice-aggregate-ready-stores-in-2 : tie.Need-slice-aggregate-ready-stores-in-2
+slice-aggregate-ready-stores-in-2 c = search needs
 
-parts-sound-requires : tie.Need-parts-sound-requires
-parts-sound-requires c κs = search needs
-
-unready-requires : tie.Need-unready-requires
-unready-requires c κs = search needs
-
-returns : tie.Need-returns
-returns c =
-    let s = start (c .before .before) in
-    rw (ready-stores-unsound (contentsOf (s .args .self)) (s .args .out .now) (wrong (c .before))) (record { outcome = c .unready .ensures; run-is = refl })
-
-writable-stores-requires : tie.Need-writable-stores-requires
-writable-stores-requires c κs = right (c .before .before)
-
-unready-requires-2 : tie.Need-unready-requires-2
-unready-requires-2 c κs = search needs
-
-returns-2 : tie.Need-returns-2
-returns-2 c =
-    let f = c .before .before in
-    let e = f .before .before .before in
-    let s = start (e .before) in
-    rw (ready-stores-short (contentsOf (s .args .self)) (s .args .out .now) (right e) (rw (← f .writable-stores .ensures .size) (c .before .if2 .taken))) (record { outcome = c .unready2 .ensures; run-is = refl })
-
-put-serials-requires : tie.Need-put-serials-requires
-put-serials-requires c κs = search needs
+ready-stores-in-requires : tie.Need-ready-stores-in-requires
+ready-stores-in-requires c κs = search needs
 
 same-length : tie.Need-same-length
 same-length c = search needs
 
-returns-3 : tie.Need-returns-3
-returns-3 c =
-    let e2 = c .before .before .before .before in
-    let f = e2 .before in
-    let e = f .before .before .before in
-    let s = start (e .before) in
-    rw (ready-stores-enough (contentsOf (s .args .self)) (s .args .out .now) (right e) (rw (← f .writable-stores .ensures .size) (e2 .if2 .left))) (ready-well (s .args .self) (f .writable-stores .ensures) (c .before .before .put-serials .ensures))
+returns : tie.Need-returns
+returns c =
+    let k = c .before .before in
+    rw (own (k .before .before .before .before .before .before .before .before)) at (k .ready-stores-in .ensures)
 
 pub ready-stores-into-spec : {M : Type 1} → statement M
 ready-stores-into-spec =
     tie.close
     (tie.spec
-    parts-sound-requires
-    unready-requires
-    returns
-    writable-stores-requires
-    unready-requires-2
-    returns-2
-    put-serials-requires
+    slice-aggregate-ready-stores-in
+    slice-aggregate-ready-stores-in-2
+    ready-stores-in-requires
     same-length
-    returns-3)
+    returns)

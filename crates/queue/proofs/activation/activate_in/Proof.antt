@@ -1,11 +1,13 @@
 -- Each test that is left behind is a step of the rule; the test that fails is its refusal.
+use Prim.Native.Nat.{_<_}
 use mathlib.Core.Path.{_≡_, refl, sym, ap, _∙_}
-use mathlib.Core.Bool.{true, false}
-use lib.ListN.{length}
+use mathlib.Core.Bool.{true}
+use Rattle.queue.specs.Parts.{queueOf, outcomeOf}
+use Rattle.queue.proofs.PartsLaws.{Fit, fit, unfit}
 use borrow.Author.Needs.{needs}
 use borrow.Author.Tests.{not-true, not-false}
-use Rattle.table.specs.Group.{pairsOf}
-use Rattle.table.proofs.CheckLaws.{long, Sized, sized, group-inside}
+use Rattle.table.specs.Group.{GroupPairs, pairsOf}
+use Rattle.table.proofs.CheckLaws.{group-inside}
 use Rattle.table.proofs.OrderOffsets.{GroupRight}
 use Rattle.queue.specs.declared.Queue.{Queue}
 use Rattle.queue.specs.declared.Outcome.{Outcome}
@@ -14,9 +16,7 @@ use Rattle.queue.specs.declared.answering.Step.{Step}
 use Rattle.queue.specs.Contents.{contentsOf}
 use Rattle.queue.specs.Refusal.{noPlace}
 use Rattle.queue.specs.Ruled.{accept, need}
-use Rattle.queue.specs.Sound.{sound}
 use Rattle.queue.specs.Activate.{room, withGroup, activate}
-use Rattle.queue.specs.Internal.{queueOf, outcomeOf}
 use Rattle.queue.specs.InternalActivate.{PairsFit}
 use Rattle.queue.proofs.SoundLaws.{table-right, loads-few, stores-few}
 use Rattle.queue.proofs.GroupLaws.{groups-few, group-right}
@@ -24,65 +24,64 @@ use Rattle.queue.proofs.ActivateLaws.{with-group-is, room-record, appen
 use Rattle.queue.proofs.activation.activate_in.Statement.{statement}
 use Rattle.queue.proofs.activation.activate_in.Tie as tie
 
-abbrev start : tie.After-parts-sound → tie.Start
-start c = c .before .before .before
+abbrev start : tie.After-sound-in → tie.Start
+start c = c .before .before .before .before .before
 
-abbrev queue : tie.Start → Queue
-queue s = queueOf (s .args .frame) (s .args .load-entries .now) (s .args .store-entries .now)
+abbrev queueIn : tie.Start → Queue
+queueIn s = queueOf (s .args .frame) (s .args .load-entries .now) (s .args .store-entries .now)
 
 -- what is handed back where the entries are as they were
 abbrev unchanged : tie.Start → Step → Outcome
 unchanged s t = outcomeOf t (s .args .load-entries .now) (s .args .store-entries .now)
 
-right : (e : tie.Else1) → sound (contentsOf (queue (start (e .before)))) ≡ true
-right e = sym (e .before .parts-sound .ensures) ∙ not-false _ (e .if1 .left)
+abbrev queue : tie.After-sound-in → Queue
+queue c = queueIn (start c)
 
-wrong : (c : tie.Then1) → sound (contentsOf (queue (start (c .before)))) ≡ false
-wrong c = sym (c .before .parts-sound .ensures) ∙ not-true _ (c .if1 .taken)
+-- the runs are whole and the queue is sound
+good : (c : tie.Else1) → Fit (queue (c .before))
+good c = fit (queue (c .before)) (c .before .sound-in .ensures) (c .if1 .left)
 
 -- where a group was chosen: the sound queue
 abbrev checked : tie.After-group-at → tie.Else1
-checked g = g .before .before .before .before
+checked g = g .before .before .before .before .before
 
 abbrev begun : tie.After-group-at → tie.Start
 begun g = start (checked g .before)
 
-whole : (g : tie.After-group-at) → length (begun g .args .frame .table .groups) ≡ 16
-whole g = search (needs, long)
+-- the group as it is meant
+abbrev meant : tie.After-group-at → GroupPairs
+meant g = pairsOf (begun g .args .frame .table .loads) (begun g .args .frame .table .stores) (g .group-at .result)
 
-size : (g : tie.After-group-at) → Sized (g .group-at .result)
-size g =
-    let l : length (g .group-at .result .loads .places) ≡ 32 = search (needs, long) in
-    let s : length (g .group-at .result .stores .places) ≡ 32 = search (needs, long) in
-    sized l s (group-inside _ _ (g .group-at .ensures))
+below : (g : tie.After-group-at) → begun g .args .group < begun g .args .frame .table .count
+below g = g .before .before .before .if2 .left
 
-good-group : (g : tie.After-group-at) → GroupRight (pairsOf (g .group-at .result))
+good-group : (g : tie.After-group-at) → GroupRight (meant g)
 good-group g =
     let s = begun g in
-    let t = table-right (queue s) (right (checked g)) in
-    group-right (s .args .frame .table) (groups-few (s .args .frame .table) t) (whole g) (s .args .group) (g .before .if2 .left) (g .group-at .ensures) t
+    let t = table-right (queueIn s) (good (checked g) .right) in
+    group-right (s .args .frame .table) (groups-few (s .args .frame .table) t) (s .args .group) (below g) (g .group-at .ensures) t
 
 rule : (g : tie.After-group-at) → let s = begun g in
-    activate (contentsOf (queue s)) (s .args .group) ≡ need (room (contentsOf (queue s)) (pairsOf (g .group-at .result))) noPlace (accept (withGroup (contentsOf (queue s)) (pairsOf (g .group-at .result))))
-rule g = let s = begun g in activate-group (queue s) (s .args .group) (right (checked g)) (whole g) (g .before .if2 .left) (g .group-at .ensures)
+    activate (contentsOf (queueIn s)) (s .args .group) ≡ need (room (contentsOf (queueIn s)) (meant g)) noPlace (accept (withGroup (contentsOf (queueIn s)) (meant g)))
+rule g = let s = begun g in activate-group (queueIn s) (s .args .group) (good (checked g) .right) (below g) (g .group-at .ensures)
 
 abbrev chosen : tie.After-has-room → tie.After-group-at
 chosen h = h .before .before .before
 
-has-place : (h : tie.After-has-room) → room (contentsOf (queue (begun (chosen h)))) (pairsOf (chosen h .group-at .result)) ≡ h .has-room .result
-has-place h = room-record (queue (begun (chosen h))) (size (chosen h)) ∙ sym (h .has-room .ensures)
+has-place : (h : tie.After-has-room) → room (contentsOf (queueIn (begun (chosen h)))) (meant (chosen h)) ≡ h .has-room .result
+has-place h = room-record (queueIn (begun (chosen h))) (chosen h .group-at .result) ∙ sym (h .has-room .ensures)
 
-place : (e : tie.Else3) → room (contentsOf (queue (begun (chosen (e .before))))) (pairsOf (chosen (e .before) .group-at .result)) ≡ true
+place : (e : tie.Else3) → room (contentsOf (queueIn (begun (chosen (e .before))))) (meant (chosen (e .before))) ≡ true
 place e = has-place (e .before) ∙ not-false _ (e .if3 .left)
 
 fits : (e : tie.Else3) → let g = chosen (e .before) in let s = begun g in
-    PairsFit (s .args .frame .loads .count) (g .group-at .result .loads) × PairsFit (s .args .frame .stores .count) (g .group-at .result .stores)
+    PairsFit (s .args .frame .loads .count) (s .args .frame .table .loads) (g .group-at .result .loads) × PairsFit (s .args .frame .stores .count) (s .args .frame .table .stores) (g .group-at .result .stores)
 fits e =
     let g = chosen (e .before) in
-    group-fits (queue (begun g)) (size g) (group-inside _ _ (g .group-at .ensures)) (right (checked g)) (good-group g) (place e)
+    group-fits (queueIn (begun g)) (g .group-at .result) (group-inside _ _ (g .group-at .ensures)) (good (checked g) .right) (good-group g) (place e)
 
-parts-sound-requires : tie.Need-parts-sound-requires
-parts-sound-requires c κs = search needs
+sound-in-requires : tie.Need-sound-in-requires
+sound-in-requires c κs = search needs
 
 refused-requires : tie.Need-refused-requires
 refused-requires c κs = search needs
@@ -90,7 +89,8 @@ refused-requires c κs = search needs
 returns : tie.Need-returns
 returns c =
     let s = start (c .before .before) in
-    rw (activate-unsound (contentsOf (queue s)) (s .args .group) (wrong (c .before))) (ap (unchanged s) (c .refused .ensures))
+    let q = queueIn s in
+    rw (unfit q (activate (contentsOf q) (s .args .group)) (c .before .before .sound-in .ensures) (c .before .if1 .taken) (activate-unsound (contentsOf q) (s .args .group))) (ap (unchanged s) (c .refused .ensures))
 
 cast-if2 : tie.Need-cast-if2
 cast-if2 c = search needs
@@ -100,9 +100,9 @@ refused-requires-2 c κs = search needs
 
 returns-2 : tie.Need-returns-2
 returns-2 c =
-    let e = c .before .before .before .before in
+    let e = c .before .before .before in
     let s = start (e .before) in
-    rw (activate-no-group (queue s) (s .args .group) (right e) (c .before .if2 .taken)) (ap (unchanged s) (c .refused2 .ensures))
+    rw (good e .full, activate-no-group (queueIn s) (s .args .group) (good e .right) (c .before .if2 .taken)) (ap (unchanged s) (c .refused2 .ensures))
 
 group-at-requires : tie.Need-group-at-requires
 group-at-requires c κs = search needs
@@ -117,59 +117,91 @@ returns-3 : tie.Need-returns-3
 returns-3 c =
     let h = c .before .before in
     let s = begun (chosen h) in
-    rw (rule (chosen h), has-place h ∙ not-true _ (c .before .if3 .taken)) (ap (unchanged s) (c .refused3 .ensures))
+    rw (good (checked (chosen h)) .full, rule (chosen h), has-place h ∙ not-true _ (c .before .if3 .taken)) (ap (unchanged s) (c .refused3 .ensures))
 
 append-requires : tie.Need-append-requires
 append-requires c κs =
-    let e = c .before .before .before in
-    let g = chosen (e .before) in
-    let s = begun g in
-    (fits e .0, stores-few (queue s) (right (checked g)), s .pre .0)
-
-append-requires-2 : tie.Need-append-requires-2
-append-requires-2 c κs =
     let e = c .before .before .before .before .before in
     let g = chosen (e .before) in
     let s = begun g in
-    (fits e .1, loads-few (queue s) (right (checked g)), s .pre .1)
+    (fits e .0, stores-few (queueIn s) (good (checked g) .right), good (checked g) .loads-whole)
+
+append-requires-2 : tie.Need-append-requires-2
+append-requires-2 c κs =
+    let e = c .before .before .before .before .before .before .before .before .before .before .before in
+    let g = chosen (e .before) in
+    let s = begun g in
+    (fits e .1, loads-few (queueIn s) (good (checked g) .right), good (checked g) .stores-whole)
 
 longer-requires : tie.Need-longer-requires
-longer-requires c κs = fits (c .before .before .before .before .before .before) .0 .room
+longer-requires c κs = fits (c .before .before .before .before .before .before .before .before .before .before .before .before .before .before) .0 .room
 
 longer-requires-2 : tie.Need-longer-requires-2
-longer-requires-2 c κs = fits (c .before .before .before .before .before .before .before) .1 .room
+longer-requires-2 c κs = fits (c .before .before .before .before .before .before .before .before .before .before .before .before .before .before .before) .1 .room
 
 returns-4 : tie.Need-returns-4
 returns-4 c =
-    let b = c .before .before in
-    let a = b .before .before in
-    let e = a .before .before .before .before in
+    let b = c .before .before .before .before in
+    let a = b .before .before .before .before .before .before in
+    let e = a .before .before .before .before .before .before in
     let g = chosen (e .before) in
     let s = begun g in
-    rw (rule g, place e)
+    rw (good (checked g) .full, rule g, place e)
     (record {
       answer = refl {a = 0};
       gives = refl {a = Nothing};
       holds = rw (c .before .longer .ensures, c .longer2 .ensures)
-          (appended-both (queue s) (size g) (a .append .ensures) (b .append2 .ensures) ∙ with-group-is (contentsOf (queue s)) (pairsOf (g .group-at .result)) (good-group g));
+          (appended-both (queueIn s) (g .group-at .result) (a .append .ensures) (b .append2 .ensures) ∙ with-group-is (contentsOf (queueIn s)) (meant g) (good-group g));
     })
+
+same-length : tie.Need-same-length
+same-length c = search needs
+
+same-length-2 : tie.Need-same-length-2
+same-length-2 c = search needs
+
+same-length-3 : tie.Need-same-length-3
+same-length-3 c = search needs
+
+same-length-4 : tie.Need-same-length-4
+same-length-4 c = search needs
+
+same-length-5 : tie.Need-same-length-5
+same-length-5 c = search needs
+
+same-length-6 : tie.Need-same-length-6
+same-length-6 c = search needs
+
+same-length-7 : tie.Need-same-length-7
+same-length-7 c = search needs
+
+same-length-8 : tie.Need-same-length-8
+same-length-8 c = search needs
 
 pub activate-in-spec : {M : Type 1} → statement M
 activate-in-spec =
     tie.close
     (tie.spec
-    parts-sound-requires
+    sound-in-requires
     refused-requires
+    same-length
+    same-length-2
     returns
     cast-if2
     refused-requires-2
+    same-length-3
+    same-length-4
     returns-2
     group-at-requires
     has-room-requires
     refused-requires-3
+    same-length-5
+    same-length-6
     returns-3
     append-requires
     append-requires-2
     longer-requires
     longer-requires-2
+    same-length-7
+    same-length-8
     returns-4)

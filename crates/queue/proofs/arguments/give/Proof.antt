@@ -8,11 +8,11 @@ use borrow.Author.Needs.{needs}
 use Rattle.queue.proofs.arguments.give.Statement.{statement}
 use Rattle.queue.proofs.arguments.give.Tie as tie
 
-place : (c : tie.After-oldest-without) → let s = c .before .before .before in
+place : (c : tie.After-oldest-without) → let s = c .before .before .before .before in
     c .oldest-without .result ≡ waitingAt (s .args .held) (s .args .port) (s .args .argument) (s .args .entries .now)
 place c =
     let m = c .before .before in
-    let a = m .before .args in
+    let a = m .before .before .args in
     c .oldest-without .ensures ∙ ap (λ (mark : Mark). firstPlace (lacks mark (a .port)) (entriesIn (a .held) (a .entries .now))) (m .mark-of .ensures)
 
 mark-of-requires : tie.Need-mark-of-requires
@@ -20,6 +20,9 @@ mark-of-requires c κs = search needs
 
 oldest-without-requires : tie.Need-oldest-without-requires
 oldest-without-requires c κs = search needs
+
+same-length : tie.Need-same-length
+same-length c = search needs
 
 returns : tie.Need-returns
 returns c =
@@ -29,8 +32,8 @@ returns c =
 mul-unpack : tie.Need-mul-unpack
 mul-unpack c = search needs
 
-element-copy-out-unpack : tie.Need-element-copy-out-unpack
-element-copy-out-unpack c = search needs
+slice-read-unpack : tie.Need-slice-read-unpack
+slice-read-unpack c = search needs
 
 unpack-requires : tie.Need-unpack-requires
 unpack-requires c κs = search needs
@@ -44,8 +47,11 @@ pack-requires c κs = search needs
 mul-entries : tie.Need-mul-entries
 mul-entries c = search needs
 
-element-write-entries : tie.Need-element-write-entries
-element-write-entries c = search needs
+slice-write-entries : tie.Need-slice-write-entries
+slice-write-entries c = search needs
+
+same-length-2 : tie.Need-same-length-2
+same-length-2 c = search needs
 
 returns-2 : tie.Need-returns-2
 returns-2 c =
@@ -64,12 +70,14 @@ give-spec =
     (tie.spec
     mark-of-requires
     oldest-without-requires
+    same-length
     returns
     mul-unpack
-    element-copy-out-unpack
+    slice-read-unpack
     unpack-requires
     with-argument-requires
     pack-requires
     mul-entries
-    element-write-entries
+    slice-write-entries
+    same-length-2
     returns-2)

@@ -1,6 +1,6 @@
 -- Each test that is left behind is a step of the rule; the test that fails is its refusal.
 use mathlib.Core.Path.{_≡_, refl, sym, _∙_}
-use mathlib.Core.Bool.{true, false}
+use mathlib.Core.Bool.{true}
 use native.Mathlib.Omega.{arith}
 use lib.Dec.{ltb}
 use borrow.Author.Tests.{not-true, not-false, lt-ltb, le-ltb}
@@ -9,92 +9,117 @@ use Rattle.table.specs.Table.{groupsOf}
 use Rattle.queue.specs.declared.Queue.{Queue}
 use Rattle.queue.specs.declared.arguments.Argument.the-variants.{Address}
 use Rattle.queue.specs.Contents.{contentsOf}
-use Rattle.queue.specs.Sound.{sound}
-use Rattle.queue.specs.Arguments.{isStorePort, storeLacksAddress, storeWithAddress}
-use Rattle.queue.specs.Internal.{queueOf}
+use Rattle.queue.specs.Arguments.{storeAddress, isStorePort, storeLacksAddress, storeWithAddress}
+use Rattle.queue.specs.Parts.{queueOf}
 use Rattle.queue.proofs.EntryLaws.{store-lacks-address}
-use Rattle.queue.proofs.SoundLaws.{table-right, stores-few, words-most}
+use Rattle.queue.proofs.SoundLaws.{table-right, words-most}
 use Rattle.queue.proofs.ArgumentLaws.{store-address-record, store-given}
+use Rattle.queue.proofs.PartsLaws.{Fit, fit, unfit}
+use Rattle.queue.proofs.GroupLaws.{groups-few}
 use borrow.Author.Needs.{needs}
 use Rattle.queue.proofs.arguments.store_address_in.Statement.{statement}
 use Rattle.queue.proofs.arguments.store_address_in.Tie as tie
 
-abbrev start : tie.After-parts-sound → tie.Start
-start c = c .before .before
+abbrev start : tie.After-sound-in → tie.Start
+start c = c .before .before .before .before
 
-abbrev queue : tie.After-parts-sound → Queue
+abbrev queue : tie.After-sound-in → Queue
 queue c =
     let a = start c .args in
-    queueOf (a .frame) (a .load-entries .now) (a .store-entries .now)
+    queueOf (a .t1) (a .load-entries .now) (a .store-entries .now)
 
-right : (c : tie.Else1) → sound (contentsOf (queue (c .before))) ≡ true
-right c = sym (c .before .parts-sound .ensures) ∙ not-false _ (c .if1 .left)
+-- the runs are whole and the queue is sound
+good : (c : tie.Else1) → Fit (queue (c .before))
+good c = fit (queue (c .before)) (c .before .sound-in .ensures) (c .if1 .left)
 
-wrong : (c : tie.Then1) → sound (contentsOf (queue (c .before))) ≡ false
-wrong c = sym (c .before .parts-sound .ensures) ∙ not-true _ (c .if1 .taken)
+-- where the port was looked up
+abbrev sure : tie.After-has-port → tie.Else1
+sure c = c .before .before .before .before .before
 
-port : (c : tie.Else2) → let p = c .before .before .before .before in any (isStorePort (start p .args .port)) (groupsOf (queue p .frame .table)) ≡ true
+port : (c : tie.Else2) → let p = sure (c .before) .before in any (isStorePort (start p .args .port)) (groupsOf (queue p .frame .table)) ≡ true
 port c = sym (c .before .has-port .ensures) ∙ not-false _ (c .if2 .left)
 
-below : (c : tie.Else3) → let p = c .before .before .before .before .before .before in ltb (start p .args .address) (queue p .frame .words) ≡ true
+below : (c : tie.Else3) → let p = sure (c .before .before) .before in ltb (start p .args .address) (queue p .frame .words) ≡ true
 below c = lt-ltb _ _ (c .if3 .left)
 
-parts-sound-requires : tie.Need-parts-sound-requires
-parts-sound-requires c κs = search needs
+sound-in-requires : tie.Need-sound-in-requires
+sound-in-requires c κs = search needs
+
+same-length : tie.Need-same-length
+same-length c = search needs
 
 returns : tie.Need-returns
-returns c = rw (store-address-record (queue (c .before)) (start (c .before) .args .port) (start (c .before) .args .address), wrong c)
+returns c =
+    let s = c .before in
+    let q = queue s in
+    rw (unfit q (storeAddress (contentsOf q) (start s .args .port) (start s .args .address)) (c .before .sound-in .ensures) (c .if1 .taken) (λ e. rw (store-address-record q (start s .args .port) (start s .args .address), e)))
 
 has-port-requires : tie.Need-has-port-requires
-has-port-requires c κs = table-right (queue (c .before .before)) (right (c .before))
+has-port-requires c κs =
+    let e = c .before .before .before .before in
+    groups-few (queue (e .before) .frame .table) (table-right (queue (e .before)) (good e .right))
+
+same-length-2 : tie.Need-same-length-2
+same-length-2 c = search needs
 
 returns-2 : tie.Need-returns-2
 returns-2 c =
     let p = c .before in
-    let e = p .before .before in
+    let e = sure p in
     let s = e .before in
-    rw (store-address-record (queue s) (start s .args .port) (start s .args .address), right e, sym (p .has-port .ensures) ∙ not-true _ (c .if2 .taken))
+    rw (good e .full, store-address-record (queue s) (start s .args .port) (start s .args .address), good e .right, sym (p .has-port .ensures) ∙ not-true _ (c .if2 .taken))
 
 cast-if3 : tie.Need-cast-if3
 cast-if3 c = search needs
 
+same-length-3 : tie.Need-same-length-3
+same-length-3 c = search needs
+
 returns-3 : tie.Need-returns-3
 returns-3 c =
-    let p = c .before .before in
-    let e = p .before .before .before in
+    let p = c .before in
+    let e = sure (p .before) in
     let s = e .before in
-    rw (store-address-record (queue s) (start s .args .port) (start s .args .address), right e, port p, le-ltb _ _ (c .if3 .taken))
+    rw (good e .full, store-address-record (queue s) (start s .args .port) (start s .args .address), good e .right, port p, le-ltb _ _ (c .if3 .taken))
 
-cast-t13 : tie.Need-cast-t13
-cast-t13 c = search needs
+cast-t19 : tie.Need-cast-t19
+cast-t19 c = search needs
 
 give-requires : tie.Need-give-requires
 give-requires c κs =
-    let e = c .before .before .before .before .before .before .before in
-    stores-few (queue (e .before)) (right e)
+    let e = sure (c .before .before .before .before) in
+    good e .stores-room
+
+same-length-4 : tie.Need-same-length-4
+same-length-4 c = search needs
 
 returns-4 : tie.Need-returns-4
 returns-4 c =
-    let b = c .before .before .before in
-    let p = b .before .before in
-    let e = p .before .before .before in
+    let g = c .before .before in
+    let b = g .before .before .before in
+    let p = b .before in
+    let e = sure (p .before) in
     let s = e .before in
     let q = queue s in
     let a = start s .args .address in
-    rw (store-address-record (queue s) (start s .args .port) (start s .args .address), right e, port p, below b)
-    (store-given q (Address a) (omega (arith, b .if3 .left, words-most q (right e))) (storeLacksAddress (start s .args .port)) (storeWithAddress a) (λ n. store-lacks-address n (start s .args .port)) (λ n. refl)
-    (omega (arith, stores-few q (right e), start s .pre)) (c .give .ensures))
+    rw (good e .full, store-address-record (queue s) (start s .args .port) (start s .args .address), good e .right, port p, below b)
+    (store-given q (Address a) (omega (arith, b .if3 .left, words-most q (good e .right))) (storeLacksAddress (start s .args .port)) (storeWithAddress a) (λ n. store-lacks-address n (start s .args .port)) (λ n. refl)
+    (good e .stores-room) (g .give .ensures))
 
 pub store-address-in-spec : {M : Type 1} → statement M
 store-address-in-spec =
     tie.close
     (tie.spec
-    parts-sound-requires
+    sound-in-requires
+    same-length
     returns
     has-port-requires
+    same-length-2
     returns-2
     cast-if3
+    same-length-3
     returns-3
-    cast-t13
+    cast-t19
     give-requires
+    same-length-4
     returns-4)

@@ -5,11 +5,11 @@ use Rattle.queue.proofs.opening.refused.Tie as tie
 no-table-requires : tie.Need-no-table-requires
 no-table-requires c κs = search needs
 
-fresh-queue-requires : tie.Need-fresh-queue-requires
-fresh-queue-requires c κs = search needs
+fresh-frame-requires : tie.Need-fresh-frame-requires
+fresh-frame-requires c κs = search needs
 
 returns : tie.Need-returns
-returns c = rw (c .fresh-queue .ensures, c .before .no-table .ensures)
+returns c = rw (c .fresh-frame .ensures, c .before .no-table .ensures)
 
 pub refused-spec : {M : Type 1} → statement M
-refused-spec = tie.close (tie.spec no-table-requires fresh-queue-requires returns)
+refused-spec = tie.close (tie.spec no-table-requires fresh-frame-requires returns)

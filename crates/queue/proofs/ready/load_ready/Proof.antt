@@ -8,19 +8,19 @@ use Rattle.queue.proofs.ready.load_ready.Statement.{statement}
 use Rattle.queue.proofs.ready.load_ready.Tie as tie
 
 -- what the stores supply decides, once the load has an address and no value
-supplied : (c : tie.After-supply-for) → let s = c .before .before .before .before .before in
+supplied : (c : tie.After-supply-for) → let s = c .before .before .before .before .before .before in
     loadReady (storesIn (s .args .load .before) (s .args .store-entries .now)) (loadOf (s .args .load)) ≡ supplyReady (c .supply-for .result)
 supplied c =
     let e2 = c .before .before in
     let e1 = e2 .before .before in
-    let s = e1 .before in
+    let s = e1 .before .before in
     rw (e1 .if1 .left, not-false (s .args .load .addressed) (e2 .if2 .left)) (ap supplyReady (sym (c .supply-for .ensures)))
 
 returns : tie.Need-returns
 returns c = search needs
 
 returns-2 : tie.Need-returns-2
-returns-2 c = rw (c .before .before .if1 .left, not-true (c .before .before .before .args .load .addressed) (c .if2 .taken))
+returns-2 c = rw (c .before .before .if1 .left, not-true (c .before .before .before .before .args .load .addressed) (c .if2 .taken))
 
 cast-supply-for : tie.Need-cast-supply-for
 cast-supply-for c = search needs

@@ -10,7 +10,8 @@ use Rattle.queue.specs.declared.Queue.{Queue}
 use Rattle.queue.specs.Entry.{entryOf}
 use Rattle.queue.specs.Contents.{loadOf, contentsOf, oldest, after}
 use Rattle.queue.specs.Ready.{serials, wouldServe}
-use Rattle.queue.specs.Internal.{storesIn, queueOf}
+use Rattle.queue.specs.Parts.{queueOf}
+use Rattle.queue.specs.Internal.{storesIn}
 use Rattle.queue.specs.InternalReady.{loadReady, loadReadyAt}
 use Rattle.queue.proofs.SoundLaws.{loads-few, stores-few, load-before}
 use Rattle.queue.proofs.Progress.{oldest-small}
@@ -29,15 +30,15 @@ abbrev whole : tie.Start Inv-loop μ-loop → Queue
 whole s = queueOf (s .args .frame) (s .args .load-entries .now) (s .args .store-entries .now)
 
 abbrev start : tie.After-oldest-serial Inv-loop μ-loop → tie.Start Inv-loop μ-loop
-start c = c .before .before .before
+start c = c .before .before .before .before .before
 
 before-few : (s : tie.Start Inv-loop μ-loop) (i : ℕ) → i < s .args .frame .loads .count → entryOf (getD (s .args .load-entries .now) i 0) .before ≤ s .args .frame .stores .count
-before-few s i k = load-before (whole s) (s .pre) i k
+before-few s i k = load-before (whole s) (s .pre .0) i k
 
 -- what serve would say of each serial
 agrees : (s : tie.Start Inv-loop μ-loop) (j : ℕ) → j < s .args .frame .loads .count
     → wouldServe (contentsOf (whole s)) (after (oldest (s .args .frame .loads .next) (s .args .frame .loads .count)) j) ≡ loadReadyAt (s .args .load-entries .now) (s .args .store-entries .now) j
-agrees s j k = would-serve-at (whole s) (s .pre) j k (omega (arith, loads-few (whole s) (s .pre))) (before-few s j k)
+agrees s j k = would-serve-at (whole s) (s .pre .0) j k (omega (arith, loads-few (whole s) (s .pre .0))) (before-few s j k)
 
 cast-count : tie.Need-cast-count Inv-loop μ-loop
 cast-count c = omega arith
@@ -54,8 +55,8 @@ loop-holds c =
 mul-unpack : tie.Need-mul-unpack Inv-loop μ-loop
 mul-unpack c = omega arith
 
-element-copy-out-unpack : tie.Need-element-copy-out-unpack Inv-loop μ-loop
-element-copy-out-unpack c = let s = start (c .before .before) in le-trans (c .loop-test .taken) (loads-few (whole s) (s .pre))
+shared-slice-read-unpack : tie.Need-shared-slice-read-unpack Inv-loop μ-loop
+shared-slice-read-unpack c = let s = start (c .before .before .before) in omega (arith, c .before .loop-test .taken, loads-few (whole s) (s .pre .0), s .pre .1)
 
 unpack-requires : tie.Need-unpack-requires Inv-loop μ-loop
 unpack-requires c κs = search needs
@@ -64,13 +65,13 @@ load-ready-requires : tie.Need-load-ready-requires Inv-loop μ-loop
 load-ready-requires c κs =
     let l = c .before .before in
     let s = start (l .before .before) in
-    le-trans (subst (λ (e : Entry). e .before ≤ s .args .frame .stores .count) (sym (c .unpack .ensures)) (before-few s (l .before .loop .i) (l .loop-test .taken))) (stores-few (whole s) (s .pre))
+    le-trans (subst (λ (e : Entry). e .before ≤ s .args .frame .stores .count) (sym (c .unpack .ensures)) (before-few s (l .before .loop .i) (l .loop-test .taken))) (omega (arith, stores-few (whole s) (s .pre .0), s .pre .2))
 
 noted-requires : tie.Need-noted-requires Inv-loop μ-loop
 noted-requires c κs =
     let l = c .before .before .before in
     let s = start (l .before .before) in
-    omega (arith, l .before .loop .inv .1 .few, l .loop-test .taken, loads-few (whole s) (s .pre))
+    omega (arith, l .before .loop .inv .1 .few, l .loop-test .taken, loads-few (whole s) (s .pre .0))
 
 wrapping-add-u32-requires : tie.Need-wrapping-add-u32-requires Inv-loop μ-loop
 wrapping-add-u32-requires c κs = search needs
@@ -98,7 +99,7 @@ returns c =
     let i = c .before .loop .inv in
     let passed = gathering-end (i .1) (c .loop-test .left) (wouldServe (contentsOf (whole s))) (λ j k. ap (λ (x : ℕ). wouldServe (contentsOf (whole s)) (after x j)) (o .oldest-serial .ensures) ∙ agrees s j k) in
     servable-record (whole s) (passed ∙ ap (λ (x : ℕ). filter (wouldServe (contentsOf (whole s))) (serials x (s .args .frame .loads .count))) (o .oldest-serial .ensures))
-    (omega (arith, i .1 .few, i .0, loads-few (whole s) (s .pre))) (i .1 .long)
+    (omega (arith, i .1 .few, i .0, loads-few (whole s) (s .pre .0))) (i .1 .long)
 
 pub servable-loads-spec : {M : Type 1} → statement M
 servable-loads-spec =
@@ -110,7 +111,7 @@ servable-loads-spec =
     oldest-serial-requires
     loop-holds
     mul-unpack
-    element-copy-out-unpack
+    shared-slice-read-unpack
     unpack-requires
     load-ready-requires
     noted-requires

@@ -10,7 +10,7 @@ use Rattle.queue.specs.declared.Queue.{Queue}
 use Rattle.queue.specs.Entry.{entryOf}
 use Rattle.queue.specs.Contents.{contentsOf, oldest, after}
 use Rattle.queue.specs.Ready.{serials, wouldWrite}
-use Rattle.queue.specs.Internal.{queueOf}
+use Rattle.queue.specs.Parts.{queueOf}
 use Rattle.queue.specs.InternalReady.{storeReadyAt}
 use Rattle.queue.proofs.SoundLaws.{loads-few, stores-few, store-before}
 use Rattle.queue.proofs.Progress.{oldest-small}
@@ -29,15 +29,15 @@ abbrev whole : tie.Start Inv-loop μ-loop → Queue
 whole s = queueOf (s .args .frame) (s .args .load-entries .now) (s .args .store-entries .now)
 
 abbrev start : tie.After-oldest-serial Inv-loop μ-loop → tie.Start Inv-loop μ-loop
-start c = c .before .before .before
+start c = c .before .before .before .before .before
 
 before-few : (s : tie.Start Inv-loop μ-loop) (i : ℕ) → i < s .args .frame .stores .count → entryOf (getD (s .args .store-entries .now) i 0) .before ≤ s .args .frame .loads .count
-before-few s i k = store-before (whole s) (s .pre) i k
+before-few s i k = store-before (whole s) (s .pre .0) i k
 
 -- what write would say of each serial
 agrees : (s : tie.Start Inv-loop μ-loop) (j : ℕ) → j < s .args .frame .stores .count
     → wouldWrite (contentsOf (whole s)) (after (oldest (s .args .frame .stores .next) (s .args .frame .stores .count)) j) ≡ storeReadyAt (s .args .load-entries .now) (s .args .store-entries .now) j
-agrees s j k = would-write-at (whole s) (s .pre) j k (omega (arith, stores-few (whole s) (s .pre))) (before-few s j k)
+agrees s j k = would-write-at (whole s) (s .pre .0) j k (omega (arith, stores-few (whole s) (s .pre .0))) (before-few s j k)
 
 cast-count : tie.Need-cast-count Inv-loop μ-loop
 cast-count c = omega arith
@@ -54,13 +54,13 @@ loop-holds c =
 write-fault-requires : tie.Need-write-fault-requires Inv-loop μ-loop
 write-fault-requires c κs =
     let s = start (c .before .before) in
-    (le-trans (c .loop-test .taken) (stores-few (whole s) (s .pre)), le-trans (before-few s (c .before .loop .i) (c .loop-test .taken)) (loads-few (whole s) (s .pre)))
+    (omega (arith, c .loop-test .taken, stores-few (whole s) (s .pre .0), s .pre .2), le-trans (before-few s (c .before .loop .i) (c .loop-test .taken)) (omega (arith, loads-few (whole s) (s .pre .0), s .pre .1)))
 
 noted-requires : tie.Need-noted-requires Inv-loop μ-loop
 noted-requires c κs =
     let l = c .before in
     let s = start (l .before .before) in
-    omega (arith, l .before .loop .inv .1 .few, l .loop-test .taken, stores-few (whole s) (s .pre))
+    omega (arith, l .before .loop .inv .1 .few, l .loop-test .taken, stores-few (whole s) (s .pre .0))
 
 wrapping-add-u32-requires : tie.Need-wrapping-add-u32-requires Inv-loop μ-loop
 wrapping-add-u32-requires c κs = search needs
@@ -83,7 +83,7 @@ returns c =
     let i = c .before .loop .inv in
     let passed = gathering-end (i .1) (c .loop-test .left) (wouldWrite (contentsOf (whole s))) (λ j k. ap (λ (x : ℕ). wouldWrite (contentsOf (whole s)) (after x j)) (o .oldest-serial .ensures) ∙ agrees s j k) in
     writable-record (whole s) (passed ∙ ap (λ (x : ℕ). filter (wouldWrite (contentsOf (whole s))) (serials x (s .args .frame .stores .count))) (o .oldest-serial .ensures))
-    (omega (arith, i .1 .few, i .0, stores-few (whole s) (s .pre))) (i .1 .long)
+    (omega (arith, i .1 .few, i .0, stores-few (whole s) (s .pre .0))) (i .1 .long)
 
 pub writable-stores-spec : {M : Type 1} → statement M
 writable-stores-spec =

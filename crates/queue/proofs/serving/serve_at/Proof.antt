@@ -1,5 +1,6 @@
 use Prim.Native.Nat.{_≤_, _<_}
 use native.Mathlib.Nat.{le-trans}
+use native.Mathlib.Omega.{arith}
 use mathlib.Core.Path.{_≡_, sym, ap, subst, _∙_}
 use mathlib.Core.Bool.{true}
 use lib.ListN.{length}
@@ -9,22 +10,25 @@ use Rattle.queue.specs.declared.Entry.{Entry}
 use Rattle.queue.specs.declared.Queue.{Queue}
 use Rattle.queue.specs.declared.serving.Service.{Service}
 use Rattle.queue.specs.Contents.{contentsOf}
-use Rattle.queue.specs.Internal.{queueOf}
-use Rattle.queue.specs.InternalServe.{countedOf, serveAt}
+use Rattle.queue.specs.Parts.{queueOf, countedOf}
+use Rattle.queue.specs.InternalServe.{serveAt}
 use Rattle.queue.proofs.SoundLaws.{loads-few, stores-few, load-before, load-address}
 use Rattle.queue.proofs.ServeLaws.{bySupply, serve-none, serve-done, serve-no-address, serve-supplied, served-well}
 use Rattle.queue.proofs.serving.serve_at.Statement.{statement}
 use Rattle.queue.proofs.serving.serve_at.Tie as tie
 
 -- the queue that was handed over in parts
-abbrev whole : tie.Start → Queue
-whole s = queueOf (s .args .frame) (s .args .load-entries .now) (s .args .store-entries .now)
+abbrev queueIn : tie.Start → Queue
+queueIn s = queueOf (s .args .frame) (s .args .load-entries .now) (s .args .store-entries .now)
 
 abbrev start : tie.Else1 → tie.Start
-start c = c .before .before .before .before
+start c = c .before .before .before .before .before .before
 
 few : (s : tie.Start) → s .args .frame .loads .count ≤ 64
-few s = loads-few (whole s) (s .pre .0)
+few s = loads-few (queueIn s) (s .pre .0)
+
+room : (s : tie.Start) → s .args .frame .loads .count ≤ length (s .args .load-entries .now)
+room s = omega (arith, few s, s .pre .2)
 
 abbrev held : tie.After-unpack → tie.Else1
 held c = c .before .before
@@ -33,23 +37,23 @@ held c = c .before .before
 before-few : (c : tie.After-unpack) → c .unpack .result .before ≤ start (held c) .args .frame .stores .count
 before-few c =
     let s = start (held c) in
-    subst (λ (e : Entry). e .before ≤ s .args .frame .stores .count) (sym (c .unpack .ensures)) (load-before (whole s) (s .pre .0) (s .args .place) (held c .if1 .left))
+    subst (λ (e : Entry). e .before ≤ s .args .frame .stores .count) (sym (c .unpack .ensures)) (load-before (queueIn s) (s .pre .0) (s .args .place) (held c .if1 .left))
 
 in-memory : (c : tie.After-unpack) → c .unpack .result .addressed ≡ true → c .unpack .result .address < length (start (held c) .args .memory .now)
 in-memory c a =
     let s = start (held c) in
     rw (s .pre .1)
-    (subst (λ (e : Entry). e .addressed ≡ true → e .address < s .args .frame .words) (sym (c .unpack .ensures)) (load-address (whole s) (s .pre .0) (s .args .place) (held c .if1 .left)) a)
+    (subst (λ (e : Entry). e .addressed ≡ true → e .address < s .args .frame .words) (sym (c .unpack .ensures)) (load-address (queueIn s) (s .pre .0) (s .args .place) (held c .if1 .left)) a)
 
 supplied : (c : tie.After-supply-for) → let u = c .before .before .before .before .before in let s = start (held u) in
-    serveAt (contentsOf (whole s)) (s .args .memory .now) (s .args .place) ≡ bySupply (contentsOf (whole s)) (s .args .memory .now) (s .args .place) (u .unpack .result .address) (c .supply-for .result)
+    serveAt (contentsOf (queueIn s)) (s .args .memory .now) (s .args .place) ≡ bySupply (contentsOf (queueIn s)) (s .args .memory .now) (s .args .place) (u .unpack .result .address) (c .supply-for .result)
 supplied c =
     let e3 = c .before .before in
     let e2 = e3 .before .before in
     let u = e2 .before in
     let s = start (held u) in
-    serve-supplied (whole s) (s .args .memory .now) (s .args .place) (held u .if1 .left) (u .unpack .result) (sym (u .unpack .ensures)) (e2 .if2 .left) (not-false (u .unpack .result .addressed) (e3 .if3 .left)) (before-few u)
-    ∙ ap (bySupply (contentsOf (whole s)) (s .args .memory .now) (s .args .place) (u .unpack .result .address)) (sym (c .supply-for .ensures))
+    serve-supplied (queueIn s) (s .args .memory .now) (s .args .place) (held u .if1 .left) (u .unpack .result) (sym (u .unpack .ensures)) (e2 .if2 .left) (not-false (u .unpack .result .addressed) (e3 .if3 .left)) (before-few u)
+    ∙ ap (bySupply (contentsOf (queueIn s)) (s .args .memory .now) (s .args .place) (u .unpack .result .address)) (sym (c .supply-for .ensures))
 
 cast-if1 : tie.Need-cast-if1
 cast-if1 c = search needs
@@ -59,14 +63,14 @@ unserved-requires c κs = search needs
 
 returns : tie.Need-returns
 returns c =
-    let s = c .before .before .before .before .before in
-    rw (serve-none (whole s) (s .args .memory .now) (s .args .place) (c .before .if1 .taken)) (ap (λ (r : Service). countedOf r (whole s)) (c .unserved .ensures))
+    let s = c .before .before .before .before .before .before .before in
+    rw (serve-none (queueIn s) (s .args .memory .now) (s .args .place) (c .before .if1 .taken)) (ap (λ (r : Service). countedOf r (queueIn s)) (c .unserved .ensures))
 
 mul-unpack : tie.Need-mul-unpack
 mul-unpack c = search needs
 
-element-copy-out-unpack : tie.Need-element-copy-out-unpack
-element-copy-out-unpack c = le-trans (c .if1 .left) (few (start c))
+slice-read-unpack : tie.Need-slice-read-unpack
+slice-read-unpack c = le-trans (c .before .if1 .left) (room (start (c .before)))
 
 unpack-requires : tie.Need-unpack-requires
 unpack-requires c κs = search needs
@@ -78,7 +82,7 @@ returns-2 : tie.Need-returns-2
 returns-2 c =
     let u = c .before .before in
     let s = start (held u) in
-    rw (serve-done (whole s) (s .args .memory .now) (s .args .place) (held u .if1 .left) (u .unpack .result) (sym (u .unpack .ensures)) (c .before .if2 .taken)) (ap (λ (r : Service). countedOf r (whole s)) (c .unserved2 .ensures))
+    rw (serve-done (queueIn s) (s .args .memory .now) (s .args .place) (held u .if1 .left) (u .unpack .result) (sym (u .unpack .ensures)) (c .before .if2 .taken)) (ap (λ (r : Service). countedOf r (queueIn s)) (c .unserved2 .ensures))
 
 unserved-requires-3 : tie.Need-unserved-requires-3
 unserved-requires-3 c κs = search needs
@@ -88,7 +92,7 @@ returns-3 c =
     let e2 = c .before .before .before in
     let u = e2 .before in
     let s = start (held u) in
-    rw (serve-no-address (whole s) (s .args .memory .now) (s .args .place) (held u .if1 .left) (u .unpack .result) (sym (u .unpack .ensures)) (e2 .if2 .left) (not-true (u .unpack .result .addressed) (c .before .if3 .taken))) (ap (λ (r : Service). countedOf r (whole s)) (c .unserved3 .ensures))
+    rw (serve-no-address (queueIn s) (s .args .memory .now) (s .args .place) (held u .if1 .left) (u .unpack .result) (sym (u .unpack .ensures)) (e2 .if2 .left) (not-true (u .unpack .result .addressed) (c .before .if3 .taken))) (ap (λ (r : Service). countedOf r (queueIn s)) (c .unserved3 .ensures))
 
 cast-supply-for : tie.Need-cast-supply-for
 cast-supply-for c = search needs
@@ -97,7 +101,7 @@ supply-for-requires : tie.Need-supply-for-requires
 supply-for-requires c κs =
     let u = c .before .before .before .before in
     let s = start (held u) in
-    le-trans (before-few u) (stores-few (whole s) (s .pre .0))
+    le-trans (before-few u) (omega (arith, stores-few (queueIn s) (s .pre .0), s .pre .3))
 
 enum-told : tie.Need-enum-told
 enum-told c = search needs
@@ -123,7 +127,7 @@ shared-slice-read-served c =
 served-requires : tie.Need-served-requires
 served-requires c κs =
     let u = c .before .before .before .before .before .before .before .before .before .before in
-    le-trans (held u .if1 .left) (few (start (held u)))
+    le-trans (held u .if1 .left) (room (start (held u)))
 
 enum-told-3 : tie.Need-enum-told-3
 enum-told-3 c = search needs
@@ -137,35 +141,43 @@ enum-known-word c = search needs
 served-requires-2 : tie.Need-served-requires-2
 served-requires-2 c κs =
     let u = c .before .before .before .before .before .before .before .before .before in
-    le-trans (held u .if1 .left) (few (start (held u)))
+    le-trans (held u .if1 .left) (room (start (held u)))
 
 returns-4 : tie.Need-returns-4
 returns-4 c =
     let m = c .before .before .before in
     let s = start (held (m .before .before .before .before .before)) in
-    rw (supplied m, c .before .enum-told .given .1) (ap (λ (r : Service). countedOf r (whole s)) (c .unserved4 .ensures))
+    rw (supplied m, c .before .enum-told .given .1) (ap (λ (r : Service). countedOf r (queueIn s)) (c .unserved4 .ensures))
 
 returns-5 : tie.Need-returns-5
 returns-5 c =
-    let m = c .before .before .before .before .before .before in
+    let g = c .before .before in
+    let m = g .before .before .before .before .before .before in
     let u = m .before .before .before .before .before in
     let s = start (held u) in
-    rw (supplied m, c .before .before .before .before .enum-told2 .given .1)
-    (served-well (whole s) (s .args .counts) (s .args .place) _ _ (s .pre .2) (few s) (held u .if1 .left) (c .served .ensures .0) (c .served .ensures .1))
+    rw (supplied m, g .before .before .before .before .enum-told2 .given .1)
+    (served-well (queueIn s) (s .args .counts) (s .args .place) _ _ (s .pre .2) (few s) (held u .if1 .left) (g .served .ensures .0) (g .served .ensures .1))
 
 returns-6 : tie.Need-returns-6
 returns-6 c =
     let m = c .before .before .before in
     let s = start (held (m .before .before .before .before .before)) in
-    rw (supplied m, c .before .enum-told3 .given .1) (ap (λ (r : Service). countedOf r (whole s)) (c .unserved5 .ensures))
+    rw (supplied m, c .before .enum-told3 .given .1) (ap (λ (r : Service). countedOf r (queueIn s)) (c .unserved5 .ensures))
 
 returns-7 : tie.Need-returns-7
 returns-7 c =
-    let m = c .before .before .before .before .before in
+    let g = c .before .before in
+    let m = g .before .before .before .before .before in
     let u = m .before .before .before .before .before in
     let s = start (held u) in
-    rw (supplied m, c .before .before .before .word .given .1)
-    (served-well (whole s) (s .args .counts) (s .args .place) _ _ (s .pre .2) (few s) (held u .if1 .left) (c .served2 .ensures .0) (c .served2 .ensures .1))
+    rw (supplied m, g .before .before .before .word .given .1)
+    (served-well (queueIn s) (s .args .counts) (s .args .place) _ _ (s .pre .2) (few s) (held u .if1 .left) (g .served2 .ensures .0) (g .served2 .ensures .1))
+
+same-length : tie.Need-same-length
+same-length c = search needs
+
+same-length-2 : tie.Need-same-length-2
+same-length-2 c = search needs
 
 pub serve-at-spec : {M : Type 1} → statement M
 serve-at-spec =
@@ -175,7 +187,7 @@ serve-at-spec =
     unserved-requires
     returns
     mul-unpack
-    element-copy-out-unpack
+    slice-read-unpack
     unpack-requires
     unserved-requires-2
     returns-2
@@ -195,6 +207,8 @@ serve-at-spec =
     enum-known-word
     served-requires-2
     returns-4
+    same-length
     returns-5
     returns-6
+    same-length-2
     returns-7)

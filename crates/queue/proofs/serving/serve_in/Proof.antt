@@ -1,29 +1,31 @@
-use mathlib.Core.Path.{_≡_, sym, ap, _∙_}
-use mathlib.Core.Bool.{true}
-use borrow.Author.Tests.{not-true, not-false}
+use mathlib.Core.Path.{ap}
+use Rattle.queue.specs.Parts.{queueOf, countedOf}
+use Rattle.queue.proofs.PartsLaws.{Fit, fit, unfit}
 use borrow.Author.Needs.{needs}
 use Rattle.queue.specs.declared.Queue.{Queue}
 use Rattle.queue.specs.declared.serving.Service.{Service}
 use Rattle.queue.specs.Contents.{contentsOf}
-use Rattle.queue.specs.Sound.{sound}
-use Rattle.queue.specs.Internal.{queueOf}
-use Rattle.queue.specs.InternalServe.{countedOf}
+use Rattle.queue.specs.Serve.{serve}
 use Rattle.queue.proofs.ServeLaws.{serve-unsound, serve-memory, serve-place}
 use Rattle.queue.proofs.serving.serve_in.Statement.{statement}
 use Rattle.queue.proofs.serving.serve_in.Tie as tie
 
 -- the queue that was handed over in parts
-abbrev whole : tie.Start → Queue
-whole s = queueOf (s .args .frame) (s .args .load-entries .now) (s .args .store-entries .now)
+abbrev queueIn : tie.Start → Queue
+queueIn s = queueOf (s .args .frame) (s .args .load-entries .now) (s .args .store-entries .now)
 
-abbrev start : tie.After-parts-sound → tie.Start
-start c = c .before .before .before
+abbrev start : tie.After-sound-in → tie.Start
+start c = c .before .before .before .before .before
 
-right : (c : tie.Else1) → sound (contentsOf (whole (start (c .before)))) ≡ true
-right c = sym (c .before .parts-sound .ensures) ∙ not-false _ (c .if1 .left)
+abbrev queue : tie.After-sound-in → Queue
+queue c = queueIn (start c)
 
-parts-sound-requires : tie.Need-parts-sound-requires
-parts-sound-requires c κs = search needs
+-- the runs are whole and the queue is sound
+good : (c : tie.Else1) → Fit (queue (c .before))
+good c = fit (queue (c .before)) (c .before .sound-in .ensures) (c .if1 .left)
+
+sound-in-requires : tie.Need-sound-in-requires
+sound-in-requires c κs = search needs
 
 unserved-requires : tie.Need-unserved-requires
 unserved-requires c κs = search needs
@@ -32,7 +34,8 @@ returns : tie.Need-returns
 returns c =
     let p = c .before .before in
     let s = start p in
-    rw (serve-unsound (whole s) (s .args .memory .now) (s .args .serial) (sym (p .parts-sound .ensures) ∙ not-true _ (c .before .if1 .taken))) (ap (λ (r : Service). countedOf r (whole s)) (c .unserved .ensures))
+    let q = queueIn s in
+    rw (unfit q (serve (contentsOf q) (s .args .memory .now) (s .args .serial)) (c .before .before .sound-in .ensures) (c .before .if1 .taken) (serve-unsound q (s .args .memory .now) (s .args .serial))) (ap (λ (r : Service). countedOf r (queueIn s)) (c .unserved .ensures))
 
 cast-if2 : tie.Need-cast-if2
 cast-if2 c = search needs
@@ -44,7 +47,7 @@ returns-2 : tie.Need-returns-2
 returns-2 c =
     let e = c .before .before .before in
     let s = start (e .before) in
-    rw (serve-memory (whole s) (s .args .memory .now) (s .args .serial) (right e) (c .before .if2 .taken)) (ap (λ (r : Service). countedOf r (whole s)) (c .unserved2 .ensures))
+    rw (good e .full, serve-memory (queueIn s) (s .args .memory .now) (s .args .serial) (good e .right) (c .before .if2 .taken)) (ap (λ (r : Service). countedOf r (queueIn s)) (c .unserved2 .ensures))
 
 place-of-requires : tie.Need-place-of-requires
 place-of-requires c κs = search needs
@@ -53,26 +56,39 @@ serve-at-requires : tie.Need-serve-at-requires
 serve-at-requires c κs =
     let e2 = c .before .before .before in
     let e = e2 .before .before in
-    (right e, e2 .if2 .left, start (e .before) .pre)
+    (good e .right, e2 .if2 .left, good e .loads-whole, good e .stores-whole)
 
 returns-3 : tie.Need-returns-3
 returns-3 c =
-    let p = c .before .before in
+    let g = c .before .before in
+    let p = g .before .before in
     let e2 = p .before .before in
     let e = e2 .before .before in
     let s = start (e .before) in
-    rw (serve-place (whole s) (s .args .memory .now) (s .args .serial) (right e) (e2 .if2 .left), ← p .place-of .ensures) (c .serve-at .ensures)
+    rw (good e .full, serve-place (queueIn s) (s .args .memory .now) (s .args .serial) (good e .right) (e2 .if2 .left), ← p .place-of .ensures) (g .serve-at .ensures)
+
+same-length : tie.Need-same-length
+same-length c = search needs
+
+same-length-2 : tie.Need-same-length-2
+same-length-2 c = search needs
+
+same-length-3 : tie.Need-same-length-3
+same-length-3 c = search needs
 
 pub serve-in-spec : {M : Type 1} → statement M
 serve-in-spec =
     tie.close
     (tie.spec
-    parts-sound-requires
+    sound-in-requires
     unserved-requires
+    same-length
     returns
     cast-if2
     unserved-requires-2
+    same-length-2
     returns-2
     place-of-requires
     serve-at-requires
+    same-length-3
     returns-3)

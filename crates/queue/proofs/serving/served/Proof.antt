@@ -16,8 +16,8 @@ use Rattle.queue.proofs.serving.served.Tie as tie
 mul-unpack : tie.Need-mul-unpack
 mul-unpack c = search needs
 
-element-copy-out-unpack : tie.Need-element-copy-out-unpack
-element-copy-out-unpack c = search needs
+slice-read-unpack : tie.Need-slice-read-unpack
+slice-read-unpack c = search needs
 
 unpack-requires : tie.Need-unpack-requires
 unpack-requires c κs = search needs
@@ -31,17 +31,17 @@ pack-requires c κs = search needs
 mul-load-entries : tie.Need-mul-load-entries
 mul-load-entries c = search needs
 
-element-write-load-entries : tie.Need-element-write-load-entries
-element-write-load-entries c = search needs
+slice-write-load-entries : tie.Need-slice-write-load-entries
+slice-write-load-entries c = search needs
 
 counted-requires : tie.Need-counted-requires
 counted-requires c κs = search needs
 
 -- the entry that is put in place is the one with its value
-packed : (c : tie.After-pack) → let s = c .before .before .before .before in
+packed : (c : tie.After-pack) → let s = c .before .before .before .before .before in
     entryOf (c .pack .result) ≡ withArgument (Argument.Word (s .args .word)) (entryOf (getD (s .args .load-entries .now) (s .args .at) 0))
 packed c =
-    let s = c .before .before .before .before in
+    let s = c .before .before .before .before .before in
     let e : Entry = entryOf (getD (s .args .load-entries .now) (s .args .at) 0) in
     let k : Small e = entry-small (getD (s .args .load-entries .now) (s .args .at) 0) in
     let now : Entry = withArgument (Argument.Word (s .args .word)) e in
@@ -51,21 +51,25 @@ packed c =
 returns : tie.Need-returns
 returns c =
     let p = c .before in
-    let s = p .before .before .before .before in (
+    let s = p .before .before .before .before .before in (
       ap (λ (k : Counts). record { answer = 0; value = Value.Word (s .args .word); counts = k }) (c .counted .ensures),
       record { number = p .pack .result; holds = ap loadOf (packed p); leaves = refl },
     )
+
+same-length : tie.Need-same-length
+same-length c = search needs
 
 pub served-spec : {M : Type 1} → statement M
 served-spec =
     tie.close
     (tie.spec
     mul-unpack
-    element-copy-out-unpack
+    slice-read-unpack
     unpack-requires
     with-argument-requires
     pack-requires
     mul-load-entries
-    element-write-load-entries
+    slice-write-load-entries
     counted-requires
+    same-length
     returns)

@@ -28,10 +28,10 @@ walked c = storesIn (c .args .n) (c .args .entries .now)
 abbrev turn : tie.After-unpack Inv-loop μ-loop → tie.At-loop Inv-loop μ-loop
 turn c = c .before .before .before
 
-here : (c : tie.After-unpack Inv-loop μ-loop) → drop (turn c .loop .i) (walked (turn c .before)) ≡ storeOf (c .unpack .result) ∷ drop (turn c .loop .i + 1) (walked (turn c .before))
+here : (c : tie.After-unpack Inv-loop μ-loop) → drop (turn c .loop .i) (walked (turn c .before .before)) ≡ storeOf (c .unpack .result) ∷ drop (turn c .loop .i + 1) (walked (turn c .before .before))
 here c =
     side-here storeIn 0 _ _ _ (c .before .before .loop-test .taken)
-    ∙ ap (λ (e : Entry). storeOf e ∷ drop (turn c .loop .i + 1) (walked (turn c .before))) (sym (c .unpack .ensures))
+    ∙ ap (λ (e : Entry). storeOf e ∷ drop (turn c .loop .i + 1) (walked (turn c .before .before))) (sym (c .unpack .ensures))
 
 known : (c : tie.Else1 Inv-loop μ-loop) → hasAddress (storeOf (c .before .before .unpack .result)) ≡ true
 known c = address-known (c .before .before .unpack .result) (c .if1 .left)
@@ -42,8 +42,8 @@ loop-holds c = (search needs, supplying-none)
 mul-unpack : tie.Need-mul-unpack Inv-loop μ-loop
 mul-unpack c = omega arith
 
-element-copy-out-unpack : tie.Need-element-copy-out-unpack Inv-loop μ-loop
-element-copy-out-unpack c = omega arith
+shared-slice-read-unpack : tie.Need-shared-slice-read-unpack Inv-loop μ-loop
+shared-slice-read-unpack c = omega arith
 
 unpack-requires : tie.Need-unpack-requires Inv-loop μ-loop
 unpack-requires c κs = search needs
@@ -84,7 +84,7 @@ loop-again-2 c =
     (omega arith, supplying-on (turn u .loop .inv .1) (here u) (known k) (sym (c .before .supplies-address .ensures) ∙ c .if2 .left))
 
 returns-2 : tie.Need-returns-2 Inv-loop μ-loop
-returns-2 c = supplying-end (c .before .loop .inv .1) (side-end storeIn 0 _ (c .before .before .args .entries .now) _ (c .loop-test .left))
+returns-2 c = supplying-end (c .before .loop .inv .1) (side-end storeIn 0 _ (c .before .before .before .args .entries .now) _ (c .loop-test .left))
 
 pub supply-for-spec : {M : Type 1} → statement M
 supply-for-spec =
@@ -94,7 +94,7 @@ supply-for-spec =
     μ-loop
     loop-holds
     mul-unpack
-    element-copy-out-unpack
+    shared-slice-read-unpack
     unpack-requires
     returns
     supplies-address-requires

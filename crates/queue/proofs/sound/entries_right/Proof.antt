@@ -18,11 +18,11 @@ Inv-loop entries held words others count i₀ i = (i ≤ held) × AllYet (entryR
 abbrev μ-loop : tie.MeasureT-loop
 μ-loop entries held words others count i₀ i = count - i
 
-here : (c : tie.After-entry-right Inv-loop μ-loop) → let l = c .before .before .before in let s = l .before .before in
+here : (c : tie.After-entry-right Inv-loop μ-loop) → let l = c .before .before .before in let s = l .before .before .before in
     drop (l .before .loop .i) (entriesIn (s .args .held) (s .args .entries .now)) ≡ c .before .unpack .result ∷ drop (l .before .loop .i + 1) (entriesIn (s .args .held) (s .args .entries .now))
 here c =
     let l = c .before .before .before in
-    let s = l .before .before in
+    let s = l .before .before .before in
     rw (c .before .unpack .ensures) (side-here entryOf 0 (s .args .held) (s .args .entries .now) (l .before .loop .i) (l .loop-test .taken))
 
 loop-holds : tie.Need-loop-holds Inv-loop μ-loop
@@ -31,8 +31,8 @@ loop-holds c = (search needs, all-none)
 mul-unpack : tie.Need-mul-unpack Inv-loop μ-loop
 mul-unpack c = omega arith
 
-element-copy-out-unpack : tie.Need-element-copy-out-unpack Inv-loop μ-loop
-element-copy-out-unpack c = omega arith
+shared-slice-read-unpack : tie.Need-shared-slice-read-unpack Inv-loop μ-loop
+shared-slice-read-unpack c = omega arith
 
 unpack-requires : tie.Need-unpack-requires Inv-loop μ-loop
 unpack-requires c κs = search needs
@@ -54,7 +54,7 @@ loop-again c = (omega arith, all-on (c .before .before .before .before .before .
 
 returns-2 : tie.Need-returns-2 Inv-loop μ-loop
 returns-2 c =
-    let s = c .before .before in
+    let s = c .before .before .before in
     all-end (c .before .loop .inv .1) (side-end entryOf 0 (s .args .held) (s .args .entries .now) (c .before .loop .i) (c .loop-test .left))
 
 pub entries-right-spec : {M : Type 1} → statement M
@@ -65,7 +65,7 @@ entries-right-spec =
     μ-loop
     loop-holds
     mul-unpack
-    element-copy-out-unpack
+    shared-slice-read-unpack
     unpack-requires
     entry-right-requires
     returns

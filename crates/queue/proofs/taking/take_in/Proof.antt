@@ -1,46 +1,45 @@
 -- Each test that is left behind is a step of the rule; the test that fails is its refusal.
 use Prim.Native.Nat.{_<_}
 use native.Mathlib.Nat.{le-trans}
-use native.Mathlib.Omega.{arith}
 use mathlib.Core.Path.{_≡_, refl, sym, ap, _∙_}
-use mathlib.Core.Bool.{true, false}
-use lib.ListN.{getD, length-set}
+use mathlib.Core.Bool.{true}
+use lib.ListN.{length, getD, length-set}
 use borrow.Author.Tests.{not-true, not-false}
 use Rattle.table.specs.Basics.{any}
 use Rattle.table.specs.Table.{groupsOf}
 use Rattle.queue.specs.declared.Queue.{Queue}
 use Rattle.queue.specs.declared.entries.Mark.the-variants.{Finished}
 use Rattle.queue.specs.Contents.{loadOf, loadIn, contentsOf, firstPlace}
-use Rattle.queue.specs.Sound.{sound}
 use Rattle.queue.specs.Arguments.{isLoadPort}
 use Rattle.queue.specs.Write.{settle}
-use Rattle.queue.specs.Take.{untaken, loadTaken}
-use Rattle.queue.specs.Internal.{queueOf, loadsIn, lacks}
+use Rattle.queue.specs.Take.{untaken, loadTaken, take}
+use Rattle.queue.specs.Parts.{queueOf}
+use Rattle.queue.specs.Internal.{loadsIn, lacks}
 use Rattle.queue.proofs.EntryLaws.{done-number, load-untaken, side-place-same}
 use Rattle.queue.proofs.ContentsLaws.{load-anew}
-use Rattle.queue.proofs.SoundLaws.{table-right, loads-few, stores-few}
+use Rattle.queue.proofs.SoundLaws.{table-right}
 use Rattle.queue.proofs.TakeLaws.{take-unsound, take-no-port, take-none, take-unserved, take-served}
+use Rattle.queue.proofs.PartsLaws.{Fit, fit, unfit}
+use Rattle.queue.proofs.GroupLaws.{groups-few}
 use borrow.Author.Needs.{needs}
 use Rattle.queue.proofs.taking.take_in.Statement.{statement}
 use Rattle.queue.proofs.taking.take_in.Tie as tie
 
-abbrev start : tie.After-parts-sound → tie.Start
-start c = c .before .before .before
+abbrev start : tie.After-sound-in → tie.Start
+start c = c .before .before .before .before .before
 
-abbrev queue : tie.After-parts-sound → Queue
+abbrev queue : tie.After-sound-in → Queue
 queue c =
     let a = start c .args in
-    queueOf (a .frame) (a .load-entries .now) (a .store-entries .now)
+    queueOf (a .t1) (a .load-entries .now) (a .store-entries .now)
 
-right : (c : tie.Else1) → sound (contentsOf (queue (c .before))) ≡ true
-right c = sym (c .before .parts-sound .ensures) ∙ not-false _ (c .if1 .left)
-
-wrong : (c : tie.Then1) → sound (contentsOf (queue (c .before))) ≡ false
-wrong c = sym (c .before .parts-sound .ensures) ∙ not-true _ (c .if1 .taken)
+-- the runs are whole and the queue is sound
+good : (c : tie.Else1) → Fit (queue (c .before))
+good c = fit (queue (c .before)) (c .before .sound-in .ensures) (c .if1 .left)
 
 -- where the port was looked up, and where its oldest untaken load was
 abbrev sure : tie.After-has-port → tie.Else1
-sure c = c .before .before
+sure c = c .before .before .before .before .before
 
 abbrev known : tie.After-oldest-without → tie.Else2
 known c = c .before .before .before
@@ -56,10 +55,10 @@ place c =
     c .oldest-without .ensures ∙ sym (side-place-same loadOf (untaken port) (lacks Finished port) (λ e. load-untaken e port) (queue s .frame .loads .count) (queue s .«load_entries»))
 
 -- it is a place of the array
-inside : (c : tie.Else3) → c .before .before .oldest-without .result < 64
+inside : (c : tie.Else3) → let s = sure (known (c .before .before) .before) .before in c .before .before .oldest-without .result < length (queue s .«load_entries»)
 inside c =
     let e = sure (known (c .before .before) .before) in
-    le-trans (c .if3 .left) (loads-few (queue (e .before)) (right e))
+    le-trans (c .if3 .left) (good e .loads-room)
 
 -- what stands there once the load is taken
 taken : (c : tie.After-pack) → let u = c .before .before .before in let o = u .before .before .before .before in
@@ -71,34 +70,49 @@ taken c =
     ap loadIn (c .pack .ensures)
     ∙ rw (u .unpack .ensures, done-number (getD l (o .oldest-without .result) 0))
 
-parts-sound-requires : tie.Need-parts-sound-requires
-parts-sound-requires c κs = search needs
+sound-in-requires : tie.Need-sound-in-requires
+sound-in-requires c κs = search needs
 
 refused-requires : tie.Need-refused-requires
 refused-requires c κs = search needs
 
+same-length : tie.Need-same-length
+same-length c = search needs
+
+same-length-2 : tie.Need-same-length-2
+same-length-2 c = search needs
+
 returns : tie.Need-returns
 returns c =
     let s = c .before .before in
-    rw (take-unsound (queue s) (start s .args .port) (wrong (c .before)), c .refused .ensures)
+    let q = queue s in
+    rw (unfit q (take (contentsOf q) (start s .args .port)) (c .before .before .sound-in .ensures) (c .before .if1 .taken) (take-unsound q (start s .args .port)), c .refused .ensures)
 
 has-port-requires : tie.Need-has-port-requires
-has-port-requires c κs = table-right (queue (c .before .before)) (right (c .before))
+has-port-requires c κs =
+    let e = c .before .before .before .before in
+    groups-few (queue (e .before) .frame .table) (table-right (queue (e .before)) (good e .right))
 
 refused-requires-2 : tie.Need-refused-requires-2
 refused-requires-2 c κs = search needs
+
+same-length-3 : tie.Need-same-length-3
+same-length-3 c = search needs
+
+same-length-4 : tie.Need-same-length-4
+same-length-4 c = search needs
 
 returns-2 : tie.Need-returns-2
 returns-2 c =
     let p = c .before .before in
     let e = sure p in
     let s = e .before in
-    rw (take-no-port (queue s) (start s .args .port) (right e) (sym (p .has-port .ensures) ∙ not-true _ (c .before .if2 .taken)), c .refused2 .ensures)
+    rw (good e .full, take-no-port (queue s) (start s .args .port) (good e .right) (sym (p .has-port .ensures) ∙ not-true _ (c .before .if2 .taken)), c .refused2 .ensures)
 
 oldest-without-requires : tie.Need-oldest-without-requires
 oldest-without-requires c κs =
     let e = sure (c .before .before .before) in
-    loads-few (queue (e .before)) (right e)
+    good e .loads-room
 
 cast-if3 : tie.Need-cast-if3
 cast-if3 c = search needs
@@ -106,25 +120,37 @@ cast-if3 c = search needs
 refused-requires-3 : tie.Need-refused-requires-3
 refused-requires-3 c κs = search needs
 
+same-length-5 : tie.Need-same-length-5
+same-length-5 c = search needs
+
+same-length-6 : tie.Need-same-length-6
+same-length-6 c = search needs
+
 returns-3 : tie.Need-returns-3
 returns-3 c =
     let o = c .before .before .before in
     let p = known o in
     let e = sure (p .before) in
     let s = e .before in
-    rw (take-none (queue s) (start s .args .port) (right e) (port p) (o .oldest-without .result) (place o) (c .before .if3 .taken), c .refused3 .ensures)
+    rw (good e .full, take-none (queue s) (start s .args .port) (good e .right) (port p) (o .oldest-without .result) (place o) (c .before .if3 .taken), c .refused3 .ensures)
 
 mul-unpack : tie.Need-mul-unpack
 mul-unpack c = search needs
 
-element-copy-out-unpack : tie.Need-element-copy-out-unpack
-element-copy-out-unpack c = inside c
+slice-read-unpack : tie.Need-slice-read-unpack
+slice-read-unpack c = inside (c .before)
 
 unpack-requires : tie.Need-unpack-requires
 unpack-requires c κs = search needs
 
 refused-requires-4 : tie.Need-refused-requires-4
 refused-requires-4 c κs = search needs
+
+same-length-7 : tie.Need-same-length-7
+same-length-7 c = search needs
+
+same-length-8 : tie.Need-same-length-8
+same-length-8 c = search needs
 
 returns-4 : tie.Need-returns-4
 returns-4 c =
@@ -134,7 +160,7 @@ returns-4 c =
     let p = known o in
     let e = sure (p .before) in
     let s = e .before in
-    rw (take-unserved (queue s) (start s .args .port) (right e) (port p) (o .oldest-without .result) (place o) (i .if3 .left) (u .unpack .result) (sym (u .unpack .ensures)) (not-true (u .unpack .result .filled) (c .before .if4 .taken)), c .refused4 .ensures)
+    rw (good e .full, take-unserved (queue s) (start s .args .port) (good e .right) (port p) (o .oldest-without .result) (place o) (i .if3 .left) (u .unpack .result) (sym (u .unpack .ensures)) (not-true (u .unpack .result .filled) (c .before .if4 .taken)), c .refused4 .ensures)
 
 pack-requires : tie.Need-pack-requires
 pack-requires c κs = search needs
@@ -142,8 +168,8 @@ pack-requires c κs = search needs
 mul-load-entries : tie.Need-mul-load-entries
 mul-load-entries c = search needs
 
-element-write-load-entries : tie.Need-element-write-load-entries
-element-write-load-entries c = inside (c .before .before .before .before .before)
+slice-write-load-entries : tie.Need-slice-write-load-entries
+slice-write-load-entries c = inside (c .before .before .before .before .before)
 
 settle-requires : tie.Need-settle-requires
 settle-requires c κs =
@@ -151,11 +177,22 @@ settle-requires c κs =
     let o = w .before .before .before .before .before .before .before in
     let e = sure (known o .before) in
     let s = e .before in
-    (loads-few (queue s) (right e), stores-few (queue s) (right e), length-set (queue s .«load_entries») (o .oldest-without .result) (w .pack .result) ∙ start s .pre .0, start s .pre .1)
+    (rw (length-set (queue s .«load_entries») (o .oldest-without .result) (w .pack .result)) (good e .loads-room), good e .stores-room)
+
+same-length-9 : tie.Need-same-length-9
+same-length-9 c =
+    let t = c .before .before .before .before in
+    let w = t .before .before .before in
+    let o = w .before .before .before .before .before .before .before in
+    c .before .before .before .load-entries .given ∙ length-set (queue (sure (known o .before) .before) .«load_entries») (o .oldest-without .result) (w .pack .result)
+
+same-length-10 : tie.Need-same-length-10
+same-length-10 c = search needs
 
 returns-5 : tie.Need-returns-5
 returns-5 c =
-    let w = c .before .before .before in
+    let t = c .before .before .before .before in
+    let w = t .before .before .before in
     let u = w .before .before .before in
     let i = u .before .before in
     let o = i .before .before in
@@ -163,34 +200,44 @@ returns-5 c =
     let e = sure (p .before) in
     let s = e .before in
     let q = queue s in
-    rw (take-served q (start s .args .port) (right e) (port p) (o .oldest-without .result) (place o) (i .if3 .left) (u .unpack .result) (sym (u .unpack .ensures)) (not-false (u .unpack .result .filled) (w .before .if4 .left)))
+    rw (good e .full, take-served q (start s .args .port) (good e .right) (port p) (o .oldest-without .result) (place o) (i .if3 .left) (u .unpack .result) (sym (u .unpack .ensures)) (not-false (u .unpack .result .filled) (w .before .if4 .left)))
     (record {
       answer = refl;
       gives = refl;
-      holds = c .settle .ensures ∙ ap settle (load-anew q loadTaken (o .oldest-without .result) (w .pack .result) (omega (arith, loads-few q (right e), start s .pre .0)) (i .if3 .left) (taken w));
+      holds = t .settle .ensures ∙ ap settle (load-anew q loadTaken (o .oldest-without .result) (w .pack .result) (good e .loads-room) (i .if3 .left) (taken w));
     })
 
 pub take-in-spec : {M : Type 1} → statement M
 take-in-spec =
     tie.close
     (tie.spec
-    parts-sound-requires
+    sound-in-requires
     refused-requires
+    same-length
+    same-length-2
     returns
     has-port-requires
     refused-requires-2
+    same-length-3
+    same-length-4
     returns-2
     oldest-without-requires
     cast-if3
     refused-requires-3
+    same-length-5
+    same-length-6
     returns-3
     mul-unpack
-    element-copy-out-unpack
+    slice-read-unpack
     unpack-requires
     refused-requires-4
+    same-length-7
+    same-length-8
     returns-4
     pack-requires
     mul-load-entries
-    element-write-load-entries
+    slice-write-load-entries
     settle-requires
+    same-length-9
+    same-length-10
     returns-5)

@@ -19,16 +19,16 @@ Inv-loop entries n done address i₀ i = (i ≤ n) × AllYet (givesWay done addr
 abbrev μ-loop : tie.MeasureT-loop
 μ-loop entries n done address i₀ i = n - i
 
-here : (l : tie.In-loop Inv-loop μ-loop) → let s = l .before .before in
+here : (l : tie.In-loop Inv-loop μ-loop) → let s = l .before .before .before in
     drop (l .before .loop .i) (entriesIn (s .args .n) (s .args .entries .now))
     ≡ entryOf (getD (s .args .entries .now) (l .before .loop .i) 0) ∷ drop (l .before .loop .i + 1) (entriesIn (s .args .n) (s .args .entries .now))
 here l = side-here entryOf 0 _ _ _ (l .loop-test .taken)
 
 -- what was found of the entry that a turn looks at
-found : (c : tie.After-gives-way Inv-loop μ-loop) → let l = c .before .before .before in let s = l .before .before in
+found : (c : tie.After-gives-way Inv-loop μ-loop) → let l = c .before .before .before in let s = l .before .before .before in
     givesWay (s .args .done) (s .args .address) (entryOf (getD (s .args .entries .now) (l .before .loop .i) 0)) ≡ c .gives-way .result
 found c =
-    let s = c .before .before .before .before .before in
+    let s = c .before .before .before .before .before .before in
     sym (c .gives-way .ensures ∙ ap (givesWay (s .args .done) (s .args .address)) (c .before .unpack .ensures))
 
 loop-holds : tie.Need-loop-holds Inv-loop μ-loop
@@ -37,8 +37,8 @@ loop-holds c = (search needs, all-none)
 mul-unpack : tie.Need-mul-unpack Inv-loop μ-loop
 mul-unpack c = omega arith
 
-element-copy-out-unpack : tie.Need-element-copy-out-unpack Inv-loop μ-loop
-element-copy-out-unpack c = omega arith
+shared-slice-read-unpack : tie.Need-shared-slice-read-unpack Inv-loop μ-loop
+shared-slice-read-unpack c = omega arith
 
 unpack-requires : tie.Need-unpack-requires Inv-loop μ-loop
 unpack-requires c κs = search needs
@@ -63,7 +63,7 @@ loop-again c =
     (omega arith, all-on (l .before .loop .inv .1) (here l) (found (c .before) ∙ not-false _ (c .if1 .left)))
 
 returns-2 : tie.Need-returns-2 Inv-loop μ-loop
-returns-2 c = all-end (c .before .loop .inv .1) (side-end entryOf 0 _ (c .before .before .args .entries .now) _ (c .loop-test .left))
+returns-2 c = all-end (c .before .loop .inv .1) (side-end entryOf 0 _ (c .before .before .before .args .entries .now) _ (c .loop-test .left))
 
 pub all-give-way-spec : {M : Type 1} → statement M
 all-give-way-spec =
@@ -73,7 +73,7 @@ all-give-way-spec =
     μ-loop
     loop-holds
     mul-unpack
-    element-copy-out-unpack
+    shared-slice-read-unpack
     unpack-requires
     gives-way-requires
     returns

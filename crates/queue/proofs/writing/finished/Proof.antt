@@ -18,14 +18,14 @@ Inv-loop entries held i₀ i = (i ≤ held) × Leaving finished (entriesIn held 
 abbrev μ-loop : tie.MeasureT-loop
 μ-loop entries held i₀ i = held - i
 
-here : (l : tie.In-loop Inv-loop μ-loop) → let s = l .before .before in
+here : (l : tie.In-loop Inv-loop μ-loop) → let s = l .before .before .before in
     drop (l .before .loop .i) (entriesIn (s .args .held) (s .args .entries .now))
     ≡ entryOf (getD (s .args .entries .now) (l .before .loop .i) 0) ∷ drop (l .before .loop .i + 1) (entriesIn (s .args .held) (s .args .entries .now))
 here l = side-here entryOf 0 _ _ _ (l .loop-test .taken)
 
 -- the entry that a turn looks at
 found : (c : tie.After-unpack Inv-loop μ-loop) → let l = c .before .before in
-    finished (entryOf (getD (l .before .before .args .entries .now) (l .before .loop .i) 0)) ≡ finished (c .unpack .result)
+    finished (entryOf (getD (l .before .before .before .args .entries .now) (l .before .loop .i) 0)) ≡ finished (c .unpack .result)
 found c = sym (ap finished (c .unpack .ensures))
 
 loop-holds : tie.Need-loop-holds Inv-loop μ-loop
@@ -37,8 +37,8 @@ cast-at c = omega arith
 mul-unpack : tie.Need-mul-unpack Inv-loop μ-loop
 mul-unpack c = omega arith
 
-element-copy-out-unpack : tie.Need-element-copy-out-unpack Inv-loop μ-loop
-element-copy-out-unpack c = omega arith
+shared-slice-read-unpack : tie.Need-shared-slice-read-unpack Inv-loop μ-loop
+shared-slice-read-unpack c = omega arith
 
 unpack-requires : tie.Need-unpack-requires Inv-loop μ-loop
 unpack-requires c κs = search needs
@@ -62,7 +62,7 @@ loop-again c =
     (omega arith, leaving-on (l .before .loop .inv .1) (here l) (found u ∙ not-false _ (c .if1 .left)))
 
 returns-2 : tie.Need-returns-2 Inv-loop μ-loop
-returns-2 c = leaving-end (c .before .loop .inv .1) (side-end entryOf 0 _ (c .before .before .args .entries .now) _ (c .loop-test .left))
+returns-2 c = leaving-end (c .before .loop .inv .1) (side-end entryOf 0 _ (c .before .before .before .args .entries .now) _ (c .loop-test .left))
 
 pub finished-spec : {M : Type 1} → statement M
 finished-spec =
@@ -73,7 +73,7 @@ finished-spec =
     loop-holds
     cast-at
     mul-unpack
-    element-copy-out-unpack
+    shared-slice-read-unpack
     unpack-requires
     returns
     add-i

@@ -8,7 +8,7 @@ use Rattle.queue.proofs.writing.settle.Statement.{statement}
 use Rattle.queue.proofs.writing.settle.Tie as tie
 
 abbrev start : tie.After-finished → tie.Start
-start f = f .before .before .before .before
+start f = f .before .before .before .before .before .before
 
 -- no more leave than are held
 loads-most : (f : tie.After-finished) → f .finished .result ≤ start f .args .frame .loads .count
@@ -36,22 +36,29 @@ shorter-requires-2 c κs = stores-most (c .before)
 shift-requires : tie.Need-shift-requires
 shift-requires c κs =
     let f = c .before .before .before .before .before in
-    (rw (c .before .before .shorter .ensures) (omega (arith, loads-most f, start f .pre .0)), start f .pre .2)
+    rw (c .before .before .shorter .ensures) (omega (arith, loads-most f, start f .pre .0))
 
 shift-requires-2 : tie.Need-shift-requires-2
 shift-requires-2 c κs =
-    let f = c .before .before .before .before .before in
-    (rw (c .before .before .before .shorter2 .ensures) (omega (arith, stores-most f, start (f .before .before) .pre .1)), start (f .before .before) .pre .3)
+    let f = c .before .before .before .before .before .before .before in
+    rw (c .before .before .before .before .before .shorter2 .ensures) (omega (arith, stores-most f, start (f .before .before) .pre .1))
+
+same-length : tie.Need-same-length
+same-length c = search needs
+
+same-length-2 : tie.Need-same-length-2
+same-length-2 c = search needs
 
 returns : tie.Need-returns
 returns c =
-    let a = c .before .before .before in
+    let d = c .before .before .before in
+    let a = d .before .before .before .before in
     let b = a .before .before in
     let l = b .before .shorter .ensures in
     let s = b .shorter2 .ensures in
     let f = b .before .before in
     rw (l, s)
-    (settle-sides (start (f .before .before) .args .frame) (f .before .before .finished .ensures) (f .finished2 .ensures) (rw l at (a .shift .ensures)) (rw s at (c .before .shift2 .ensures)))
+    (settle-sides (start (f .before .before) .args .frame) (f .before .before .finished .ensures) (f .finished2 .ensures) (rw l at (a .shift .ensures)) (rw s at (d .shift2 .ensures)))
 
 pub settle-spec : {M : Type 1} → statement M
 settle-spec =
@@ -63,4 +70,6 @@ settle-spec =
     shorter-requires-2
     shift-requires
     shift-requires-2
+    same-length
+    same-length-2
     returns)

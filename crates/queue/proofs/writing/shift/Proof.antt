@@ -1,8 +1,8 @@
 -- The first i places hold the entries from the `gone`th on, which remember the fewer of the other kind; the rest is as it was.
 use Prim.Native.Nat.{ℕ, _+_, _≤_, _-_}
-use mathlib.Core.Path.{_≡_, sym, ap, _∙_}
+use mathlib.Core.Path.{_≡_, refl, sym, ap, _∙_}
 use native.Mathlib.Omega.{arith}
-use lib.ListN.{getD}
+use lib.ListN.{length, getD, length-set}
 use borrow.Author.Needs.{needs}
 use Rattle.queue.specs.Entry.{entryOf, numberOf}
 use Rattle.queue.specs.Internal.{entriesIn}
@@ -16,18 +16,18 @@ abbrev lower : ℕ → ℕ → ℕ
 lower others n = numberOf (lowered others (entryOf n))
 
 abbrev Inv-loop : tie.InvT-loop
-Inv-loop entries₀ gone left others from count i₀ entries i = (i ≤ left) × Moved (lower others) gone entries₀ i entries
+Inv-loop entries₀ gone left others from count i₀ entries i = (i ≤ left) × Moved (lower others) gone entries₀ i entries × (length entries ≡ length entries₀)
 
 abbrev μ-loop : tie.MeasureT-loop
 μ-loop entries₀ gone left others from count i₀ entries i = left - i
 
 -- what a turn puts at its place
-put : (c : tie.After-pack Inv-loop μ-loop) → let l = c .before .before .before .before in let s = l .before .before in
+put : (c : tie.After-pack Inv-loop μ-loop) → let l = c .before .before .before .before in let s = l .before .before .before in
     c .pack .result ≡ lower (s .args .others) (getD (l .before .loop .entries) (l .before .loop .i + s .args .gone) 0)
 put c = c .pack .ensures ∙ rw (c .before .less .ensures, c .before .before .unpack .ensures)
 
 loop-holds : tie.Need-loop-holds Inv-loop μ-loop
-loop-holds c = (search needs, moved-none)
+loop-holds c = (search needs, moved-none, refl)
 
 add-unpack : tie.Need-add-unpack Inv-loop μ-loop
 add-unpack c = omega arith
@@ -35,8 +35,8 @@ add-unpack c = omega arith
 mul-unpack : tie.Need-mul-unpack Inv-loop μ-loop
 mul-unpack c = omega arith
 
-element-copy-out-unpack : tie.Need-element-copy-out-unpack Inv-loop μ-loop
-element-copy-out-unpack c = omega arith
+slice-read-unpack : tie.Need-slice-read-unpack Inv-loop μ-loop
+slice-read-unpack c = omega arith
 
 unpack-requires : tie.Need-unpack-requires Inv-loop μ-loop
 unpack-requires c κs = search needs
@@ -50,8 +50,8 @@ pack-requires c κs = search needs
 mul-entries : tie.Need-mul-entries Inv-loop μ-loop
 mul-entries c = omega arith
 
-element-write-entries : tie.Need-element-write-entries Inv-loop μ-loop
-element-write-entries c = omega arith
+slice-write-entries : tie.Need-slice-write-entries Inv-loop μ-loop
+slice-write-entries c = omega arith
 
 add-i : tie.Need-add-i Inv-loop μ-loop
 add-i c = omega arith
@@ -62,18 +62,21 @@ loop-less c = omega arith
 loop-again : tie.Need-loop-again Inv-loop μ-loop
 loop-again c =
     let l = c .before .before .before .before in
-    let s = l .before .before in
-    (omega arith, moved-more (l .before .loop .inv .1) 0 (put c) (omega (arith, s .pre .0, s .pre .1, l .loop-test .taken)))
+    let s = l .before .before .before in
+    (omega arith, moved-more (l .before .loop .inv .1) 0 (put c) (omega (arith, s .pre, l .loop-test .taken)), simp length-set (l .before .loop .inv .2))
+
+same-length : tie.Need-same-length Inv-loop μ-loop
+same-length c = c .before .loop .inv .2
 
 returns : tie.Need-returns Inv-loop μ-loop
 returns c =
     let i = c .before .loop .inv in
-    let s = c .before .before in
+    let s = c .before .before .before in
     let n : ℕ = s .args .gone + s .args .left in
     let left : n - s .args .gone ≡ s .args .left = omega arith in
     record {
       holds = ap (λ (m : ℕ). entriesIn m (c .before .loop .entries)) (sym left)
-          ∙ moved-side (i .1) entryOf 0 (lowered (s .args .others)) (lowered-number (s .args .others)) n (omega (arith, i .0, c .loop-test .left)) (omega arith) (omega (arith, s .pre .0, s .pre .1));
+          ∙ moved-side (i .1) entryOf 0 (lowered (s .args .others)) (lowered-number (s .args .others)) n (omega (arith, i .0, c .loop-test .left)) (omega arith) (omega (arith, s .pre));
     }
 
 pub shift-spec : {M : Type 1} → statement M
@@ -85,13 +88,14 @@ shift-spec =
     loop-holds
     add-unpack
     mul-unpack
-    element-copy-out-unpack
+    slice-read-unpack
     unpack-requires
     less-requires
     pack-requires
     mul-entries
-    element-write-entries
+    slice-write-entries
     add-i
     loop-less
     loop-again
+    same-length
     returns)

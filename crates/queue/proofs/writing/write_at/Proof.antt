@@ -1,10 +1,10 @@
 -- The store at the place: refused by the rule in its order, or its word is put in memory, it is marked finished, and finished entries leave.
-use Prim.Native.Nat.{ℕ, _≤_, _<_}
+use Prim.Native.Nat.{_≤_, _<_}
 use native.Mathlib.Nat.{le-trans}
 use native.Mathlib.Omega.{arith}
 use mathlib.Core.Path.{_≡_, refl, sym, ap, _∙_}
-use lib.ListN.{length, getD}
-use borrow.Author.Needs.{needs, set-long}
+use lib.ListN.{length, getD, length-set}
+use borrow.Author.Needs.{needs}
 use Rattle.queue.specs.declared.Entry.{Entry}
 use Rattle.queue.specs.declared.Queue.{Queue}
 use Rattle.queue.specs.declared.Outcome.{Outcome}
@@ -14,7 +14,8 @@ use Rattle.queue.specs.Entry.{entryOf, numberOf}
 use Rattle.queue.specs.Ruled.{accept, andThen}
 use Rattle.queue.specs.Contents.{storeOf, storeIn, contentsOf}
 use Rattle.queue.specs.Write.{storeDone, settle}
-use Rattle.queue.specs.Internal.{queueOf, outcomeOf, loadsIn, storesIn}
+use Rattle.queue.specs.Parts.{queueOf, outcomeOf}
+use Rattle.queue.specs.Internal.{loadsIn, storesIn}
 use Rattle.queue.specs.InternalWrite.{mayWriteAt, writtenWith, writeAt}
 use Rattle.queue.proofs.ContentsLaws.{store-anew}
 use Rattle.queue.proofs.EntryLaws.{done, done-number}
@@ -24,7 +25,7 @@ use Rattle.queue.proofs.writing.write_at.Statement.{statement}
 use Rattle.queue.proofs.writing.write_at.Tie as tie
 
 abbrev start : tie.Else1 → tie.Start
-start e = e .before .before .before .before
+start e = e .before .before .before .before .before .before
 
 -- the queue, and the store at the place
 abbrev queue : tie.Start → Queue
@@ -43,8 +44,11 @@ stores-room s = omega (arith, stores-few (queue s) (s .pre .0), s .pre .3)
 before-few : (e : tie.Else1) → store (start e) .before ≤ start e .args .frame .loads .count
 before-few e = let s = start e in store-before (queue s) (s .pre .0) (s .args .place) (e .if1 .left)
 
-placed : (e : tie.Else1) → start e .args .place < 64
-placed e = let s = start e in le-trans (e .if1 .left) (stores-few (queue s) (s .pre .0))
+placed : (e : tie.Else1) → start e .args .place < length (start e .args .store-entries .now)
+placed e = le-trans (e .if1 .left) (stores-room (start e))
+
+loads-room : (s : tie.Start) → s .args .frame .loads .count ≤ length (s .args .load-entries .now)
+loads-room s = omega (arith, loads-few (queue s) (s .pre .0), s .pre .2)
 
 -- what the rule says, once the place is one of the queue
 held : (e : tie.Else1) → let s = start e in
@@ -75,7 +79,7 @@ refused-requires c κs = search needs
 
 returns : tie.Need-returns
 returns c =
-    let s = c .before .before .before .before .before in
+    let s = c .before .before .before .before .before .before .before in
     rw (write-none (queue s) (s .args .memory .now) (s .args .place) (c .before .if1 .taken))
     (record { outcome = ap (unchanged s) (c .refused .ensures); memory-is = refl })
 
@@ -83,7 +87,7 @@ write-fault-requires : tie.Need-write-fault-requires
 write-fault-requires c κs =
     let e1 = c .before .before in
     let s = start e1 in
-    (placed e1, le-trans (before-few e1) (loads-few (queue s) (s .pre .0)))
+    (placed e1, le-trans (before-few e1) (loads-room s))
 
 refused-requires-2 : tie.Need-refused-requires-2
 refused-requires-2 c κs = search needs
@@ -99,8 +103,8 @@ returns-2 c =
 mul-unpack : tie.Need-mul-unpack
 mul-unpack c = search needs
 
-element-copy-out-unpack : tie.Need-element-copy-out-unpack
-element-copy-out-unpack c = placed (c .before .before .before .before)
+slice-read-unpack : tie.Need-slice-read-unpack
+slice-read-unpack c = placed (c .before .before .before .before .before)
 
 unpack-requires : tie.Need-unpack-requires
 unpack-requires c κs = search needs
@@ -124,30 +128,46 @@ pack-requires c κs = search needs
 mul-store-entries : tie.Need-mul-store-entries
 mul-store-entries c = search needs
 
-element-write-store-entries : tie.Need-element-write-store-entries
-element-write-store-entries c = placed (c .before .before .before .before .before .before .before .before)
+slice-write-store-entries : tie.Need-slice-write-store-entries
+slice-write-store-entries c = placed (c .before .before .before .before .before .before .before .before)
 
 settle-requires : tie.Need-settle-requires
 settle-requires c κs =
     let p = c .before .before in
     let s = start (p .before .before .before .before .before .before .before .before) in
-    (loads-few (queue s) (s .pre .0), stores-few (queue s) (s .pre .0), s .pre .2, set-long ℕ (s .args .store-entries .now) (s .args .place) 64 (p .pack .result) (s .pre .3))
+    (loads-room s, rw (length-set (s .args .store-entries .now) (s .args .place) (p .pack .result)) (stores-room s))
+
+same-length-4 : tie.Need-same-length-4
+same-length-4 c =
+    let p = c .before .before .before .before .before .before .before in
+    let s = start (p .before .before .before .before .before .before .before .before) in
+    c .before .store-entries .given ∙ length-set (s .args .store-entries .now) (s .args .place) (p .pack .result)
 
 same-length : tie.Need-same-length
 same-length c = search needs
 
 returns-3 : tie.Need-returns-3
 returns-3 c =
-    let p = c .before .before .before in
+    let t = c .before .before .before .before in
+    let p = t .before .before .before in
     let u = p .before .before in
     let e2 = u .before .before in
     let e1 = e2 .before .before .before .before in
     let s = start e1 in
     rw (held e1, puts e2 .put)
     (record {
-      outcome = record { answer = refl {a = 0}; gives = refl {a = Nothing}; holds = c .settle .ensures ∙ ap settle (store-anew (queue s) storeDone (s .args .place) (p .pack .result) (stores-room s) (e1 .if1 .left) (put p)) };
+      outcome = record { answer = refl {a = 0}; gives = refl {a = Nothing}; holds = t .settle .ensures ∙ ap settle (store-anew (queue s) storeDone (s .args .place) (p .pack .result) (stores-room s) (e1 .if1 .left) (put p)) };
       memory-is = rw (u .unpack .ensures);
     })
+
+same-length-2 : tie.Need-same-length-2
+same-length-2 c = search needs
+
+same-length-3 : tie.Need-same-length-3
+same-length-3 c = search needs
+
+same-length-5 : tie.Need-same-length-5
+same-length-5 c = search needs
 
 pub write-at-spec : {M : Type 1} → statement M
 write-at-spec =
@@ -158,16 +178,20 @@ write-at-spec =
     returns
     write-fault-requires
     refused-requires-2
+    same-length
+    same-length-2
     returns-2
     mul-unpack
-    element-copy-out-unpack
+    slice-read-unpack
     unpack-requires
     cast-memory
     mul-memory
     slice-write-memory
     pack-requires
     mul-store-entries
-    element-write-store-entries
+    slice-write-store-entries
     settle-requires
-    same-length
+    same-length-3
+    same-length-4
+    same-length-5
     returns-3)

@@ -22,13 +22,13 @@ abbrev store : tie.After-unpack → Entry
 store u = u .unpack .result
 
 abbrev loads : tie.After-unpack → List Load
-loads u = loadsIn (store u .before) (u .before .before .args .load-entries .now)
+loads u = loadsIn (store u .before) (u .before .before .before .before .args .load-entries .now)
 
 abbrev stores : tie.After-unpack → List Store
-stores u = storesIn (u .before .before .args .at) (u .before .before .args .store-entries .now)
+stores u = storesIn (u .before .before .before .before .args .at) (u .before .before .before .before .args .store-entries .now)
 
 told : (u : tie.After-unpack) (n : ℕ) → n ≡ number (mayWrite (loads u) (stores u) (storeOf (store u)))
-    → n ≡ number (mayWriteAt (u .before .before .args .load-entries .now) (u .before .before .args .store-entries .now) (u .before .before .args .at))
+    → n ≡ number (mayWriteAt (u .before .before .before .before .args .load-entries .now) (u .before .before .before .before .args .store-entries .now) (u .before .before .before .before .args .at))
 told u n e = rw (← u .unpack .ensures) e
 
 -- do the loads, the stores, before it give way?
@@ -36,19 +36,19 @@ loads-way : (c : tie.After-all-give-way) → let u = c .before .before .before .
     c .all-give-way .result ≡ all (loadGivesWay (store u .address)) (loads u)
 loads-way c =
     let u = c .before .before .before .before .before .before .before in
-    c .all-give-way .ensures ∙ sym (side-all-same loadOf (loadGivesWay (store u .address)) (givesWay Filled (store u .address)) (λ e. load-gives-way e (store u .address)) (store u .before) (u .before .before .args .load-entries .now))
+    c .all-give-way .ensures ∙ sym (side-all-same loadOf (loadGivesWay (store u .address)) (givesWay Filled (store u .address)) (λ e. load-gives-way e (store u .address)) (store u .before) (u .before .before .before .before .args .load-entries .now))
 
 stores-way : (c : tie.After-all-give-way2) → let u = c .before .before .before .before .before .before .before .before .before in
     c .all-give-way2 .result ≡ all (storeGivesWay (store u .address)) (stores u)
 stores-way c =
     let u = c .before .before .before .before .before .before .before .before .before in
-    c .all-give-way2 .ensures ∙ sym (side-all-same storeOf (storeGivesWay (store u .address)) (givesWay Finished (store u .address)) (λ e. store-gives-way e (store u .address)) (u .before .before .args .at) (u .before .before .args .store-entries .now))
+    c .all-give-way2 .ensures ∙ sym (side-all-same storeOf (storeGivesWay (store u .address)) (givesWay Finished (store u .address)) (λ e. store-gives-way e (store u .address)) (u .before .before .before .before .args .at) (u .before .before .before .before .args .store-entries .now))
 
 mul-unpack : tie.Need-mul-unpack
 mul-unpack c = search needs
 
-element-copy-out-unpack : tie.Need-element-copy-out-unpack
-element-copy-out-unpack c = search needs
+shared-slice-read-unpack : tie.Need-shared-slice-read-unpack
+shared-slice-read-unpack c = search needs
 
 unpack-requires : tie.Need-unpack-requires
 unpack-requires c κs = search needs
@@ -77,7 +77,7 @@ cast-all-give-way c = search needs
 all-give-way-requires : tie.Need-all-give-way-requires
 all-give-way-requires c κs =
     let u = c .before .before .before .before .before .before in
-    rw (u .unpack .ensures) (u .before .before .pre .1)
+    rw (u .unpack .ensures) (u .before .before .before .before .pre .1)
 
 returns-4 : tie.Need-returns-4
 returns-4 c =
@@ -113,7 +113,7 @@ write-fault-spec =
     tie.close
     (tie.spec
     mul-unpack
-    element-copy-out-unpack
+    shared-slice-read-unpack
     unpack-requires
     returns
     returns-2

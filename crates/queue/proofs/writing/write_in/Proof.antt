@@ -1,35 +1,35 @@
-use mathlib.Core.Path.{_≡_, refl, sym, ap, _∙_}
-use mathlib.Core.Bool.{true, false}
+use mathlib.Core.Path.{refl, ap}
+use Rattle.queue.specs.Parts.{queueOf, outcomeOf}
+use Rattle.queue.proofs.PartsLaws.{Fit, fit, unfit}
 use borrow.Author.Needs.{needs}
-use borrow.Author.Tests.{not-true, not-false}
 use Rattle.queue.specs.declared.Queue.{Queue}
 use Rattle.queue.specs.declared.Outcome.{Outcome}
 use Rattle.queue.specs.declared.answering.Step.{Step}
 use Rattle.queue.specs.Contents.{contentsOf}
-use Rattle.queue.specs.Sound.{sound}
-use Rattle.queue.specs.Internal.{queueOf, outcomeOf}
+use Rattle.queue.specs.Write.{write}
 use Rattle.queue.proofs.WriteLaws.{write-unsound, write-memory, write-place}
 use Rattle.queue.proofs.writing.write_in.Statement.{statement}
 use Rattle.queue.proofs.writing.write_in.Tie as tie
 
-abbrev start : tie.After-parts-sound → tie.Start
-start c = c .before .before .before .before
+abbrev start : tie.After-sound-in → tie.Start
+start c = c .before .before .before .before .before .before
 
-abbrev queue : tie.Start → Queue
-queue s = queueOf (s .args .frame) (s .args .load-entries .now) (s .args .store-entries .now)
+abbrev queueIn : tie.Start → Queue
+queueIn s = queueOf (s .args .frame) (s .args .load-entries .now) (s .args .store-entries .now)
 
 -- what is handed back where the entries are as they were
 abbrev unchanged : tie.Start → Step → Outcome
 unchanged s t = outcomeOf t (s .args .load-entries .now) (s .args .store-entries .now)
 
-right : (c : tie.Else1) → sound (contentsOf (queue (start (c .before)))) ≡ true
-right c = sym (c .before .parts-sound .ensures) ∙ not-false _ (c .if1 .left)
+abbrev queue : tie.After-sound-in → Queue
+queue c = queueIn (start c)
 
-wrong : (c : tie.Then1) → sound (contentsOf (queue (start (c .before)))) ≡ false
-wrong c = sym (c .before .parts-sound .ensures) ∙ not-true _ (c .if1 .taken)
+-- the runs are whole and the queue is sound
+good : (c : tie.Else1) → Fit (queue (c .before))
+good c = fit (queue (c .before)) (c .before .sound-in .ensures) (c .if1 .left)
 
-parts-sound-requires : tie.Need-parts-sound-requires
-parts-sound-requires c κs = search needs
+sound-in-requires : tie.Need-sound-in-requires
+sound-in-requires c κs = search needs
 
 refused-requires : tie.Need-refused-requires
 refused-requires c κs = search needs
@@ -37,7 +37,8 @@ refused-requires c κs = search needs
 returns : tie.Need-returns
 returns c =
     let s = start (c .before .before) in
-    rw (write-unsound (queue s) (s .args .memory .now) (s .args .serial) (wrong (c .before)))
+    let q = queueIn s in
+    rw (unfit q (write (contentsOf q) (s .args .memory .now) (s .args .serial)) (c .before .before .sound-in .ensures) (c .before .if1 .taken) (write-unsound q (s .args .memory .now) (s .args .serial)))
     (record { outcome = ap (unchanged s) (c .refused .ensures); memory-is = refl })
 
 cast-if2 : tie.Need-cast-if2
@@ -50,7 +51,7 @@ returns-2 : tie.Need-returns-2
 returns-2 c =
     let e1 = c .before .before .before in
     let s = start (e1 .before) in
-    rw (write-memory (queue s) (s .args .memory .now) (s .args .serial) (right e1) (c .before .if2 .taken))
+    rw (good e1 .full, write-memory (queueIn s) (s .args .memory .now) (s .args .serial) (good e1 .right) (c .before .if2 .taken))
     (record { outcome = ap (unchanged s) (c .refused2 .ensures); memory-is = refl })
 
 place-of-requires : tie.Need-place-of-requires
@@ -60,31 +61,55 @@ write-at-requires : tie.Need-write-at-requires
 write-at-requires c κs =
     let e2 = c .before .before .before .before .before in
     let e1 = e2 .before .before in
-    (right e1, e2 .if2 .left, start (e1 .before) .pre .0, start (e1 .before) .pre .1)
+    (good e1 .right, e2 .if2 .left, good e1 .loads-whole, good e1 .stores-whole)
 
 same-length : tie.Need-same-length
 same-length c = search needs
 
 returns-3 : tie.Need-returns-3
 returns-3 c =
-    let w = c .before .before in
+    let w = c .before .before .before .before .before .before in
     let p = w .before .before .before .before in
     let e2 = p .before .before in
     let e1 = e2 .before .before in
     let s = start (e1 .before) in
-    rw (write-place (queue s) (s .args .memory .now) (s .args .serial) (right e1) (e2 .if2 .left), ← p .place-of .ensures) (w .write-at .ensures)
+    rw (good e1 .full, write-place (queueIn s) (s .args .memory .now) (s .args .serial) (good e1 .right) (e2 .if2 .left), ← p .place-of .ensures) (w .write-at .ensures)
+
+same-length-2 : tie.Need-same-length-2
+same-length-2 c = search needs
+
+same-length-3 : tie.Need-same-length-3
+same-length-3 c = search needs
+
+same-length-4 : tie.Need-same-length-4
+same-length-4 c = search needs
+
+same-length-5 : tie.Need-same-length-5
+same-length-5 c = search needs
+
+same-length-6 : tie.Need-same-length-6
+same-length-6 c = search needs
+
+same-length-7 : tie.Need-same-length-7
+same-length-7 c = search needs
 
 pub write-in-spec : {M : Type 1} → statement M
 write-in-spec =
     tie.close
     (tie.spec
-    parts-sound-requires
+    sound-in-requires
     refused-requires
+    same-length
+    same-length-2
     returns
     cast-if2
     refused-requires-2
+    same-length-3
+    same-length-4
     returns-2
     place-of-requires
     write-at-requires
-    same-length
+    same-length-5
+    same-length-6
+    same-length-7
     returns-3)

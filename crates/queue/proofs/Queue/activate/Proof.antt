@@ -1,0 +1,34 @@
+use mathlib.Core.Path.{_≡_}
+use mathlib.Core.Bool.{true}
+use Rattle.queue.specs.Parts.{whole}
+use Rattle.queue.proofs.PartsLaws.{both-whole}
+use borrow.Author.Needs.{needs}
+use Rattle.queue.proofs.Queue.activate.Statement.{statement}
+use Rattle.queue.proofs.Queue.activate.Tie as tie
+
+-- a queue's own arrays are whole runs
+own : (c : tie.Start) → whole (c .args .self .«load_entries») (c .args .self .«store_entries») ≡ true
+own c = both-whole (c .args .self .«load_entries») (c .args .self .«store_entries») (search needs) (search needs)
+
+slice-aggregate-activate-in : tie.Need-slice-aggregate-activate-in
+slice-aggregate-activate-in c = search needs
+
+slice-aggregate-activate-in-2 : tie.Need-slice-aggregate-activate-in-2
+slice-aggregate-activate-in-2 c = search needs
+
+activate-in-requires : tie.Need-activate-in-requires
+activate-in-requires c κs = search needs
+
+returns : tie.Need-returns
+returns c =
+    let k = c .before .before .before in
+    rw (own (k .before .before .before .before .before .before)) at (k .activate-in .ensures)
+
+pub activate-spec : {M : Type 1} → statement M
+activate-spec =
+    tie.close
+    (tie.spec
+    slice-aggregate-activate-in
+    slice-aggregate-activate-in-2
+    activate-in-requires
+    returns)

@@ -1,0 +1,34 @@
+use mathlib.Core.Path.{_≡_}
+use mathlib.Core.Bool.{true}
+use Rattle.queue.specs.Parts.{whole}
+use Rattle.queue.proofs.PartsLaws.{both-whole}
+use borrow.Author.Needs.{needs}
+use Rattle.queue.proofs.Queue.load_address.Statement.{statement}
+use Rattle.queue.proofs.Queue.load_address.Tie as tie
+
+-- a queue's own arrays are whole runs
+own : (c : tie.Start) → whole (c .args .self .«load_entries») (c .args .self .«store_entries») ≡ true
+own c = both-whole (c .args .self .«load_entries») (c .args .self .«store_entries») (search needs) (search needs)
+
+slice-aggregate-load-address-in : tie.Need-slice-aggregate-load-address-in
+slice-aggregate-load-address-in c = search needs
+
+slice-aggregate-load-address-in-2 : tie.Need-slice-aggregate-load-address-in-2
+slice-aggregate-load-address-in-2 c = search needs
+
+load-address-in-requires : tie.Need-load-address-in-requires
+load-address-in-requires c κs = search needs
+
+returns : tie.Need-returns
+returns c =
+    let k = c .before in
+    rw (own (k .before .before .before .before .before .before)) at (k .load-address-in .ensures)
+
+pub load-address-spec : {M : Type 1} → statement M
+load-address-spec =
+    tie.close
+    (tie.spec
+    slice-aggregate-load-address-in
+    slice-aggregate-load-address-in-2
+    load-address-in-requires
+    returns)

@@ -1,0 +1,30 @@
+use mathlib.Core.Path.{_≡_}
+use mathlib.Core.Bool.{true}
+use Rattle.queue.specs.Parts.{whole}
+use Rattle.queue.proofs.PartsLaws.{both-whole}
+use borrow.Author.Needs.{needs}
+use Rattle.queue.proofs.Queue.serve_counted.Statement.{statement}
+use Rattle.queue.proofs.Queue.serve_counted.Tie as tie
+
+-- a queue's own arrays are whole runs
+own : (c : tie.Start) → whole (c .args .self .«load_entries») (c .args .self .«store_entries») ≡ true
+own c = both-whole (c .args .self .«load_entries») (c .args .self .«store_entries») (search needs) (search needs)
+
+slice-aggregate-serve-in : tie.Need-slice-aggregate-serve-in
+slice-aggregate-serve-in c = search needs
+
+slice-aggregate-serve-in-2 : tie.Need-slice-aggregate-serve-in-2
+slice-aggregate-serve-in-2 c = search needs
+
+serve-in-requires : tie.Need-serve-in-requires
+serve-in-requires c κs = search needs
+
+returns : tie.Need-returns
+returns c =
+    let k = c .before .before in
+    rw (own (k .before .before .before .before .before .before .before)) at (k .serve-in .ensures)
+
+pub serve-counted-spec : {M : Type 1} → statement M
+serve-counted-spec =
+    tie.close
+    (tie.spec slice-aggregate-serve-in slice-aggregate-serve-in-2 serve-in-requires returns)

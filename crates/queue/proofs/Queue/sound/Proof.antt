@@ -1,0 +1,28 @@
+use mathlib.Core.Path.{_≡_}
+use mathlib.Core.Bool.{true}
+use Rattle.queue.specs.Parts.{whole}
+use Rattle.queue.proofs.PartsLaws.{both-whole}
+use borrow.Author.Needs.{needs}
+use Rattle.queue.proofs.Queue.sound.Statement.{statement}
+use Rattle.queue.proofs.Queue.sound.Tie as tie
+
+-- a queue's own arrays are whole runs
+own : (c : tie.Start) → whole (c .args .self .«load_entries») (c .args .self .«store_entries») ≡ true
+own c = both-whole (c .args .self .«load_entries») (c .args .self .«store_entries») (search needs) (search needs)
+
+slice-aggregate-sound-in : tie.Need-slice-aggregate-sound-in
+slice-aggregate-sound-in c = search needs
+
+slice-aggregate-sound-in-2 : tie.Need-slice-aggregate-sound-in-2
+slice-aggregate-sound-in-2 c = search needs
+
+sound-in-requires : tie.Need-sound-in-requires
+sound-in-requires c κs = search needs
+
+returns : tie.Need-returns
+returns c = rw (own (c .before .before .before .before .before .before)) at (c .sound-in .ensures)
+
+pub sound-spec : {M : Type 1} → statement M
+sound-spec =
+    tie.close
+    (tie.spec slice-aggregate-sound-in slice-aggregate-sound-in-2 sound-in-requires returns)

@@ -1,0 +1,29 @@
+use mathlib.Core.Path.{_≡_}
+use mathlib.Core.Bool.{true}
+use Rattle.queue.specs.Parts.{whole}
+use Rattle.queue.proofs.PartsLaws.{both-whole}
+use borrow.Author.Needs.{needs}
+use Rattle.queue.proofs.Queue.take.Statement.{statement}
+use Rattle.queue.proofs.Queue.take.Tie as tie
+
+-- a queue's own arrays are whole runs
+own : (c : tie.Start) → whole (c .args .self .«load_entries») (c .args .self .«store_entries») ≡ true
+own c = both-whole (c .args .self .«load_entries») (c .args .self .«store_entries») (search needs) (search needs)
+
+slice-aggregate-take-in : tie.Need-slice-aggregate-take-in
+slice-aggregate-take-in c = search needs
+
+slice-aggregate-take-in-2 : tie.Need-slice-aggregate-take-in-2
+slice-aggregate-take-in-2 c = search needs
+
+take-in-requires : tie.Need-take-in-requires
+take-in-requires c κs = search needs
+
+returns : tie.Need-returns
+returns c =
+    let k = c .before .before .before in
+    rw (own (k .before .before .before .before .before .before)) at (k .take-in .ensures)
+
+pub take-spec : {M : Type 1} → statement M
+take-spec =
+    tie.close (tie.spec slice-aggregate-take-in slice-aggregate-take-in-2 take-in-requires returns)

@@ -1,0 +1,52 @@
+use mathlib.Core.Path.{refl}
+use Rattle.queue.specs.declared.Queue.{Queue}
+use Rattle.queue.specs.Contents.{contentsOf}
+use Rattle.queue.specs.Ready.{readyStores}
+use Rattle.queue.specs.Parts.{queueOf}
+use Rattle.queue.proofs.ReadyLaws.{ready-stores-unsound, ready-stores-sound, handed}
+use Rattle.queue.proofs.PartsLaws.{Fit, fit, unfit}
+use borrow.Author.Needs.{needs}
+use Rattle.queue.proofs.ready.ready_stores_in.Statement.{statement}
+use Rattle.queue.proofs.ready.ready_stores_in.Tie as tie
+
+abbrev start : tie.After-sound-in → tie.Start
+start c = c .before .before .before .before
+
+abbrev queue : tie.After-sound-in → Queue
+queue c = let a = start c .args in queueOf (a .frame) (a .load-entries .now) (a .store-entries .now)
+
+-- the runs are whole and the queue is sound
+good : (c : tie.Else1) → Fit (queue (c .before))
+good c = fit (queue (c .before)) (c .before .sound-in .ensures) (c .if1 .left)
+
+sound-in-requires : tie.Need-sound-in-requires
+sound-in-requires c κs = search needs
+
+returns : tie.Need-returns
+returns c =
+    let s = c .before in
+    let q = queue s in
+    let run = start s .args .out .now in
+    rw (unfit q (readyStores (contentsOf q) run) (s .sound-in .ensures) (c .if1 .taken) (ready-stores-unsound (contentsOf q) run))
+    (record { outcome = refl; run-is = refl })
+
+writable-stores-requires : tie.Need-writable-stores-requires
+writable-stores-requires c κs = (good c .right, good c .loads-whole, good c .stores-whole)
+
+hand-out-requires : tie.Need-hand-out-requires
+hand-out-requires c κs = c .before .writable-stores .ensures .few
+
+same-length : tie.Need-same-length
+same-length c = search needs
+
+returns-2 : tie.Need-returns-2
+returns-2 c =
+    let h = c .before .before in
+    let f = h .before .before in
+    let e = f .before in
+    let q = queue (e .before) in
+    rw (good e .full, ready-stores-sound (contentsOf q) (start (e .before) .args .out .now) (good e .right))
+    (handed q (f .writable-stores .ensures) (h .hand-out .ensures))
+
+pub ready-stores-in-spec : {M : Type 1} → statement M
+ready-stores-in-spec = tie.close (tie.spec sound-in-requires returns writable-stores-requires hand-out-requires same-length returns-2)

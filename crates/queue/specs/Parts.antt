@@ -1,0 +1,56 @@
+-- Calls on a queue's parts: its frame is handed over, and both sides' entries are lent as runs of numbers of any length. A run
+-- that has not just 64 numbers is no side's places: 40, before anything else.
+use Prim.Native.Nat.{ℕ}
+use mathlib.Core.Path.{_≡_}
+use mathlib.Core.Bool.{Bool, _&&_}
+use mathlib.Core.List.{List}
+use lib.Dec.{eqb}
+use lib.ListN.{length}
+use Rattle.queue.specs.declared.Value.the-variants.{Nothing}
+use Rattle.queue.specs.declared.Frame.{Frame}
+use Rattle.queue.specs.declared.Queue.{Queue}
+use Rattle.queue.specs.declared.Outcome.{Outcome}
+use Rattle.queue.specs.declared.Counted.{Counted}
+use Rattle.queue.specs.declared.Readied.{Readied}
+use Rattle.queue.specs.declared.answering.Step.{Step}
+use Rattle.queue.specs.declared.serving.Service.{Service}
+use Rattle.queue.specs.declared.ready.ReadyCount.{ReadyCount}
+use Rattle.queue.specs.declared.opening.OpenedFrame.{OpenedFrame}
+use Rattle.queue.specs.Refusal.{unsound}
+use Rattle.queue.specs.Ruled.{Ruled, refuse, accept, need}
+use Rattle.queue.specs.Contents.{Contents, contentsOf}
+
+-- the queue of these parts
+abbrev pub queueOf : Frame → List ℕ → List ℕ → Queue
+queueOf frame loads stores = record { frame = frame; «load_entries» = loads; «store_entries» = stores }
+
+-- each run has just as many numbers as a side has places
+unfoldable pub whole : List ℕ → List ℕ → Bool
+whole loads stores = eqb (length loads) 64 && eqb (length stores) 64
+
+-- a rule of a queue, where its entries are lent
+abbrev pub onParts : {A : Type 0} → List ℕ → List ℕ → Ruled A → Ruled A
+onParts loads stores rule = need (whole loads stores) unsound rule
+
+-- ---- what a call on the parts gave, with the runs that it left: what a call on the queue hands back
+-- an answer with no value
+abbrev pub answered : ℕ → Queue → Outcome
+answered n q = record { answer = n; value = Nothing; queue = q }
+
+-- activate, write and take
+abbrev pub outcomeOf : Step → List ℕ → List ℕ → Outcome
+outcomeOf s loads stores = record { answer = s .answer; value = s .value; queue = queueOf (s .frame) loads stores }
+
+-- serve
+abbrev pub countedOf : Service → Queue → Counted
+countedOf s q = record { answer = s .answer; value = s .value; queue = q; counts = s .counts }
+
+-- the ready calls
+abbrev pub readiedOf : ReadyCount → Queue → Readied
+readiedOf r q = record { answer = r .answer; count = r .count; queue = q }
+
+-- Opening a frame: it holds no entry, so with whatever runs are lent it is the queue that the rule gives. A refused opening
+-- hands back the frame of no table, which means nothing.
+abbrev pub OpensFrame : Frame → Ruled Contents → OpenedFrame → Type 0
+OpensFrame none (refuse n) r = r ≡ record { answer = n; frame = none }
+OpensFrame none (accept q) r = (r .answer ≡ 0) × ((loads stores : List ℕ) → contentsOf (queueOf (r .frame) loads stores) ≡ q)

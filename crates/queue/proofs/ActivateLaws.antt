@@ -9,11 +9,11 @@ use lib.Dec.{leb}
 use lib.ListN.{length, getD}
 use borrow.Author.Tests.{leb-true}
 use Rattle.table.specs.declared.Pair.{Pair}
-use Rattle.table.specs.declared.Pairs.{Pairs}
+use Rattle.table.specs.declared.Span.{Span}
 use Rattle.table.specs.declared.Group.{Group}
 use Rattle.table.specs.Group.{GroupPairs, blankPair, listOf, pairsOf, Inside, Access, load, store, order}
 use Rattle.table.specs.Table.{groupAt, groupsOf}
-use Rattle.table.proofs.CheckLaws.{Sized, groups-size}
+use Rattle.table.proofs.CheckLaws.{view-length, groups-size}
 use Rattle.table.specs.ProgramOrder.{loadPairs, storePairs}
 use Rattle.table.proofs.OrderOffsets.{GroupRight}
 use Rattle.queue.specs.declared.Queue.{Queue}
@@ -57,34 +57,46 @@ with-group-is q g right = rw (new-loads right (length (q .stores)), new-stores r
 
 -- ---- on the record
 -- the new entries as loads, as stores: `f` says what an entry holds
-side-longer : {B : Type 0} (f : Entry → B) (new : Pair → B) {held others : ℕ} {ps : Pairs} {l left : List ℕ} → ((p : Pair) → f (entryAfter others p) ≡ new p) → Appended held ps others l left
-    → sideOf (λ (x : ℕ). f (entryOf x)) 0 (held + ps .count) left ≡ sideOf (λ (x : ℕ). f (entryOf x)) 0 held l ++ map new (listOf ps)
-side-longer {B} f new {held} {others} {ps} {l} {left} same a =
+side-longer : {B : Type 0} (f : Entry → B) (new : Pair → B) {held others : ℕ} {places : List ℕ} {ps : Span} {l left : List ℕ} → ((p : Pair) → f (entryAfter others p) ≡ new p) → Appended held places ps others l left
+    → sideOf (λ (x : ℕ). f (entryOf x)) 0 (held + ps .count) left ≡ sideOf (λ (x : ℕ). f (entryOf x)) 0 held l ++ map new (listOf places ps)
+side-longer {B} f new {held} {others} {places} {ps} {l} {left} same a =
     side-holds f (held + ps .count) left
-    ∙ rw (a .holds, map-append f (entriesIn held l) (map (entryAfter others) (listOf ps)), side-holds f held l, map-map f (entryAfter others) (listOf ps))
-    (ap (λ (t : List B). map f (entriesIn held l) ++ t) (map-same (λ (p : Pair). f (entryAfter others p)) new same (listOf ps)))
+    ∙ rw (a .holds, map-append f (entriesIn held l) (map (entryAfter others) (listOf places ps)), side-holds f held l, map-map f (entryAfter others) (listOf places ps))
+    (ap (λ (t : List B). map f (entriesIn held l) ++ t) (map-same (λ (p : Pair). f (entryAfter others p)) new same (listOf places ps)))
 
-module _ (q : Queue) {g : Group} (z : Sized g) where
-  pub room-record : room (contentsOf q) (pairsOf g) ≡ leb (q .frame .loads .count + g .loads .count) (q .frame .loads .depth) && leb (q .frame .stores .count + g .stores .count) (q .frame .stores .depth)
+module _ (q : Queue) (g : Group) where
+  abbrev chosen : GroupPairs
+  chosen = pairsOf (q .frame .table .loads) (q .frame .table .stores) g
+
+  abbrev loads-size : length (chosen .loads) ≡ g .loads .count
+  loads-size = view-length (q .frame .table .loads) (g .loads)
+
+  abbrev stores-size : length (chosen .stores) ≡ g .stores .count
+  stores-size = view-length (q .frame .table .stores) (g .stores)
+
+  pub room-record : room (contentsOf q) (pairsOf (q .frame .table .loads) (q .frame .table .stores) g) ≡ leb (q .frame .loads .count + g .loads .count) (q .frame .loads .depth) && leb (q .frame .stores .count + g .stores .count) (q .frame .stores .depth)
   unfolding contentsOf
-  room-record = rw (side-length loadIn 0 (q .frame .loads .count) (q .«load_entries»), side-length storeIn 0 (q .frame .stores .count) (q .«store_entries»), z .loads, z .stores)
+  room-record = rw (side-length loadIn 0 (q .frame .loads .count) (q .«load_entries»), side-length storeIn 0 (q .frame .stores .count) (q .«store_entries»), loads-size, stores-size)
 
-  pub appended-both : {ls ss : List ℕ} → Appended (q .frame .loads .count) (g .loads) (q .frame .stores .count) (q .«load_entries») ls → Appended (q .frame .stores .count) (g .stores) (q .frame .loads .count) (q .«store_entries») ss
+  pub appended-both : {ls ss : List ℕ} → Appended (q .frame .loads .count) (q .frame .table .loads) (g .loads) (q .frame .stores .count) (q .«load_entries») ls → Appended (q .frame .stores .count) (q .frame .table .stores) (g .stores) (q .frame .loads .count) (q .«store_entries») ss
       → contentsOf (queueOf (record {
         table = q .frame .table;
         words = q .frame .words;
         loads = longer (q .frame .loads) (g .loads .count);
         stores = longer (q .frame .stores) (g .stores .count);
-      }) ls ss) ≡ withPairs (contentsOf q) (pairsOf g)
+      }) ls ss) ≡ withPairs (contentsOf q) (pairsOf (q .frame .table .loads) (q .frame .table .stores) g)
   unfolding contentsOf
   appended-both {ls} {ss} a b =
-      rw (side-length loadIn 0 (q .frame .loads .count) (q .«load_entries»), side-length storeIn 0 (q .frame .stores .count) (q .«store_entries»), z .loads, z .stores)
+      rw (side-length loadIn 0 (q .frame .loads .count) (q .«load_entries»), side-length storeIn 0 (q .frame .stores .count) (q .«store_entries»), loads-size, stores-size)
       (rw (side-longer loadOf (loadAfter (q .frame .stores .count)) (λ p. refl) a, side-longer storeOf (storeAfter (q .frame .loads .count)) (λ p. refl) b))
 
 -- a right group's pairs fit where there is room
-module _ (ps : Pairs) (size : length (listOf ps) ≡ ps .count) (inside : Inside ps) (few : length (listOf ps) ≤ 16) (offset : (i : ℕ) → i < length (listOf ps) → getD (listOf ps) i blankPair .offset ≤ 16)
-    (port : (i : ℕ) → i < length (listOf ps) → getD (listOf ps) i blankPair .port ≤ 31) where
-  pairs-fit : (held depth : ℕ) → leb (held + ps .count) depth ≡ true → depth ≤ 64 → PairsFit held ps
+module _ (places : List ℕ) (ps : Span) (inside : Inside ps) (few : length (listOf places ps) ≤ 16) (offset : (i : ℕ) → i < length (listOf places ps) → getD (listOf places ps) i blankPair .offset ≤ 16)
+    (port : (i : ℕ) → i < length (listOf places ps) → getD (listOf places ps) i blankPair .port ≤ 31) where
+  size : length (listOf places ps) ≡ ps .count
+  size = view-length places ps
+
+  pairs-fit : (held depth : ℕ) → leb (held + ps .count) depth ≡ true → depth ≤ 64 → PairsFit held places ps
   pairs-fit held depth r d =
       record {
         inside = inside;
@@ -94,14 +106,14 @@ module _ (ps : Pairs) (size : length (listOf ps) ≡ ps .count) (inside : Inside
         ports = λ i k. (let h = port i (rw size k) in omega arith);
       }
 
-pub group-fits : (q : Queue) {g : Group} → Sized g → Inside (g .loads) × Inside (g .stores) → sound (contentsOf q) ≡ true → GroupRight (pairsOf g) → room (contentsOf q) (pairsOf g) ≡ true
-    → PairsFit (q .frame .loads .count) (g .loads) × PairsFit (q .frame .stores .count) (g .stores)
-group-fits q {g} z (hl, hs) s right r =
+pub group-fits : (q : Queue) (g : Group) → Inside (g .loads) × Inside (g .stores) → sound (contentsOf q) ≡ true → GroupRight (pairsOf (q .frame .table .loads) (q .frame .table .stores) g) → room (contentsOf q) (pairsOf (q .frame .table .loads) (q .frame .table .stores) g) ≡ true
+    → PairsFit (q .frame .loads .count) (q .frame .table .loads) (g .loads) × PairsFit (q .frame .stores .count) (q .frame .table .stores) (g .stores)
+group-fits q g (hl, hs) s right r =
     let loads = leb (q .frame .loads .count + g .loads .count) (q .frame .loads .depth) in
     let stores = leb (q .frame .stores .count + g .stores .count) (q .frame .stores .depth) in
-    let both : loads && stores ≡ true = sym (room-record q z) ∙ r in (
-      pairs-fit (g .loads) (z .loads) hl (right .few-loads) (right .load-offset) (right .load-port) (q .frame .loads .count) (q .frame .loads .depth) (and-left loads stores both) (load-depth-most q s),
-      pairs-fit (g .stores) (z .stores) hs (right .few-stores) (right .store-offset) (right .store-port) (q .frame .stores .count) (q .frame .stores .depth) (and-right loads stores both) (store-depth-most q s),
+    let both : loads && stores ≡ true = sym (room-record q g) ∙ r in (
+      pairs-fit (q .frame .table .loads) (g .loads) hl (right .few-loads) (right .load-offset) (right .load-port) (q .frame .loads .count) (q .frame .loads .depth) (and-left loads stores both) (load-depth-most q s),
+      pairs-fit (q .frame .table .stores) (g .stores) hs (right .few-stores) (right .store-offset) (right .store-port) (q .frame .stores .count) (q .frame .stores .depth) (and-right loads stores both) (store-depth-most q s),
     )
 
 -- ---- the call
@@ -116,7 +128,10 @@ module _ (q : Queue) (group : ℕ) (s : sound (contentsOf q) ≡ true) where
       let e : length (groupsOf (q .frame .table)) ≤ group = rw (groups-size (q .frame .table)) h in
       rw (s, nth-past (groupsOf (q .frame .table)) group e)
 
-  module _ (whole : length (q .frame .table .groups) ≡ 16) (k : group < q .frame .table .count) {g : Group} (a : g ≡ groupAt (q .frame .table) group) where
-    pub activate-group : activate (contentsOf q) group ≡ need (room (contentsOf q) (pairsOf g)) noPlace (accept (withGroup (contentsOf q) (pairsOf g)))
+  module _ (k : group < q .frame .table .count) {g : Group} (a : g ≡ groupAt (q .frame .table .groups) group) where
+    abbrev asked : GroupPairs
+    asked = pairsOf (q .frame .table .loads) (q .frame .table .stores) g
+
+    pub activate-group : activate (contentsOf q) group ≡ need (room (contentsOf q) asked) noPlace (accept (withGroup (contentsOf q) asked))
     unfolding activate contentsOf
-    activate-group = rw (s, group-nth (q .frame .table) (groups-few (q .frame .table) (table-right q s)) whole group k a)
+    activate-group = rw (s, group-nth (q .frame .table) (groups-few (q .frame .table) (table-right q s)) group k a)

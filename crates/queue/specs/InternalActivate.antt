@@ -6,7 +6,7 @@ use mathlib.Core.Bool.{false}
 use mathlib.Core.List.{List, _++_, map}
 use lib.ListN.{length, getD}
 use Rattle.table.specs.declared.Pair.{Pair}
-use Rattle.table.specs.declared.Pairs.{Pairs}
+use Rattle.table.specs.declared.Span.{Span}
 use Rattle.table.specs.Group.{GroupPairs, blankPair, listOf, Inside}
 use Rattle.queue.specs.declared.Entry.{Entry}
 use Rattle.queue.specs.declared.Side.{Side}
@@ -22,20 +22,20 @@ abbrev pub storeAfter : ℕ → Pair → Store
 storeAfter loads p = newStore (p .port) (loads + p .offset)
 
 -- so many entries are held, there is place for the pairs, and what their entries hold has room in a number
-pub record PairsFit (held : ℕ) (ps : Pairs) : Type 0 where
+pub record PairsFit (held : ℕ) (places : List ℕ) (ps : Span) : Type 0 where
   pub inside : Inside ps
   pub few : ps .count ≤ 16
   pub room : held + ps .count ≤ 64
-  pub offsets : (i : ℕ) → i < ps .count → getD (listOf ps) i blankPair .offset ≤ 16
-  pub ports : (i : ℕ) → i < ps .count → getD (listOf ps) i blankPair .port < 32
+  pub offsets : (i : ℕ) → i < ps .count → getD (listOf places ps) i blankPair .offset ≤ 16
+  pub ports : (i : ℕ) → i < ps .count → getD (listOf places ps) i blankPair .port < 32
 
 -- the entry of a pair, on either side
 abbrev pub entryAfter : ℕ → Pair → Entry
 entryAfter others p = record { port = p .port; before = others + p .offset; addressed = false; filled = false; finished = false; address = 0; word = 0 }
 
 -- the pairs' entries stand behind those held
-pub record Appended (held : ℕ) (ps : Pairs) (others : ℕ) (l left : List ℕ) : Type 0 where
-  pub holds : entriesIn (held + ps .count) left ≡ entriesIn held l ++ map (entryAfter others) (listOf ps)
+pub record Appended (held : ℕ) (places : List ℕ) (ps : Span) (others : ℕ) (l left : List ℕ) : Type 0 where
+  pub holds : entriesIn (held + ps .count) left ≡ entriesIn held l ++ map (entryAfter others) (listOf places ps)
 
 -- a side that holds so many more
 abbrev pub longer : Side → ℕ → Side

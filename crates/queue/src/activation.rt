@@ -24,8 +24,9 @@ use crate::refusal::NO_PLACE;
 use crate::refusal::UNSOUND;
 use crate::sound::sound_in;
 use table::Group;
-use table::Pairs;
+use table::Span;
 use table::parts::group_at;
+use table::parts::unpack_pair;
 
 // Enough free places on a side: a finished entry that an older one holds back is not free.
 fn side_has_room(count: u8, more: u8, depth: u8) -> bool
@@ -48,16 +49,16 @@ fn has_room(loads: Side, stores: Side, group: Group) -> bool
 
 // Puts a group's entries of one kind behind those held. An entry comes after all of the other kind that are held and those of
 // its group that its offset counts.
-fn append(entries: &mut [u64], held: u8, pairs: Pairs, others: u8)
-    requires { ⌜ PairsFit held pairs × (others ≤ 64) × Whole (now entries) ⌝ }
-    ensures { λ _. ⌜ Appended held pairs others (now (entries .entry)) (now (entries .exit)) ⌝ }
+fn append(entries: &mut [u64], held: u8, places: &[u16; 32], pairs: Span, others: u8)
+    requires { ⌜ PairsFit held (now places) pairs × (others ≤ 64) × Whole (now entries) ⌝ }
+    ensures { λ _. ⌜ Appended held (now (places .entry)) pairs others (now (entries .entry)) (now (entries .exit)) ⌝ }
 {
     let start = held as usize;
     let more = pairs.count as usize;
     let first = pairs.first as usize;
     let mut j: usize = 0;
     while j < more {
-        let pair = pairs.places[first + j];
+        let pair = unpack_pair(places[first + j]);
         let entry = Entry {
             port: pair.port,
             before: others + pair.offset,
@@ -104,7 +105,7 @@ pub fn activate_in(
         return refused(NO_GROUP, frame);
     }
     let at = group as usize;
-    let chosen = group_at(table, at);
+    let chosen = group_at(&table.groups, at);
     let loads = frame.loads;
     let stores = frame.stores;
     if !has_room(loads, stores, chosen) {
@@ -112,8 +113,20 @@ pub fn activate_in(
     }
     let new_loads = chosen.loads;
     let new_stores = chosen.stores;
-    append(load_entries, loads.count, new_loads, stores.count);
-    append(store_entries, stores.count, new_stores, loads.count);
+    append(
+        load_entries,
+        loads.count,
+        &table.loads,
+        new_loads,
+        stores.count,
+    );
+    append(
+        store_entries,
+        stores.count,
+        &table.stores,
+        new_stores,
+        loads.count,
+    );
     let more_loads = longer(loads, new_loads.count);
     let more_stores = longer(stores, new_stores.count);
     Step {

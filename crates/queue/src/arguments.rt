@@ -89,8 +89,15 @@ pub fn load_address_in(
     if !sound_in(frame, load_entries, store_entries) {
         return UNSOUND;
     }
-    let table = frame.table;
-    if !has_port(table, false, port) {
+    let named = has_port(
+        frame.table.count,
+        &frame.table.groups,
+        &frame.table.loads,
+        &frame.table.stores,
+        false,
+        port,
+    );
+    if !named {
         return NO_PORT;
     }
     if frame.words as u32 <= address {
@@ -117,8 +124,15 @@ pub fn store_address_in(
     if !sound_in(frame, load_entries, store_entries) {
         return UNSOUND;
     }
-    let table = frame.table;
-    if !has_port(table, true, port) {
+    let named = has_port(
+        frame.table.count,
+        &frame.table.groups,
+        &frame.table.loads,
+        &frame.table.stores,
+        true,
+        port,
+    );
+    if !named {
         return NO_PORT;
     }
     if frame.words as u32 <= address {
@@ -145,8 +159,15 @@ pub fn store_data_in(
     if !sound_in(frame, load_entries, store_entries) {
         return UNSOUND;
     }
-    let table = frame.table;
-    if !has_port(table, true, port) {
+    let named = has_port(
+        frame.table.count,
+        &frame.table.groups,
+        &frame.table.loads,
+        &frame.table.stores,
+        true,
+        port,
+    );
+    if !named {
         return NO_PORT;
     }
     let stores = frame.stores;

@@ -1,8 +1,9 @@
 // Opening a queue: 4 to 8 of its table, then 11, 12, 13, 14.
 ghost use mathlib.Core.Path.{_≡_};
+ghost use mathlib.Core.Bool.{_&&_};
+ghost use lib.Dec.{leb};
 ghost use Prim.Native.Nat.{_≤_};
 ghost use Rattle.table.specs.Basics.{all};
-ghost use Rattle.table.specs.Group.{pairsOf, Inside};
 ghost use Rattle.table.specs.Table.{groupsOf};
 ghost use Rattle.queue.specs.Open.{groupFits, openQueue};
 ghost use Rattle.queue.specs.NoQueue.{freshFrame, noFrame, noQueue};
@@ -63,8 +64,7 @@ fn refused(answer: u8) -> OpenedFrame
 
 // The group has no more loads and stores than their depths.
 fn group_fits(group: Group, load_depth: u32, store_depth: u32) -> bool
-    requires { ⌜ Inside (group .loads) × Inside (group .stores) ⌝ }
-    ensures { λ r. ⌜ r ≡ groupFits «load_depth» «store_depth» (pairsOf group) ⌝ }
+    ensures { λ r. ⌜ r ≡ leb (group .loads .count) «load_depth» && leb (group .stores .count) «store_depth» ⌝ }
 {
     let loads = group.loads;
     let stores = group.stores;
@@ -81,7 +81,7 @@ fn groups_fit(table: Table, load_depth: u32, store_depth: u32) -> bool
     let count = table.count as usize;
     let mut i: usize = 0;
     while i < count {
-        let group = group_at(table, i);
+        let group = group_at(&table.groups, i);
         if !group_fits(group, load_depth, store_depth) {
             return false;
         }

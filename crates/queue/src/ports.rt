@@ -1,25 +1,26 @@
 // Which ports a table names: load ports and store ports are two separate series.
 ghost use mathlib.Core.Path.{_≡_};
-ghost use Rattle.table.specs.Basics.{pick, any};
-ghost use Rattle.table.specs.Group.{listOf, Inside};
-ghost use Rattle.table.specs.Table.{groupsOf, tableFault};
+ghost use Prim.Native.Nat.{_≤_};
+ghost use Rattle.table.specs.Basics.{any};
+ghost use Rattle.table.specs.Group.{listOf, pairsOf, Inside};
+ghost use Rattle.table.specs.Table.{groupsIn};
 ghost use Rattle.queue.specs.InternalArguments.{namesPort};
 ghost use Rattle.queue.specs.Arguments.{isPort};
 use table::Group;
-use table::Pairs;
-use table::Table;
+use table::Span;
 use table::parts::group_at;
+use table::parts::unpack_pair;
 
-// Is the port one of a group's?
-fn names_port(pairs: Pairs, port: u32) -> bool
+// Is the port one of these?
+fn names_port(places: &[u16; 32], pairs: Span, port: u32) -> bool
     requires { ⌜ Inside pairs ⌝ }
-    ensures { λ r. ⌜ r ≡ any (isPort port) (listOf pairs) ⌝ }
+    ensures { λ r. ⌜ r ≡ any (isPort port) (listOf (now (places .entry)) pairs) ⌝ }
 {
     let first = pairs.first as usize;
     let count = pairs.count as usize;
     let mut i: usize = 0;
     while i < count {
-        let pair = pairs.places[first + i];
+        let pair = unpack_pair(places[first + i]);
         if pair.port as u32 == port {
             return true;
         }
@@ -28,29 +29,42 @@ fn names_port(pairs: Pairs, port: u32) -> bool
     false
 }
 
-// A group's loads, or its stores.
-fn pairs_of(group: Group, storing: bool) -> Pairs
-    ensures { λ r. ⌜ r ≡ pick storing (group .stores) (group .loads) ⌝ }
+// Does the group name the port, among its store ports or among its load ports?
+fn group_names<'a>(
+    group: Group,
+    loads: &'a [u16; 32],
+    stores: &'a [u16; 32],
+    storing: bool,
+    port: u32,
+) -> bool
+    requires { ⌜ Inside (group .loads) × Inside (group .stores) ⌝ }
+    ensures { λ r. ⌜ r ≡ namesPort storing port (pairsOf (now (loads .entry)) (now (stores .entry)) group) ⌝ }
 {
-    let loads = group.loads;
-    let stores = group.stores;
+    let load_span = group.loads;
+    let store_span = group.stores;
     if storing {
-        return stores;
+        return names_port(stores, store_span, port);
     }
-    loads
+    names_port(loads, load_span, port)
 }
 
-// Does the table name the port, among its store ports or among its load ports?
-pub(crate) fn has_port(table: Table, storing: bool, port: u32) -> bool
-    requires { ⌜ tableFault (groupsOf table) ≡ 0 ⌝ }
-    ensures { λ r. ⌜ r ≡ any (namesPort storing port) (groupsOf table) ⌝ }
+// Does the table of these parts name the port, among its store ports or among its load ports?
+pub(crate) fn has_port<'a>(
+    count: u8,
+    groups: &'a [u32; 16],
+    loads: &'a [u16; 32],
+    stores: &'a [u16; 32],
+    storing: bool,
+    port: u32,
+) -> bool
+    requires { ⌜ count ≤ 16 ⌝ }
+    ensures { λ r. ⌜ r ≡ any (namesPort storing port) (groupsIn count (now (groups .entry)) (now (loads .entry)) (now (stores .entry))) ⌝ }
 {
-    let count = table.count as usize;
+    let many = count as usize;
     let mut i: usize = 0;
-    while i < count {
-        let group = group_at(table, i);
-        let pairs = pairs_of(group, storing);
-        if names_port(pairs, port) {
+    while i < many {
+        let group = group_at(groups, i);
+        if group_names(group, loads, stores, storing, port) {
             return true;
         }
         i += 1;

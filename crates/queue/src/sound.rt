@@ -14,7 +14,7 @@ use crate::Frame;
 use crate::Queue;
 use crate::Side;
 use crate::entries::unpack;
-use table::check::table_fault;
+use table::check::fault_in;
 
 // A depth is 1 to 64.
 pub(crate) fn depth_right(depth: u32) -> bool
@@ -105,8 +105,13 @@ pub fn sound_in(frame: Frame, load_entries: &[u64], store_entries: &[u64]) -> bo
     if !entries_right(store_entries, stores.count, frame.words, loads.count) {
         return false;
     }
-    let table = frame.table;
-    table_fault(table) == 0
+    let fault = fault_in(
+        frame.table.count,
+        &frame.table.groups,
+        &frame.table.loads,
+        &frame.table.stores,
+    );
+    fault == 0
 }
 
 impl Queue {

@@ -33,8 +33,15 @@ pub fn take_in(frame: Frame, load_entries: &mut [u64], store_entries: &mut [u64]
     if !sound_in(frame, load_entries, store_entries) {
         return refused(UNSOUND, frame);
     }
-    let table = frame.table;
-    if !has_port(table, false, port) {
+    let named = has_port(
+        frame.table.count,
+        &frame.table.groups,
+        &frame.table.loads,
+        &frame.table.stores,
+        false,
+        port,
+    );
+    if !named {
         return refused(NO_PORT, frame);
     }
     let loads = frame.loads;

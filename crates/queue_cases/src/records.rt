@@ -7,9 +7,12 @@ use queue::Frame;
 use queue::Queue;
 use queue::Side;
 use queue::entries::pack;
+use table::Group;
 use table::Pair;
 use table::Span;
 use table::Table;
+use table::parts::pack_group;
+use table::parts::pack_pair;
 
 fn byte(value: u32) -> u8 {
     (value % 256) as u8
@@ -74,22 +77,26 @@ fn packed(numbers: [u32; 8]) -> u64 {
 }
 
 // Of the numbers: group, first load's place, loads, first store's place, stores.
-fn span_of(numbers: [u32; 8]) -> Span {
-    Span {
-        first_load: byte(numbers[1]),
-        loads: byte(numbers[2]),
-        first_store: byte(numbers[3]),
-        stores: byte(numbers[4]),
-    }
+fn group_of(numbers: [u32; 8]) -> Group {
+    let loads = Span {
+        first: byte(numbers[1]),
+        count: byte(numbers[2]),
+    };
+    let stores = Span {
+        first: byte(numbers[3]),
+        count: byte(numbers[4]),
+    };
+    Group { loads, stores }
 }
 
 // Of the numbers: place, offset, port.
-fn with_pair(mut places: [Pair; 32], numbers: [u32; 8]) -> [Pair; 32] {
+fn with_pair(mut places: [u16; 32], numbers: [u32; 8]) -> [u16; 32] {
     let place = (numbers[0] % 32) as usize;
-    places[place] = Pair {
+    let pair = Pair {
         offset: byte(numbers[1]),
         port: byte(numbers[2]),
     };
+    places[place] = pack_pair(pair);
     places
 }
 
@@ -111,7 +118,7 @@ fn table_with(mut table: Table, command: usize, numbers: [u32; 8]) -> Table {
             table
         }
         _ => {
-            table.groups[group] = span_of(numbers);
+            table.groups[group] = pack_group(group_of(numbers));
             table
         }
     }

@@ -4,29 +4,13 @@ use queue::Entry;
 use queue::Frame;
 use queue::Queue;
 use queue::Side;
-use table::Pair;
-use table::Span;
 use table::Table;
 
-fn same_span(a: Span, b: Span) -> bool {
-    if a.first_load != b.first_load {
-        return false;
-    }
-    if a.loads != b.loads {
-        return false;
-    }
-    if a.first_store != b.first_store {
-        return false;
-    }
-    a.stores == b.stores
-}
-
-fn same_spans(a: [Span; 16], b: [Span; 16]) -> bool {
+// Groups and pairs are compared as the table holds them, packed: two numbers that differ hold groups or pairs that differ.
+fn same_groups(a: [u32; 16], b: [u32; 16]) -> bool {
     let mut i: usize = 0;
     while i < 16 {
-        let x = a[i];
-        let y = b[i];
-        if !same_span(x, y) {
+        if a[i] != b[i] {
             return false;
         }
         i += 1;
@@ -34,15 +18,10 @@ fn same_spans(a: [Span; 16], b: [Span; 16]) -> bool {
     true
 }
 
-fn same_pairs(a: [Pair; 32], b: [Pair; 32]) -> bool {
+fn same_pairs(a: [u16; 32], b: [u16; 32]) -> bool {
     let mut i: usize = 0;
     while i < 32 {
-        let x = a[i];
-        let y = b[i];
-        if x.offset != y.offset {
-            return false;
-        }
-        if x.port != y.port {
+        if a[i] != b[i] {
             return false;
         }
         i += 1;
@@ -56,7 +35,7 @@ fn same_table(a: Table, b: Table) -> bool {
     }
     let a_groups = a.groups;
     let b_groups = b.groups;
-    if !same_spans(a_groups, b_groups) {
+    if !same_groups(a_groups, b_groups) {
         return false;
     }
     let a_loads = a.loads;

@@ -6,19 +6,19 @@ use mathlib.Core.List.{List, [], _∷_, map, append-nil}
 use native.Mathlib.Omega.{arith}
 use native.Mathlib.Nat.{le-trans}
 use lib.Dec.{leb, ltb, eqb}
-use lib.ListN.{length, getD, take, drop, set, length-set, length-map, List·getD-map, length-append, length-take, length-drop, length-replicate, drop-of-length-le}
+use lib.ListN.{length, getD, take, drop, set, length-set, replicate, length-map, List·getD-map, length-append, length-take, length-replicate, drop-of-length-le}
 use lib.Seq.{getD-take, getD-drop, drop-cons}
 use native.Mathlib.Numerals.{add-one}
 use borrow.Author.Tests.{le-leb, lt-leb, leb-true, leb-false, lt-ltb, le-ltb, ltb-true, ltb-false, eq-eqb, ne-eqb, eqb-true}
 use Rattle.table.specs.declared.Pair.{Pair}
-use Rattle.table.specs.declared.Pairs.{Pairs}
 use Rattle.table.specs.declared.Group.{Group}
 use Rattle.table.specs.declared.Span.{Span}
 use Rattle.table.specs.declared.Table.{Table}
 use Rattle.table.specs.Refusal.{badGroupCount, badCounts}
 use Rattle.table.specs.Basics.{pick, held, count, within, check, orElse}
+use Rattle.table.specs.Packed.{pairIn, groupIn}
 use Rattle.table.specs.Group.{GroupPairs, blankPair, listOf, Inside, pairsOf, beforeStore}
-use Rattle.table.specs.Table.{blankSpan, pairsAt, groupAt, meantIn, groupsOf, loadRule, storeRule, pairFault, pairsFault, seeing, countsRight, Seen, noneSeen, seenAfter, groupFault, groupsFault, tableFault}
+use Rattle.table.specs.Table.{spanMeant, groupAt, meantIn, groupsOf, loadRule, storeRule, pairFault, pairsFault, seeing, countsRight, Seen, noneSeen, seenAfter, groupFault, groupsFault, tableFault}
 use Rattle.table.specs.Internal.{ruleOf, Rising, RuleRight, GroupInside}
 
 -- ---- what an array and a count hold, where the count is within the array
@@ -31,44 +31,49 @@ module _ {A : Type 0} (blank : A) (n : ℕ) (l : List A) (h : n ≤ length l) wh
   pub held-at : (i : ℕ) (d : A) → i < n → getD (held blank n l) i d ≡ getD l i d
   held-at i d k = rw held-few (getD-take n l i d k)
 
+-- an element that is held is the array's, whatever the array: a blank stands past its end
+blanks : {A : Type 0} (blank : A) (n i : ℕ) → getD (replicate n blank) i blank ≡ blank
+blanks blank zero i = refl
+blanks blank (suc n) zero = refl
+blanks blank (suc n) (suc i) = blanks blank n i
+
+pub held-here : {A : Type 0} (blank : A) (n : ℕ) (l : List A) (i : ℕ) → i < n → getD (held blank n l) i blank ≡ getD l i blank
+held-here blank zero l i h = absurd (omega arith)
+held-here blank (suc n) [] i h = blanks blank (suc n - 0) i
+held-here blank (suc n) (x ∷ l) zero h = refl
+held-here blank (suc n) (x ∷ l) (suc i) h =
+    let e : suc n - suc (length l) ≡ n - length l = omega arith in
+    rw e (held-here blank n l i (omega arith))
+
 -- the list is as long as the count, whatever the array
 pub held-length : {A : Type 0} (blank : A) (n : ℕ) (l : List A) → length (held blank n l) ≡ n
 held-length blank n l = rw (length-append, length-take, length-replicate) (omega arith)
 
--- ---- accesses that end where the places end, or before
-module _ (ps : Pairs) (whole : length (ps .places) ≡ 32) (inside : Inside ps) where
-  pub view-length : length (listOf ps) ≡ ps .count
-  view-length = rw (length-take, length-drop, whole) (omega arith)
+-- ---- accesses from a place on
+module _ (places : List ℕ) (s : Span) where
+  pub view-length : length (listOf places s) ≡ s .count
+  view-length = length-map (held 0 (s .count) (drop (s .first) places)) pairIn ∙ held-length 0 (s .count) (drop (s .first) places)
 
-  pub view-at : (i : ℕ) → i < ps .count → getD (listOf ps) i blankPair ≡ getD (ps .places) (ps .first + i) blankPair
-  view-at i h = getD-take (ps .count) (drop (ps .first) (ps .places)) i blankPair h ∙ getD-drop (ps .first) (ps .places) i blankPair
-
--- both lists of a group are as long as their counts
-pub record Sized (g : Group) : Type 0 where
-  pub loads : length (listOf (g .loads)) ≡ g .loads .count
-  pub stores : length (listOf (g .stores)) ≡ g .stores .count
-
-pub sized : {g : Group} → length (g .loads .places) ≡ 32 → length (g .stores .places) ≡ 32 → GroupInside g → Sized g
-sized {g} l s h = record { loads = view-length (g .loads) l (h .0); stores = view-length (g .stores) s (h .1) }
+  pub view-at : (i : ℕ) → i < s .count → getD (listOf places s) i blankPair ≡ pairIn (getD places (s .first + i) 0)
+  unfolding pairIn
+  view-at i h =
+      List·getD-map pairIn (held 0 (s .count) (drop (s .first) places)) i 0
+      ∙ ap pairIn (held-here 0 (s .count) (drop (s .first) places) i h ∙ getD-drop (s .first) places i 0)
 
 -- what a table hands over as its accesses has the places for them
-pairs-inside : (first n : ℕ) (places : List Pair) → Inside (pairsAt first n places)
-pairs-inside first n places = go (leb (first + n) 32) refl (eqb n 0) refl
+span-inside : (s : Span) → Inside (spanMeant s)
+span-inside s = go (leb (s .first + s .count) 32) refl (eqb (s .count) 0) refl
   where
-    go : (t : Bool) → leb (first + n) 32 ≡ t → (u : Bool) → eqb n 0 ≡ u → Inside (pairsAt first n places)
-    go true h u k = rw h (leb-true (first + n) 32 h)
+    go : (t : Bool) → leb (s .first + s .count) 32 ≡ t → (u : Bool) → eqb (s .count) 0 ≡ u → Inside (spanMeant s)
+    go true h u k = rw h (leb-true (s .first + s .count) 32 h)
     go false h true k = rw (h, k) (omega arith)
     go false h false k = rw (h, k) (omega arith)
 
-pub group-inside : (t : Table) (i : ℕ) {g : Group} → g ≡ groupAt t i → GroupInside g
+pub group-inside : (groups : List ℕ) (i : ℕ) {g : Group} → g ≡ groupAt groups i → GroupInside g
 unfolding groupAt
-group-inside t i e =
-    let s = getD (t .groups) i blankSpan in
-    rw e (pairs-inside (s .«first_load») (s .loads) (t .loads), pairs-inside (s .«first_store») (s .stores) (t .stores))
-
--- a list is never longer than its count
-pub view-most : (ps : Pairs) → length (listOf ps) ≤ ps .count
-view-most ps = rw length-take (omega arith)
+group-inside groups i e =
+    let g = groupIn (getD (take 16 groups) i 0) in
+    rw e (span-inside (g .loads), span-inside (g .stores))
 
 -- ---- how many of rising offsets are at most j
 abbrev offsetAt : List Pair → ℕ → ℕ
@@ -128,20 +133,23 @@ pub long : {A B : Type 0} (f : A → B) (l : List A) (n : ℕ) → length (map f
 long f [] n p = p
 long f (x ∷ xs) n p = ap suc (long f xs (length (map f xs)) refl) ∙ p
 
-module _ (loads : Pairs) (n i : ℕ) (r : Rising 0 (listOf loads)) (whole : length (loads .places) ≡ 32) (inside : Inside loads) where
-  size : length (listOf loads) ≡ loads .count
-  size = view-length loads whole inside
+module _ (places : List ℕ) (loads : Span) (n i : ℕ) (r : Rising 0 (listOf places loads)) where
+  abbrev listed : List Pair
+  listed = listOf places loads
 
-  pub none-more : loads .count ≤ n → false ≡ ltb n (count (beforeStore i) (listOf loads))
-  none-more h = sym (le-ltb n _ (omega (arith, size, count-most (beforeStore i) (listOf loads))))
+  size : length listed ≡ loads .count
+  size = view-length places loads
 
-  pub more-at : n < loads .count → leb (getD (loads .places) (loads .first + n) blankPair .offset) i ≡ ltb n (count (beforeStore i) (listOf loads))
+  pub none-more : loads .count ≤ n → false ≡ ltb n (count (beforeStore i) (listOf places loads))
+  none-more h = sym (le-ltb n _ (omega (arith, size, count-most (beforeStore i) listed)))
+
+  pub more-at : n < loads .count → leb (pairIn (getD places (loads .first + n) 0) .offset) i ≡ ltb n (count (beforeStore i) (listOf places loads))
   more-at h =
-      rw (← view-at loads whole inside n h) (go (leb (offsetAt (listOf loads) n) i) refl)
+      rw (← view-at places loads n h) (go (leb (offsetAt listed n) i) refl)
     where
-      go : (t : Bool) → leb (offsetAt (listOf loads) n) i ≡ t → leb (offsetAt (listOf loads) n) i ≡ ltb n (count (beforeStore i) (listOf loads))
-      go true e = rw (e, lt-ltb n _ (count-above 0 (listOf loads) n i r (omega (arith, size)) (leb-true _ _ e)))
-      go false e = rw (e, le-ltb n _ (count-below 0 (listOf loads) n i r (omega (arith, size)) (leb-false _ _ e)))
+      go : (t : Bool) → leb (offsetAt listed n) i ≡ t → leb (offsetAt listed n) i ≡ ltb n (count (beforeStore i) listed)
+      go true e = rw (e, lt-ltb n _ (count-above 0 listed n i r (omega (arith, size)) (leb-true _ _ e)))
+      go false e = rw (e, le-ltb n _ (count-below 0 listed n i r (omega (arith, size)) (leb-false _ _ e)))
 
 -- ---- checking pairs one by one
 
@@ -214,19 +222,19 @@ counts-few a b e =
     let f = and-left (leb a 16 && leb b 16) _ e in
     (leb-true a 16 (and-left (leb a 16) _ f), leb-true b 16 (and-right (leb a 16) _ f))
 
-module _ (g : Group) (seen : Seen) (z : Sized g) where
-  pub group-counts : countsRight (g .loads .count) (g .stores .count) ≡ false → badCounts ≡ groupFault seen (pairsOf g)
+module _ (ls ss : List ℕ) (g : Group) (seen : Seen) where
+  pub group-counts : countsRight (g .loads .count) (g .stores .count) ≡ false → badCounts ≡ groupFault seen (pairsOf ls ss g)
   unfolding groupFault
-  group-counts e = rw (z .loads, z .stores, e)
+  group-counts e = rw (view-length ls (g .loads), view-length ss (g .stores), e)
 
   module _ (right : countsRight (g .loads .count) (g .stores .count) ≡ true) where
-    pub group-loads : {n : ℕ} → n ≡ pairsFault (loadRule (g .stores .count)) 0 0 (seen .loads) (listOf (g .loads)) → (n ≡ 0 → ⊥) → n ≡ groupFault seen (pairsOf g)
+    pub group-loads : {n : ℕ} → n ≡ pairsFault (loadRule (g .stores .count)) 0 0 (seen .loads) (listOf ls (g .loads)) → (n ≡ 0 → ⊥) → n ≡ groupFault seen (pairsOf ls ss g)
     unfolding groupFault
-    group-loads {n} e some = rw (z .loads, z .stores, right, ← e) (sym (or-else-some n _ some))
+    group-loads {n} e some = rw (view-length ls (g .loads), view-length ss (g .stores), right, ← e) (sym (or-else-some n _ some))
 
-    pub group-stores : {n : ℕ} → pairsFault (loadRule (g .stores .count)) 0 0 (seen .loads) (listOf (g .loads)) ≡ 0 → n ≡ pairsFault (storeRule (listOf (g .loads))) 0 0 (seen .stores) (listOf (g .stores)) → n ≡ groupFault seen (pairsOf g)
+    pub group-stores : {n : ℕ} → pairsFault (loadRule (g .stores .count)) 0 0 (seen .loads) (listOf ls (g .loads)) ≡ 0 → n ≡ pairsFault (storeRule (listOf ls (g .loads))) 0 0 (seen .stores) (listOf ss (g .stores)) → n ≡ groupFault seen (pairsOf ls ss g)
     unfolding groupFault
-    group-stores d e = rw (z .loads, z .stores, right, d) e
+    group-stores d e = rw (view-length ls (g .loads), view-length ss (g .stores), right, d) e
 
 -- ---- checking groups one by one
 pub record Passing (seen : Seen) (gs : List GroupPairs) (i : ℕ) (now : Seen) : Type 0 where
@@ -259,26 +267,26 @@ within-any (x ∷ xs) zero d e h = refl
 within-any (x ∷ xs) (suc i) d e h = within-any xs i d e (omega arith)
 
 module _ (t : Table) where
-  abbrev parts : List Span
-  parts = held blankSpan (t .count) (t .groups)
+  abbrev parts : List ℕ
+  parts = held 0 (t .count) (t .groups)
 
-  abbrev partOf : Span → GroupPairs
+  abbrev partOf : ℕ → GroupPairs
   partOf = meantIn (t .loads) (t .stores)
 
   pub groups-size : length (groupsOf t) ≡ t .count
-  groups-size = length-map parts partOf ∙ held-length blankSpan (t .count) (t .groups)
+  groups-size = length-map parts partOf ∙ held-length 0 (t .count) (t .groups)
 
-  module _ (whole : t .count ≤ length (t .groups)) (i : ℕ) (k : i < t .count) (d : GroupPairs) where
-    pub groups-at : getD (groupsOf t) i d ≡ pairsOf (groupAt t i)
+  module _ (few : t .count ≤ 16) (i : ℕ) (k : i < t .count) (d : GroupPairs) where
+    pub groups-at : getD (groupsOf t) i d ≡ pairsOf (t .loads) (t .stores) (groupAt (t .groups) i)
     unfolding groupAt
     groups-at =
-        within-any (groupsOf t) i d (partOf blankSpan) (omega (arith, groups-size))
-        ∙ List·getD-map partOf parts i blankSpan
-        ∙ ap partOf (held-at blankSpan (t .count) (t .groups) whole i blankSpan k)
+        within-any (groupsOf t) i d (partOf 0) (omega (arith, groups-size))
+        ∙ List·getD-map partOf parts i 0
+        ∙ ap partOf (held-here 0 (t .count) (t .groups) i k ∙ sym (getD-take 16 (t .groups) i 0 (omega arith)))
 
     -- what is handed over as the group at a place is that group
-    pub group-at : {g : Group} → g ≡ groupAt t i → getD (groupsOf t) i d ≡ pairsOf g
-    group-at e = groups-at ∙ ap pairsOf (sym e)
+    pub group-at : {g : Group} → g ≡ groupAt (t .groups) i → getD (groupsOf t) i d ≡ pairsOf (t .loads) (t .stores) g
+    group-at e = groups-at ∙ ap (pairsOf (t .loads) (t .stores)) (sym e)
 
   pub table-count : within 1 16 (t .count) ≡ false → badGroupCount ≡ tableFault (groupsOf t)
   unfolding tableFault
@@ -289,6 +297,6 @@ module _ (t : Table) where
   table-groups e n d = rw (groups-size, e) d
 
 -- a right offset is at most 16
-pub rule-small : (storing : Bool) (stores : ℕ) (loads : Pairs) (low i offset : ℕ) → RuleRight storing stores loads → ruleOf storing stores loads low i offset ≡ true → offset ≤ 16
-rule-small true stores loads low i offset w e = omega (arith, eqb-true offset (count (beforeStore i) (listOf loads)) e, count-most (beforeStore i) (listOf loads), view-most loads, w .few)
-rule-small false stores loads low i offset w e = omega (arith, leb-true offset stores (and-right (leb low offset) _ e), w .few-stores)
+pub rule-small : (storing : Bool) (stores : ℕ) (places : List ℕ) (loads : Span) (low i offset : ℕ) → RuleRight storing stores places loads → ruleOf storing stores (listOf places loads) low i offset ≡ true → offset ≤ 16
+rule-small true stores places loads low i offset w e = omega (arith, eqb-true offset (count (beforeStore i) (listOf places loads)) e, count-most (beforeStore i) (listOf places loads), view-length places loads, w .few)
+rule-small false stores places loads low i offset w e = omega (arith, leb-true offset stores (and-right (leb low offset) _ e), w .few-stores)

@@ -7,21 +7,22 @@ use native.Mathlib.Omega.{arith}
 use native.Mathlib.Nat.{add-assoc, add-zero, zero-add, sub-zero}
 use native.Mathlib.Numerals.{unary-clauses}
 use lib.Dec.{leb}
-use borrow.Author.Tests.{le-leb}
-use lib.ListN.{length, getD, drop, set, replicate, length-set, length-append}
-use lib.Seq.{take-at, set-at, append-snoc, take-append-seam, drop-append-seam, drop-append-add, drop-drop}
+use borrow.Author.Tests.{le-leb, leb-true, eqb-true}
+use lib.ListN.{length, getD, drop, set, replicate, length-set, length-map, length-append}
+use lib.Seq.{take-at, drop-at, set-at, append-snoc, drop-append-add, drop-drop}
 use Rattle.table.specs.declared.Pair.{Pair}
-use Rattle.table.specs.declared.Group.{Group}
-use Rattle.table.specs.declared.Span.{Span}
+use Rattle.table.specs.declared.read.NewGroup.{NewGroup}
 use Rattle.table.specs.declared.Table.{Table}
-use Rattle.table.specs.Basics.{pick, count, flat, within, check}
+use Rattle.table.specs.Basics.{pick, held, count, flat, within, check}
 use Rattle.table.specs.Refusal.{badGroupCount, badCounts}
-use Rattle.table.specs.Group.{GroupPairs, listOf}
-use Rattle.table.specs.Table.{blankSpan, pairsAt, meantIn, groupsOf, loadRule, storeRule, pairFault, pairsFault, seeing, countsRight, Seen, noneSeen, seenAfter, groupFault, groupsFault, tableFault}
-use Rattle.table.specs.TableBytes.{filled, spans, loadsIn, storesIn, pack}
+use Rattle.table.specs.Packed.{pairIn, packedPair, groupIn, packedGroup, SmallPair, SmallSpan}
+use Rattle.table.specs.Group.{GroupPairs, listOf, beforeStore}
+use Rattle.table.specs.Table.{spanMeant, meantIn, groupsOf, loadRule, storeRule, pairFault, pairsFault, seeing, countsRight, Seen, noneSeen, seenAfter, groupFault, groupsFault, tableFault}
+use Rattle.table.specs.TableBytes.{filled, placed, spans, loadsIn, storesIn, pack}
 use Rattle.table.specs.RoundTrip.{AccessesFit}
-use Rattle.table.specs.Internal.{packPairs, packGroup, putIn, Grown}
-use Rattle.table.proofs.CheckLaws.{held-few, count-most, fault-none}
+use Rattle.table.specs.Internal.{front, packPairs, packGroup, putIn, Grown}
+use Rattle.table.proofs.PackedLaws.{groups-read-back, AllSmall, all-read-back, map-append}
+use Rattle.table.proofs.CheckLaws.{held-few, count-most, fault-none, and-right, counts-few}
 use Rattle.table.proofs.WriteLaws.{or-else-both, check-both}
 
 -- the parts of a right group
@@ -114,47 +115,80 @@ accesses-fit gs e =
     let r = marks-groups noneSeen gs marks-none (f .1) in
     (omega (arith, r .0), omega (arith, r .1))
 
+-- ---- the pairs of a right table have room in a number
+
+-- where no right offset is above `top`, the pairs with no fault are small
+pairs-small : (rule : ℕ → ℕ → ℕ → Bool) (top : ℕ) → top < 256 → ((low i offset : ℕ) → rule low i offset ≡ true → offset ≤ top)
+    → (low i : ℕ) (seen : List Bool) (ps : List Pair) → pairsFault rule low i seen ps ≡ 0 → AllSmall ps
+unfolding pairsFault
+pairs-small rule top h most low i seen [] e = tt
+pairs-small rule top h most low i seen (p ∷ ps) e =
+    let f = or-else-both (pairFault (rule low i (p .offset)) seen (p .port)) _ e in
+    let g = fault-none (rule low i (p .offset)) seen (p .port) (f .0) in
+    (record { offset = omega (arith, most low i (p .offset) (g .0)); port = omega (arith, g .1) }, pairs-small rule top h most (p .offset) (suc i) (set seen (p .port) true) ps (f .1))
+
+-- the pairs of every group are small
+abbrev SmallGroups : List GroupPairs → Type 0
+SmallGroups [] = Unit {0}
+SmallGroups (g ∷ gs) = AllSmall (g .loads) × AllSmall (g .stores) × SmallGroups gs
+
+groups-small : (seen : Seen) (gs : List GroupPairs) → groupsFault seen gs ≡ 0 → SmallGroups gs
+unfolding groupsFault
+groups-small seen [] e = tt
+groups-small seen (g ∷ gs) e =
+    let f = or-else-both (groupFault seen g) _ e in
+    let (right, ls, ss) = group-fault seen g (f .0) in
+    let few = counts-few (length (g .loads)) (length (g .stores)) right in (
+      pairs-small (loadRule (length (g .stores))) 16 (omega arith) (λ low i offset r. omega (arith, leb-true offset (length (g .stores)) (and-right (leb low offset) _ r), few .1)) 0 0 (seen .loads) (g .loads) ls,
+      pairs-small (storeRule (g .loads)) 16 (omega arith) (λ low i offset r. omega (arith, eqb-true offset (count (beforeStore i) (g .loads)) r, count-most (beforeStore i) (g .loads), few .0)) 0 0 (seen .stores) (g .stores) ss,
+      groups-small (seenAfter g seen) gs (f .1),
+    )
+
 -- ---- the record holds the groups
 
--- the pairs that a packed record holds
-pub list-packed : (ls : List Pair) → listOf (packPairs ls) ≡ ls
-list-packed ls = take-append-seam ls _
+-- what stands at the front of numbers, so many
+front-held : (xs : List Pair) (rest : List ℕ) → AllSmall xs → map pairIn (held 0 (length xs) (map packedPair xs ++ rest)) ≡ xs
+front-held xs rest small =
+    let n : length (map packedPair xs) ≡ length xs = length-map xs packedPair in
+    let h : length xs ≤ length (map packedPair xs ++ rest) = rw (length-append, n) (omega arith) in
+    ap (map pairIn) (held-few 0 (length xs) (map packedPair xs ++ rest) h ∙ take-at (map packedPair xs) rest (length xs) n) ∙ all-read-back xs small
 
 -- accesses that stand behind others: where they are few enough they are just these
-part-front : (places : List Pair) (first : ℕ) (xs rest blanks : List Pair) → drop first places ≡ (xs ++ rest) ++ blanks → first + length xs ≤ 32
-    → (listOf (pairsAt first (length xs) places) ≡ xs) × (drop (first + length xs) places ≡ rest ++ blanks)
-part-front places first xs rest blanks e few =
-    let d : drop first places ≡ xs ++ (rest ++ blanks) = e ∙ append-assoc xs rest blanks in
-    (rw (le-leb (first + length xs) 32 few, d) (take-append-seam xs (rest ++ blanks)), sym (drop-drop (length xs) first places) ∙ rw d (drop-append-seam xs (rest ++ blanks)))
+part-front : (places : List ℕ) (first : ℕ) (xs rest : List Pair) (more : List ℕ) → drop first places ≡ map packedPair (xs ++ rest) ++ more → first + length xs ≤ 32 → AllSmall xs
+    → (listOf places (spanMeant (record { first = first; count = length xs })) ≡ xs) × (drop (first + length xs) places ≡ map packedPair rest ++ more)
+part-front places first xs rest more e few small =
+    let n : length (map packedPair xs) ≡ length xs = length-map xs packedPair in
+    let d : drop first places ≡ map packedPair xs ++ (map packedPair rest ++ more) = e ∙ ap (λ (l : List ℕ). l ++ more) (map-append packedPair xs rest) ∙ append-assoc (map packedPair xs) (map packedPair rest) more in
+    (rw (le-leb (first + length xs) 32 few, d) (front-held xs (map packedPair rest ++ more) small), sym (drop-drop (length xs) first places) ∙ rw d (drop-at (map packedPair xs) (map packedPair rest ++ more) (length xs) n))
 
-spans-hold : (loads stores : List Pair) (load store : ℕ) (gs : List GroupPairs) (l s : List Pair) → drop load loads ≡ loadsIn gs ++ l → drop store stores ≡ storesIn gs ++ s
-    → load + length (loadsIn gs) ≤ 32 → store + length (storesIn gs) ≤ 32 → map (meantIn loads stores) (spans load store gs) ≡ gs
-spans-hold loads stores load store [] l s e f h k = refl
-spans-hold loads stores load store (g ∷ gs) l s e f h k =
+spans-hold : (loads stores : List ℕ) (load store : ℕ) (gs : List GroupPairs) (l s : List ℕ) → drop load loads ≡ map packedPair (loadsIn gs) ++ l → drop store stores ≡ map packedPair (storesIn gs) ++ s
+    → load + length (loadsIn gs) ≤ 32 → store + length (storesIn gs) ≤ 32 → SmallGroups gs → map (meantIn loads stores) (spans load store gs) ≡ gs
+spans-hold loads stores load store [] l s e f h k small = refl
+spans-hold loads stores load store (g ∷ gs) l s e f h k small =
     let x : load + (length (g .loads) + length (loadsIn gs)) ≤ 32 = rw length-append at h in
     let y : store + (length (g .stores) + length (storesIn gs)) ≤ 32 = rw length-append at k in
-    let p = part-front loads load (g .loads) (loadsIn gs) l e (omega (arith, x)) in
-    let q = part-front stores store (g .stores) (storesIn gs) s f (omega (arith, y)) in
-    rw (p .0, q .0, spans-hold loads stores (load + length (g .loads)) (store + length (g .stores)) gs l s (p .1) (q .1) (omega (arith, x)) (omega (arith, y)))
+    let p = part-front loads load (g .loads) (loadsIn gs) l e (omega (arith, x)) (small .0) in
+    let q = part-front stores store (g .stores) (storesIn gs) s f (omega (arith, y)) (small .1) in
+    let b : groupIn (packedGroup (placed load store g)) ≡ placed load store g = groups-read-back (placed load store g) (record { first = omega (arith, x); count = omega (arith, x) }) (record { first = omega (arith, y); count = omega (arith, y) }) in
+    rw (b, p .0, q .0, spans-hold loads stores (load + length (g .loads)) (store + length (g .stores)) gs l s (p .1) (q .1) (omega (arith, x)) (omega (arith, y)) (small .2))
 
 spans-length : (load store : ℕ) (gs : List GroupPairs) → length (spans load store gs) ≡ length gs
 spans-length load store [] = refl
 spans-length load store (g ∷ gs) = ap suc (spans-length (load + length (g .loads)) (store + length (g .stores)) gs)
 
 pub groups-packed : (gs : List GroupPairs) → tableFault gs ≡ 0 → groupsOf (pack gs) ≡ gs
+unfolding tableFault
 groups-packed gs right =
     let n = spans-length 0 0 gs in
-    let blanks = replicate (16 - length gs) blankSpan in
+    let blanks : List ℕ = replicate (16 - length gs) 0 in
     let h : length gs ≤ length (spans 0 0 gs ++ blanks) = rw (length-append, n) (omega arith) in
-    ap (map (meantIn (pack gs .loads) (pack gs .stores))) (held-few blankSpan (length gs) (spans 0 0 gs ++ blanks) h ∙ take-at (spans 0 0 gs) blanks (length gs) n)
-    ∙ spans-hold (pack gs .loads) (pack gs .stores) 0 0 gs _ _ refl refl (omega (arith, accesses-fit gs right .0)) (omega (arith, accesses-fit gs right .1))
+    let f = check-both (within 1 16 (length gs)) badGroupCount (groupsFault noneSeen gs) (λ z. omega arith) right in
+    ap (map (meantIn (pack gs .loads) (pack gs .stores))) (held-few 0 (length gs) (spans 0 0 gs ++ blanks) h ∙ take-at (spans 0 0 gs) blanks (length gs) n)
+    ∙ spans-hold (pack gs .loads) (pack gs .stores) 0 0 gs _ _ refl refl (omega (arith, accesses-fit gs right .0)) (omega (arith, accesses-fit gs right .1)) (groups-small noneSeen gs (f .1))
 
 -- ---- the record with a group more
 
-abbrev pub spanAt : ℕ → ℕ → GroupPairs → Span
-spanAt load store g = record { «first_load» = load; loads = length (g .loads); «first_store» = store; stores = length (g .stores) }
-
-spans-snoc : (load store : ℕ) (gs : List GroupPairs) (g : GroupPairs) → spans load store (gs ++ g ∷ []) ≡ spans load store gs ++ spanAt (load + length (loadsIn gs)) (store + length (storesIn gs)) g ∷ []
+spans-snoc : (load store : ℕ) (gs : List GroupPairs) (g : GroupPairs) → spans load store (gs ++ g ∷ []) ≡ spans load store gs ++ packedGroup (placed (load + length (loadsIn gs)) (store + length (storesIn gs)) g) ∷ []
 spans-snoc load store [] g = rw (add-zero, add-zero)
 spans-snoc load store (x ∷ gs) g =
     rw (length-append, length-append, ← add-assoc, ← add-assoc, spans-snoc (load + length (x .loads)) (store + length (x .stores)) gs g)
@@ -170,18 +204,24 @@ drop-replicate (suc n) (suc m) a = drop-replicate n m a ∙ simp unary-clauses
 
 filled-more : (xs ls : List Pair) → putIn (filled xs) (length xs) (packPairs ls) ≡ filled (xs ++ ls)
 filled-more xs ls =
+    let n : length (map packedPair xs) ≡ length xs = length-map xs packedPair in
+    let m : length (map packedPair ls) ≡ length ls = length-map ls packedPair in
+    let blanks : List ℕ = replicate (32 - length xs) 0 in
     let e : 32 - length xs - length ls ≡ 32 - length (xs ++ ls) = rw length-append (omega arith) in
-    rw (take-append-seam, take-append-seam, drop-append-add, drop-replicate, e)
+    let d : drop (length xs + length ls) (filled xs) ≡ replicate (32 - length (xs ++ ls)) 0 =
+    ap (λ (k : ℕ). drop (k + length ls) (filled xs)) (sym n) ∙ drop-append-add (map packedPair xs) blanks (length ls) ∙ rw (drop-replicate, e)
+    in
+    rw (take-at (map packedPair xs) blanks (length xs) n, take-at (map packedPair ls) (replicate (32 - length ls) 0) (length ls) m, d, map-append)
 
-spans-more : (done : List GroupPairs) (g : GroupPairs) → length done < 16 → set (pack done .groups) (length done) (spanAt (length (loadsIn done)) (length (storesIn done)) g) ≡ pack (done ++ g ∷ []) .groups
+spans-more : (done : List GroupPairs) (g : GroupPairs) → length done < 16 → set (pack done .groups) (length done) (packedGroup (placed (length (loadsIn done)) (length (storesIn done)) g)) ≡ pack (done ++ g ∷ []) .groups
 spans-more done g h =
-    let blanks = replicate (16 - (length done + 1)) blankSpan in
+    let blanks : List ℕ = replicate (16 - (length done + 1)) 0 in
     let m : 16 - length done ≡ suc (16 - (length done + 1)) = omega arith in
-    let x = spanAt (length (loadsIn done)) (length (storesIn done)) g in
+    let x : ℕ = packedGroup (placed (length (loadsIn done)) (length (storesIn done)) g) in
     let e : spans 0 0 (done ++ g ∷ []) ≡ spans 0 0 done ++ x ∷ [] = spans-snoc 0 0 done g ∙ rw (zero-add, zero-add) in
-    rw (e, length-append, m) (set-at (spans 0 0 done) blankSpan blanks x (length done) (spans-length 0 0 done) ∙ sym (append-snoc (spans 0 0 done) x blanks))
+    rw (e, length-append, m) (set-at (spans 0 0 done) 0 blanks x (length done) (spans-length 0 0 done) ∙ sym (append-snoc (spans 0 0 done) x blanks))
 
-abbrev tableMade : ℕ → List Span → List Pair → List Pair → Table
+abbrev tableMade : ℕ → List ℕ → List ℕ → List ℕ → Table
 tableMade n groups loads stores = record { count = n; groups = groups; loads = loads; stores = stores }
 
 -- the record of these groups, whose loads and stores are so many
@@ -193,7 +233,7 @@ pub record Packed (t : Table) (loads stores : ℕ) (done : List GroupPairs) : Ty
 pub packed-none : {t : Table} → t ≡ pack [] → Packed t 0 0 []
 packed-none e = record { table = e; loads-are = refl; stores-are = refl }
 
-pub packed-more : {t : Table} {loads stores : ℕ} {done : List GroupPairs} {x : Group} {r : Table} → Packed t loads stores done → (g : GroupPairs) → x ≡ packGroup g → length done < 16 → Grown t loads stores x r → Packed r (loads + x .loads .count) (stores + x .stores .count) (done ++ g ∷ [])
+pub packed-more : {t : Table} {loads stores : ℕ} {done : List GroupPairs} {x : NewGroup} {r : Table} → Packed t loads stores done → (g : GroupPairs) → x ≡ packGroup g → length done < 16 → Grown t loads stores x r → Packed r (loads + x .loads .count) (stores + x .stores .count) (done ++ g ∷ [])
 packed-more {t} {loads} {stores} {done} {x} {r} w g e h v =
     let ls = flat-snoc (λ (y : GroupPairs). y .loads) done g in
     let ss = flat-snoc (λ (y : GroupPairs). y .stores) done g in
@@ -202,7 +242,7 @@ packed-more {t} {loads} {stores} {done} {x} {r} w g e h v =
     let b : r .loads ≡ filled (loadsIn (done ++ g ∷ [])) = v .loads-are ∙ rw (w .table, w .loads-are, e, ls) (filled-more (loadsIn done) (g .loads)) in
     let c : r .stores ≡ filled (storesIn (done ++ g ∷ [])) = v .stores-are ∙ rw (w .table, w .stores-are, e, ss) (filled-more (storesIn done) (g .stores)) in
     record {
-      table = ap₂ (λ (n : ℕ) (a : List Span). tableMade n a (r .loads) (r .stores)) n a ∙ ap₂ (tableMade (length (done ++ g ∷ [])) (pack (done ++ g ∷ []) .groups)) b c;
+      table = ap₂ (λ (n : ℕ) (a : List ℕ). tableMade n a (r .loads) (r .stores)) n a ∙ ap₂ (tableMade (length (done ++ g ∷ [])) (pack (done ++ g ∷ []) .groups)) b c;
       loads-are = rw (w .loads-are, e, ls, length-append);
       stores-are = rw (w .stores-are, e, ss, length-append);
     }

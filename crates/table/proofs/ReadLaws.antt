@@ -2,16 +2,16 @@
 use Prim.Native.Nat.{ℕ, zero, suc, _+_, _-_, _≤_, _<_}
 use mathlib.Core.Path.{_≡_, refl, sym, ap, ap₂, _∙_}
 use mathlib.Core.Bool.{Bool, true, false}
-use mathlib.Core.List.{List, [], _∷_, _++_, append-nil, append-assoc}
+use mathlib.Core.List.{List, [], _∷_, _++_, map, append-nil, append-assoc}
 use native.Mathlib.Omega.{arith}
 use native.Mathlib.Numerals.{add-one}
 use native.Mathlib.Nat.{sub-zero}
 use lib.Dec.{leb, ltb}
-use lib.ListN.{length, take, drop, set, replicate, length-set, length-append, take-append-drop}
+use lib.ListN.{length, take, drop, set, replicate, length-set, length-map, length-append, take-append-drop}
 use lib.Seq.{length-take-le, take-suc-set, drop-set-lt, drop-drop}
 use borrow.Author.Tests.{ne-eqb}
 use Rattle.table.specs.declared.Pair.{Pair}
-use Rattle.table.specs.declared.Pairs.{Pairs}
+use Rattle.table.specs.declared.read.Pairs.{Pairs}
 use Rattle.table.specs.declared.read.TwoRead.{TwoRead}
 use Rattle.table.specs.declared.Table.{Table}
 use Rattle.table.specs.declared.read.PairsRead.{PairsRead}
@@ -20,12 +20,15 @@ use Rattle.table.specs.declared.read.GroupsRead.{GroupsRead}
 use Rattle.table.specs.Basics.{pick}
 use Rattle.table.specs.Refusal.{tooLarge, badCounts}
 use Rattle.table.specs.Number.{Got, got, bad, andThen, require, above, numberUpTo, readNumber, numberAnswer, placeOf}
-use Rattle.table.specs.Group.{GroupPairs, blankPair, listOf}
+use Rattle.table.specs.Packed.{pairIn, packedPair, SmallPair}
+use Rattle.table.specs.Group.{GroupPairs}
 use Rattle.table.specs.Table.{loadRule, storeRule, pairFault, pairsFault, seeing, countsRight, Seen, noneSeen, seenAfter, groupFault}
 use Rattle.table.specs.TableBytes.{unless, pair, before, readPairs, readGroup, readGroups, pack}
-use Rattle.table.specs.Internal.{Two, two, readTwo, twoAnswer, packPairs, PairsFound, PairsResult, found, none, seenOf, groupMade, GroupFound, GroupResult, group-found, group-none, Growing, Grown, GroupsFound, GroupsResult, groups-found, groups-none}
+use Rattle.table.specs.Internal.{Two, two, readTwo, twoAnswer, pairsIn, packPairs, PairsFound, PairsResult, found, none, seenOf, groupMade, GroupFound, GroupResult, group-found, group-none, Growing, Grown, GroupsFound, GroupsResult, groups-found, groups-none}
 use Rattle.table.proofs.NumberLaws.{NumberGot, number-got}
-use Rattle.table.proofs.PackLaws.{Marks, marks-none, marks-room, marks-more, list-packed, Packed, packed-none, packed-more}
+use Rattle.table.proofs.PackedLaws.{pairs-read-back, map-append}
+use Rattle.table.proofs.CheckLaws.{held-few}
+use Rattle.table.proofs.PackLaws.{Marks, marks-none, marks-room, marks-more, Packed, packed-none, packed-more}
 
 -- ---- two numbers
 pub two-step : {A : Type 0} (s : List ℕ) (k : ℕ → ℕ → List ℕ → Got A) → (andThen (readNumber s) λ x s₁. andThen (readNumber s₁) λ y s₂. k x y s₂) ≡ (andThen (readTwo s) λ t s₂. k (t .first) (t .second) s₂)
@@ -127,25 +130,27 @@ unfolding seeing
 seeing-snoc [] p seen = refl
 seeing-snoc (q ∷ ps) p seen = seeing-snoc ps p (set seen (q .port) true)
 
--- i of n pairs have been read into `places`, the rest of which is blank
-pub record Reading (rule : ℕ → ℕ → ℕ → Bool) (n : ℕ) (seen : List Bool) (s : List ℕ) (start i low : ℕ) (marks : List Bool) (place : ℕ) (places : List Pair) : Type 0 where
-  pub is : readPairs rule n 0 0 seen (drop start s) ≡ after (take i places) (readPairs rule (n - i) low i marks (drop place s))
-  pub blank : drop i places ≡ replicate (32 - i) blankPair
+-- i of n pairs have been read into `places`, the rest of which is 0
+pub record Reading (rule : ℕ → ℕ → ℕ → Bool) (n : ℕ) (seen : List Bool) (s : List ℕ) (start i low : ℕ) (marks : List Bool) (place : ℕ) (places : List ℕ) : Type 0 where
+  pub is : readPairs rule n 0 0 seen (drop start s) ≡ after (map pairIn (take i places)) (readPairs rule (n - i) low i marks (drop place s))
+  pub packs : map packedPair (map pairIn (take i places)) ≡ take i places
+  pub blank : drop i places ≡ replicate (32 - i) 0
   pub long : length places ≡ 32
-  pub marks-are : marks ≡ seeing (take i places) seen
+  pub marks-are : marks ≡ seeing (map pairIn (take i places)) seen
   pub inside : place ≤ length s
 
-pub reading-none : {rule : ℕ → ℕ → ℕ → Bool} {n : ℕ} {seen : List Bool} {s : List ℕ} {start : ℕ} {places : List Pair} → start ≤ length s → places ≡ replicate 32 blankPair → Reading rule n seen s start 0 0 seen start places
+pub reading-none : {rule : ℕ → ℕ → ℕ → Bool} {n : ℕ} {seen : List Bool} {s : List ℕ} {start : ℕ} {places : List ℕ} → start ≤ length s → places ≡ replicate 32 0 → Reading rule n seen s start 0 0 seen start places
 unfolding seeing
 reading-none {rule} {n} {seen} {s} {start} h e = record {
   is = rw sub-zero (after-nil (readPairs rule n 0 0 seen (drop start s)));
+  packs = refl;
   blank = e;
   long = rw e;
   marks-are = refl;
   inside = h;
 }
 
-module _ {rule : ℕ → ℕ → ℕ → Bool} {n : ℕ} {seen : List Bool} {s : List ℕ} {start i low : ℕ} {marks : List Bool} {place : ℕ} {places : List Pair} (w : Reading rule n seen s start i low marks place places) where
+module _ {rule : ℕ → ℕ → ℕ → Bool} {n : ℕ} {seen : List Bool} {s : List ℕ} {start i low : ℕ} {marks : List Bool} {place : ℕ} {places : List ℕ} (w : Reading rule n seen s start i low marks place places) where
   module _ (h : i < n) where
     one-less : n - i ≡ suc (n - (i + 1))
     one-less = omega arith
@@ -162,33 +167,37 @@ module _ {rule : ℕ → ℕ → ℕ → Bool} {n : ℕ} {seen : List Bool} {s :
       pub reading-fault : {k : ℕ} → k ≡ pairFault (rule low i x) marks y → (k ≡ 0 → ⊥) → readPairs rule n 0 0 seen (drop start s) ≡ bad k
       reading-fault {k} e z = w .is ∙ rw (next-pair, g .is, ← e, ne-eqb k 0 z)
 
-      pub reading-more : n ≤ 16 → pairFault (rule low i x) marks y ≡ 0 → Reading rule n seen s start (i + 1) x (set marks y true) next (set places i (pair x y))
-      reading-more few e =
+      pub reading-more : n ≤ 16 → pairFault (rule low i x) marks y ≡ 0 → SmallPair (pair x y) → (number : ℕ) → number ≡ packedPair (pair x y) → Reading rule n seen s start (i + 1) x (set marks y true) next (set places i number)
+      reading-more few e small number is-packed =
           let l : i < length places = omega (arith, w .long) in
-          let t : take (i + 1) (set places i (pair x y)) ≡ take i places ++ pair x y ∷ [] = rw add-one (take-suc-set places i (pair x y) l) in
+          let p : Pair = pair x y in
+          let t : take (i + 1) (set places i number) ≡ take i places ++ number ∷ [] = rw add-one (take-suc-set places i number l) in
+          let q : pairIn number ≡ p = ap pairIn is-packed ∙ pairs-read-back p small in
+          let u : map pairIn (take (i + 1) (set places i number)) ≡ map pairIn (take i places) ++ p ∷ [] = rw t (map-append pairIn (take i places) (number ∷ []) ∙ rw q) in
           record {
-            is = w .is ∙ rw (next-pair, g .is, e, t, add-one) (after-before (take i places) (pair x y) (readPairs rule (n - suc i) x (suc i) (set marks y true) (drop next s)));
-            blank = rw (drop-set-lt (i + 1) places i (pair x y) (omega arith), add-one) (blank-after places i (w .blank) (omega arith));
-            long = length-set places i (pair x y) ∙ w .long;
-            marks-are = rw (t, seeing-snoc, ← w .marks-are);
+            is = w .is ∙ rw (next-pair, g .is, e, u, add-one) (after-before (map pairIn (take i places)) p (readPairs rule (n - suc i) x (suc i) (set marks y true) (drop next s)));
+            packs = rw (u, t) (map-append packedPair (map pairIn (take i places)) (p ∷ []) ∙ rw (w .packs, is-packed));
+            blank = rw (drop-set-lt (i + 1) places i number (omega arith), add-one) (blank-after places i (w .blank) (omega arith));
+            long = length-set places i number ∙ w .long;
+            marks-are = rw (u, seeing-snoc, ← w .marks-are);
             inside = g .inside;
           }
         where
-          blank-after : (l : List Pair) (j : ℕ) → drop j l ≡ replicate (32 - j) blankPair → j < 32 → drop (suc j) l ≡ replicate (32 - suc j) blankPair
+          blank-after : (l : List ℕ) (j : ℕ) → drop j l ≡ replicate (32 - j) 0 → j < 32 → drop (suc j) l ≡ replicate (32 - suc j) 0
           blank-after l j f k =
               let m : 32 - j ≡ suc (32 - suc j) = omega arith in
               let q : drop 1 (drop j l) ≡ drop (suc j) l = drop-drop 1 j l ∙ rw add-one in
-              let r : drop 1 (replicate (32 - j) blankPair) ≡ replicate (32 - suc j) blankPair = rw m in
+              let r : drop 1 (replicate {A = ℕ} (32 - j) 0) ≡ replicate (32 - suc j) 0 = rw m in
               sym q ∙ ap (drop 1) f ∙ r
 
-  pub reading-end : n ≤ 16 → n ≤ i → i ≤ n → (readPairs rule n 0 0 seen (drop start s) ≡ got (take i places) (drop place s)) × (places ≡ take i places ++ replicate (32 - i) blankPair) × (length (take i places) ≡ i)
+  pub reading-end : n ≤ 16 → n ≤ i → i ≤ n → (readPairs rule n 0 0 seen (drop start s) ≡ got (map pairIn (take i places)) (drop place s)) × (places ≡ take i places ++ replicate (32 - i) 0) × (length (take i places) ≡ i)
   unfolding readPairs
   reading-end few h k =
       let z : n - i ≡ 0 = omega arith in
       (w .is ∙ rw (z, append-nil), sym (take-append-drop i places) ∙ rw (w .blank), length-take-le i places (omega (arith, w .long)))
 
-abbrev pub made : ℕ → ℕ → List Pair → Pairs
-made first n places = record { first = first; count = n; places = places }
+abbrev pub made : ℕ → List ℕ → Pairs
+made n places = record { count = n; places = places }
 
 -- what a caller is told, where the bytes give a refusal and where they give pairs
 pub pairs-refused : {s : List ℕ} {seen : List Bool} {g : Got (List Pair)} {r : PairsRead} {k : ℕ} → g ≡ bad k → r .answer ≡ k → (k ≡ 0 → ⊥) → PairsResult s seen g r
@@ -197,9 +206,15 @@ pairs-refused e f z = rw e (none (record { is = f; some = z }))
 pub pairs-found : {s : List ℕ} {seen : List Bool} {g : Got (List Pair)} {r : PairsRead} {ps : List Pair} {rest : List ℕ} → g ≡ got ps rest → PairsFound s seen ps rest r → PairsResult s seen g r
 pairs-found e f = rw e (found f)
 
--- the record that reading has filled is the one that its pairs make
-pub packed : (first n i : ℕ) (places : List Pair) → first ≡ 0 → n ≡ i → places ≡ take i places ++ replicate (32 - i) blankPair → length (take i places) ≡ i → made first n places ≡ packPairs (take i places)
-packed first n i places z e f g = ap (λ (k : ℕ). made k n places) z ∙ ap₂ (made 0) (e ∙ sym g) (f ∙ rw g)
+-- the record that reading has filled is the one that its pairs make, and holds just them
+module _ (n i : ℕ) (places : List ℕ) (e : n ≡ i) (g : length (take i places) ≡ i) where
+  pub packed : places ≡ take i places ++ replicate (32 - i) 0 → map packedPair (map pairIn (take i places)) ≡ take i places → made n places ≡ packPairs (map pairIn (take i places))
+  packed f p =
+      let k : length (map pairIn (take i places)) ≡ i = length-map (take i places) pairIn ∙ g in
+      ap₂ made (e ∙ sym k) (f ∙ rw (k, p))
+
+  pub held-pairs : i ≤ length places → pairsIn (made n places) ≡ map pairIn (take i places)
+  held-pairs h = rw e (ap (map pairIn) (held-few 0 i places h))
 
 -- ---- what the caller of `read_pairs` learns
 pub pairs-bad : {s : List ℕ} {seen : List Bool} {g : Got (List Pair)} {r : PairsRead} → PairsResult s seen g r → (r .answer ≡ 0 → ⊥) → g ≡ bad (r .answer)
@@ -281,11 +296,8 @@ module _ (s : List ℕ) (place : ℕ) (seen : Seen) {x y next : ℕ} (g : TwoGot
       group-read e = group-two seen (drop place s) ∙ rw (g .is, right, l, e)
 
 -- loads that were read into a record make a rule for the stores
-pub store-rule : {s : List ℕ} {seen : List Bool} {ls : List Pair} {rest : List ℕ} {r : PairsRead} → PairsFound s seen ls rest r → listOf (r .pairs) ≡ ls
-store-rule {ls = ls} f = rw (f .pairs) (list-packed ls)
-
-pub same-stores : {s : List ℕ} {seen : List Bool} {ls : List Pair} {rest : List ℕ} {r : PairsRead} → PairsFound s seen ls rest r → (y : ℕ) (marks : List Bool) → readPairs (storeRule ls) y 0 0 marks rest ≡ readPairs (storeRule (listOf (r .pairs))) y 0 0 marks (drop (r .next) s)
-same-stores f y marks = rw (store-rule f, f .rest-is)
+pub same-stores : {s : List ℕ} {seen : List Bool} {ls : List Pair} {rest : List ℕ} {r : PairsRead} → PairsFound s seen ls rest r → (y : ℕ) (marks : List Bool) → readPairs (storeRule ls) y 0 0 marks rest ≡ readPairs (storeRule (pairsIn (r .pairs))) y 0 0 marks (drop (r .next) s)
+same-stores f y marks = rw (f .holds, f .rest-is)
 
 -- ---- groups, one by one
 pub group-bad : {s : List ℕ} {seen : Seen} {g : Got GroupPairs} {r : GroupRead} → GroupResult s seen g r → (r .answer ≡ 0 → ⊥) → g ≡ bad (r .answer)
@@ -342,8 +354,6 @@ module _ {n : ℕ} {s : List ℕ} {start i : ℕ} {seen : Seen} {place : ℕ} {t
         let m = marks-room (marks-more (w .marks) (g .group) right) in
         record {
           groups = rw (w .packed-is .table) (omega (arith, w .many));
-          loads-first = rw (g .told .group);
-          stores-first = rw (g .told .group);
           loads-room = rw loads-count (m .0);
           stores-room = rw stores-count (m .1);
         }

@@ -14,7 +14,7 @@ use Rattle.table.specs.Basics.{flat, check, orElse, splice}
 use Rattle.table.specs.Group.{GroupPairs, listOf, pairsOf}
 use Rattle.table.specs.TableBytes.{pairNumbers, groupNumbers, tableNumbers}
 use Rattle.table.specs.Number.{numberBytes, bytesOf}
-use Rattle.table.proofs.CheckLaws.{Sized}
+use Rattle.table.proofs.CheckLaws.{view-length}
 use Rattle.table.proofs.SpliceLaws.{bytes-append, Put, put-more}
 
 -- ---- the numbers of elements, one after the other
@@ -61,21 +61,21 @@ check-both true n m z e = (refl, e)
 check-both false n m z e = absurd (z e)
 
 -- a group's numbers and bytes, by its record
-module _ (g : Group) (z : Sized g) where
-  pub group-numbers : groupNumbers (pairsOf g) ≡ g .loads .count ∷ g .stores .count ∷ flat pairNumbers (listOf (g .loads)) ++ flat pairNumbers (listOf (g .stores))
-  group-numbers = rw (z .loads, z .stores)
+module _ (ls ss : List ℕ) (g : Group) where
+  pub group-numbers : groupNumbers (pairsOf ls ss g) ≡ g .loads .count ∷ g .stores .count ∷ flat pairNumbers (listOf ls (g .loads)) ++ flat pairNumbers (listOf ss (g .stores))
+  group-numbers = rw (view-length ls (g .loads), view-length ss (g .stores))
 
-  pub group-bytes : length (bytesOf (groupNumbers (pairsOf g))) ≡ length (numberBytes (g .loads .count)) + length (numberBytes (g .stores .count)) + length (bytesOf (flat pairNumbers (listOf (g .loads)))) + length (bytesOf (flat pairNumbers (listOf (g .stores))))
-  group-bytes = group-length (pairsOf g) ∙ rw (z .loads, z .stores)
+  pub group-bytes : length (bytesOf (groupNumbers (pairsOf ls ss g))) ≡ length (numberBytes (g .loads .count)) + length (numberBytes (g .stores .count)) + length (bytesOf (flat pairNumbers (listOf ls (g .loads)))) + length (bytesOf (flat pairNumbers (listOf ss (g .stores))))
+  group-bytes = group-length (pairsOf ls ss g) ∙ rw (view-length ls (g .loads), view-length ss (g .stores))
 
   -- the counts, the loads and the stores, put one after the other
-  pub put-group : {d : List ℕ} {place : ℕ} {out : List ℕ} {end : ℕ} {out₂ : List ℕ} {end₂ : ℕ} {out₃ : List ℕ} {end₃ : ℕ} → Put d place (g .loads .count ∷ g .stores .count ∷ []) out end → place + length (bytesOf (groupNumbers (pairsOf g))) ≤ length d → out₂ ≡ splice out end (bytesOf (flat pairNumbers (listOf (g .loads)))) → end₂ ≡ end + length (bytesOf (flat pairNumbers (listOf (g .loads)))) → out₃ ≡ splice out₂ end₂ (bytesOf (flat pairNumbers (listOf (g .stores)))) → end₃ ≡ end₂ + length (bytesOf (flat pairNumbers (listOf (g .stores)))) → Put d place (groupNumbers (pairsOf g)) out₃ end₃
+  pub put-group : {d : List ℕ} {place : ℕ} {out : List ℕ} {end : ℕ} {out₂ : List ℕ} {end₂ : ℕ} {out₃ : List ℕ} {end₃ : ℕ} → Put d place (g .loads .count ∷ g .stores .count ∷ []) out end → place + length (bytesOf (groupNumbers (pairsOf ls ss g))) ≤ length d → out₂ ≡ splice out end (bytesOf (flat pairNumbers (listOf ls (g .loads)))) → end₂ ≡ end + length (bytesOf (flat pairNumbers (listOf ls (g .loads)))) → out₃ ≡ splice out₂ end₂ (bytesOf (flat pairNumbers (listOf ss (g .stores)))) → end₃ ≡ end₂ + length (bytesOf (flat pairNumbers (listOf ss (g .stores)))) → Put d place (groupNumbers (pairsOf ls ss g)) out₃ end₃
   put-group {d} {place} w h e₂ f₂ e₃ f₃ =
-      let ls = flat pairNumbers (listOf (g .loads)) in
+      let loads = flat pairNumbers (listOf ls (g .loads)) in
       let a = g .loads .count ∷ g .stores .count ∷ [] in
       let n : length (bytesOf a) ≡ length (numberBytes (g .loads .count)) + length (numberBytes (g .stores .count)) = rw (length-append, append-nil) in
-      let m : length (bytesOf (a ++ ls)) ≡ length (bytesOf a) + length (bytesOf ls) = ap length (bytes-append a ls) ∙ length-append (bytesOf a) (bytesOf ls) in
-      rw group-numbers (put-more (put-more w ls (omega (arith, n, group-bytes)) e₂ f₂) (flat pairNumbers (listOf (g .stores))) (omega (arith, m, n, group-bytes)) e₃ f₃)
+      let m : length (bytesOf (a ++ loads)) ≡ length (bytesOf a) + length (bytesOf loads) = ap length (bytes-append a loads) ∙ length-append (bytesOf a) (bytesOf loads) in
+      rw group-numbers (put-more (put-more w loads (omega (arith, n, group-bytes)) e₂ f₂) (flat pairNumbers (listOf ss (g .stores))) (omega (arith, m, n, group-bytes)) e₃ f₃)
 
 -- ---- the bytes of a table, part by part
 pub table-bytes : (gs : List GroupPairs) → length (bytesOf (tableNumbers gs)) ≡ length (numberBytes 2) + length (numberBytes (length gs)) + length (bytesOf (flat groupNumbers gs))

@@ -3,11 +3,12 @@ use Prim.Native.Nat.{ℕ, suc, _+_, _≤_}
 use mathlib.Core.Bool.{Bool}
 use mathlib.Core.List.{List, [], _∷_, _++_, map}
 use lib.Dec.{leb}
-use lib.ListN.{take, drop}
+use lib.ListN.{drop}
 use Rattle.table.specs.declared.Pair.{Pair}
-use Rattle.table.specs.declared.Pairs.{Pairs}
+use Rattle.table.specs.declared.Span.{Span}
 use Rattle.table.specs.declared.Group.{Group}
-use Rattle.table.specs.Basics.{takeWhile, dropWhile}
+use Rattle.table.specs.Packed.{pairIn}
+use Rattle.table.specs.Basics.{held, takeWhile, dropWhile}
 
 -- A group as it is meant: its loads and its stores.
 pub record GroupPairs : Type 0 where
@@ -18,15 +19,16 @@ abbrev pub blankPair : Pair
 blankPair = record { offset = 0; port = 0 }
 
 -- so many accesses, from the first one's place on
-abbrev pub listOf : Pairs → List Pair
-listOf ps = take (ps .count) (drop (ps .first) (ps .places))
+abbrev pub listOf : List ℕ → Span → List Pair
+listOf places s = map pairIn (held 0 (s .count) (drop (s .first) places))
 
 -- there are places for so many
-abbrev pub Inside : Pairs → Type 0
-Inside ps = ps .first + ps .count ≤ 32
+abbrev pub Inside : Span → Type 0
+Inside s = s .first + s .count ≤ 32
 
-abbrev pub pairsOf : Group → GroupPairs
-pairsOf g = record { loads = listOf (g .loads); stores = listOf (g .stores) }
+-- a group whose accesses stand among these loads and stores
+abbrev pub pairsOf : List ℕ → List ℕ → Group → GroupPairs
+pairsOf loads stores g = record { loads = listOf loads (g .loads); stores = listOf stores (g .stores) }
 
 abbrev pub portOf : Pair → ℕ
 portOf p = p .port

@@ -5,16 +5,19 @@ use mathlib.Core.Bool.{Bool, true}
 use mathlib.Core.List.{List, [], _∷_, _++_}
 use lib.ListN.{length, set, take, drop}
 use Rattle.table.specs.declared.Pair.{Pair}
-use Rattle.table.specs.declared.Pairs.{Pairs}
+use Rattle.table.specs.declared.Span.{Span}
 use Rattle.table.specs.declared.Group.{Group}
 use Rattle.table.specs.declared.Table.{Table}
 use Rattle.table.specs.declared.read.TwoRead.{TwoRead}
 use Rattle.table.specs.declared.read.Ports.{Ports}
+use Rattle.table.specs.declared.read.Pairs.{Pairs}
+use Rattle.table.specs.declared.read.NewGroup.{NewGroup}
 use Rattle.table.specs.declared.read.PairsRead.{PairsRead}
 use Rattle.table.specs.declared.read.GroupRead.{GroupRead}
 use Rattle.table.specs.declared.read.GroupsRead.{GroupsRead}
 use Rattle.table.specs.Number.{Got, got, bad, andThen, readNumber, placeOf}
 use Rattle.table.specs.TableBytes.{filled, pack}
+use Rattle.table.specs.Packed.{packedGroup}
 use Rattle.table.specs.Basics.{pick}
 use Rattle.table.specs.Group.{GroupPairs, listOf, Inside}
 use Rattle.table.specs.Table.{loadRule, storeRule, pairsFault, seeing, Seen, seenAfter, groupFault}
@@ -27,8 +30,8 @@ listed ns = take (ns .count) (ns .values)
 -- ---- checking and reading a group's pairs
 
 -- the rule for the offsets of a group's pairs of one kind: a store's goes by the loads, a load's by the store count
-abbrev pub ruleOf : Bool → ℕ → Pairs → ℕ → ℕ → ℕ → Bool
-ruleOf storing stores loads low i offset = pick storing (storeRule (listOf loads) low i offset) (loadRule stores low i offset)
+abbrev pub ruleOf : Bool → ℕ → List Pair → ℕ → ℕ → ℕ → Bool
+ruleOf storing stores loads low i offset = pick storing (storeRule loads low i offset) (loadRule stores low i offset)
 
 -- offsets that never fall, from `low` on
 abbrev pub Rising : ℕ → List Pair → Type 0
@@ -36,11 +39,11 @@ Rising low [] = Unit {0}
 Rising low (p ∷ ps) = (low ≤ p .offset) × Rising (p .offset) ps
 
 -- what the rule needs: a store's looks into the loads, which have been found to rise
-pub record RuleRight (storing : Bool) (stores : ℕ) (loads : Pairs) : Type 0 where
+pub record RuleRight (storing : Bool) (stores : ℕ) (places : List ℕ) (loads : Span) : Type 0 where
   pub inside : Inside loads
   pub few : loads .count ≤ 16
   pub few-stores : stores ≤ 16
-  pub rising : storing ≡ true → Rising 0 (listOf loads)
+  pub rising : storing ≡ true → Rising 0 (listOf places loads)
 
 -- what checking pairs gives: their first fault and, where there is none, the marks after them
 pub record PairsChecked (rule : ℕ → ℕ → ℕ → Bool) (seen : List Bool) (ps : List Pair) (after : List Bool) (r : ℕ) : Type 0 where
@@ -86,17 +89,25 @@ pub record IsRefusal (k answer : ℕ) : Type 0 where
   pub is : answer ≡ k
   pub some : k ≡ 0 → ⊥
 
+-- pairs that were read stand from the first place on
+abbrev pub front : ℕ → Span
+front n = record { first = 0; count = n }
+
+abbrev pub pairsIn : Pairs → List Pair
+pairsIn ps = listOf (ps .places) (front (ps .count))
+
 -- the record of pairs that were read
 abbrev pub packPairs : List Pair → Pairs
-packPairs ps = record { first = 0; count = length ps; places = filled ps }
+packPairs ps = record { count = length ps; places = filled ps }
 
-abbrev pub packGroup : GroupPairs → Group
+abbrev pub packGroup : GroupPairs → NewGroup
 packGroup g = record { loads = packPairs (g .loads); stores = packPairs (g .stores) }
 
 -- what reading pairs gives, by what their bytes say
 pub record PairsFound (s : List ℕ) (seen : List Bool) (ps : List Pair) (rest : List ℕ) (r : PairsRead) : Type 0 where
   pub answer : r .answer ≡ 0
   pub pairs : r .pairs ≡ packPairs ps
+  pub holds : pairsIn (r .pairs) ≡ ps
   pub marks : r .seen ≡ seeing ps seen
   pub rest-is : rest ≡ drop (r .next) s
   pub inside : r .next ≤ length s
@@ -131,19 +142,21 @@ pub data GroupsResult (s : List ℕ) : Got (List GroupPairs) → GroupsRead → 
   groups-none : {k : ℕ} {r : GroupsRead} → IsRefusal k (r .answer) → GroupsResult s (bad k) r
 
 -- there is room for a group behind those of a table, which have so many loads and stores
-pub record Growing (t : Table) (loads stores : ℕ) (g : Group) : Type 0 where
+pub record Growing (t : Table) (loads stores : ℕ) (g : NewGroup) : Type 0 where
   pub groups : t .count < 16
-  pub loads-first : g .loads .first ≡ 0
-  pub stores-first : g .stores .first ≡ 0
   pub loads-room : loads + g .loads .count ≤ 32
   pub stores-room : stores + g .stores .count ≤ 32
 
-abbrev pub putIn : List Pair → ℕ → Pairs → List Pair
-putIn places from ps = take from places ++ listOf ps ++ drop (from + ps .count) places
+abbrev pub putIn : List ℕ → ℕ → Pairs → List ℕ
+putIn places from ps = take from places ++ take (ps .count) (ps .places) ++ drop (from + ps .count) places
 
-pub record Grown (t : Table) (loads stores : ℕ) (g : Group) (r : Table) : Type 0 where
+-- where a group stands that is put behind so many loads and stores
+abbrev pub behind : ℕ → ℕ → NewGroup → Group
+behind loads stores g = record { loads = record { first = loads; count = g .loads .count }; stores = record { first = stores; count = g .stores .count } }
+
+pub record Grown (t : Table) (loads stores : ℕ) (g : NewGroup) (r : Table) : Type 0 where
   pub count : r .count ≡ t .count + 1
-  pub groups : r .groups ≡ set (t .groups) (t .count) (record { «first_load» = loads; loads = g .loads .count; «first_store» = stores; stores = g .stores .count })
+  pub groups : r .groups ≡ set (t .groups) (t .count) (packedGroup (behind loads stores g))
   pub loads-are : r .loads ≡ putIn (t .loads) loads (g .loads)
   pub stores-are : r .stores ≡ putIn (t .stores) stores (g .stores)
 

@@ -2,6 +2,7 @@
 pub mod Basics
 pub mod Refusal
 pub mod Number
+pub mod Packed
 pub mod Group
 pub mod Table
 pub mod ProgramOrder

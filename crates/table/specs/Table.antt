@@ -4,38 +4,38 @@ use mathlib.Core.Path.{_≡_}
 use mathlib.Core.Bool.{Bool, true, false, not, _&&_, _||_}
 use mathlib.Core.List.{List, [], _∷_, map}
 use lib.Dec.{leb, eqb}
-use lib.ListN.{length, getD, set, replicate}
+use lib.ListN.{length, getD, take, set, replicate}
 use Rattle.table.specs.declared.Pair.{Pair}
-use Rattle.table.specs.declared.Pairs.{Pairs}
 use Rattle.table.specs.declared.Group.{Group}
 use Rattle.table.specs.declared.Span.{Span}
 use Rattle.table.specs.declared.Table.{Table}
 use Rattle.table.specs.Basics.{pick, held, count, within, check, orElse}
 use Rattle.table.specs.Refusal.{badGroupCount, badCounts, badOffset, badPort, portSeen}
+use Rattle.table.specs.Packed.{groupIn}
 use Rattle.table.specs.Group.{GroupPairs, pairsOf, beforeStore}
-
-abbrev pub blankSpan : Span
-blankSpan = record { «first_load» = 0; loads = 0; «first_store» = 0; stores = 0 }
 
 -- So many accesses from a place on. Where there are not so many places they stand for 17, one more than a group may have: a
 -- record with such a group is never right, since it meets 5 (`GroupsWithinPlaces`). No access is none, wherever it stands.
-abbrev pub pairsAt : ℕ → ℕ → List Pair → Pairs
-pairsAt first n places = pick (leb (first + n) 32) (record { first = first; count = n; places = places }) (record { first = 0; count = pick (eqb n 0) 0 17; places = places })
+abbrev pub spanMeant : Span → Span
+spanMeant s = pick (leb (s .first + s .count) 32) s (record { first = 0; count = pick (eqb (s .count) 0) 0 17 })
 
--- a group of a table: its accesses stand among the table's loads and stores
-abbrev pub groupIn : List Pair → List Pair → Span → Group
-groupIn loads stores g = record { loads = pairsAt (g .«first_load») (g .loads) loads; stores = pairsAt (g .«first_store») (g .stores) stores }
+abbrev pub groupMeant : Group → Group
+groupMeant g = record { loads = spanMeant (g .loads); stores = spanMeant (g .stores) }
 
 -- the group at a place; beyond the places there is no access
-unfoldable pub groupAt : Table → ℕ → Group
-groupAt t i = groupIn (t .loads) (t .stores) (getD (t .groups) i blankSpan)
+unfoldable pub groupAt : List ℕ → ℕ → Group
+groupAt groups i = groupMeant (groupIn (getD (take 16 groups) i 0))
 
-abbrev pub meantIn : List Pair → List Pair → Span → GroupPairs
-meantIn loads stores g = pairsOf (groupIn loads stores g)
+-- the group that a number holds, as it is meant: its accesses stand among the table's loads and stores
+abbrev pub meantIn : List ℕ → List ℕ → ℕ → GroupPairs
+meantIn loads stores n = pairsOf loads stores (groupMeant (groupIn n))
 
 -- A table as it is meant: its groups, as many as its count says.
+abbrev pub groupsIn : ℕ → List ℕ → List ℕ → List ℕ → List GroupPairs
+groupsIn n groups loads stores = map (meantIn loads stores) (held 0 n groups)
+
 abbrev pub groupsOf : Table → List GroupPairs
-groupsOf t = map (meantIn (t .loads) (t .stores)) (held blankSpan (t .count) (t .groups))
+groupsOf t = groupsIn (t .count) (t .groups) (t .loads) (t .stores)
 
 -- Offsets. A rule says which offset is right for the ith pair of its kind in the group (from 0), where the pair before it
 -- has the offset `low` (0 for the first). "Load offsets never fall", and none is above the store count.
@@ -95,15 +95,15 @@ groupsFault seen (g ∷ gs) = orElse (groupFault seen g) (groupsFault (seenAfter
 unfoldable pub tableFault : List GroupPairs → ℕ
 tableFault gs = check (within 1 16 (length gs)) badGroupCount (groupsFault noneSeen gs)
 
--- A right table's groups stand within the places of its record, of whatever record with the arrays' lengths; a run of no
+-- A right table's groups stand within the places of its record, of whatever record with the arrays' lengths; a span of no
 -- access is within them. The proof is proofs/WithinPlaces.antt.
-abbrev pub runWithin : ℕ → ℕ → Bool
-runWithin first n = eqb n 0 || leb (first + n) 32
-
 abbrev pub spanWithin : Span → Bool
-spanWithin s = runWithin (s .«first_load») (s .loads) && runWithin (s .«first_store») (s .stores)
+spanWithin s = eqb (s .count) 0 || leb (s .first + s .count) 32
+
+abbrev pub groupWithin : Group → Bool
+groupWithin g = spanWithin (g .loads) && spanWithin (g .stores)
 
 abbrev pub GroupsWithinPlaces : Type 0
 GroupsWithinPlaces =
     (t : Table) → length (t .groups) ≡ 16 → length (t .loads) ≡ 32 → length (t .stores) ≡ 32 → tableFault (groupsOf t) ≡ 0
-    → (i : ℕ) → i < t .count → spanWithin (getD (t .groups) i blankSpan) ≡ true
+    → (i : ℕ) → i < t .count → groupWithin (groupIn (getD (t .groups) i 0)) ≡ true

@@ -2,19 +2,20 @@
 -- number of loads, its number of stores, a pair for each load, then a pair for each store. A pair is offset, port."
 use Prim.Native.Nat.{ℕ, zero, suc, _+_, _-_}
 use mathlib.Core.Bool.{Bool, true}
-use mathlib.Core.List.{List, [], _∷_, _++_}
+use mathlib.Core.List.{List, [], _∷_, _++_, map}
 use lib.Dec.{eqb}
 use lib.ListN.{length, set, replicate}
 use Rattle.table.specs.declared.Pair.{Pair}
-use Rattle.table.specs.declared.Span.{Span}
+use Rattle.table.specs.declared.Group.{Group}
 use Rattle.table.specs.declared.Table.{Table}
 use Rattle.table.specs.declared.TableRead.{TableRead}
 use Rattle.table.specs.declared.Written.the-variants.{Unwritten}
 use Rattle.table.specs.Basics.{pick, flat, within}
 use Rattle.table.specs.Refusal.{badFields, badGroupCount, badCounts, leftOver}
 use Rattle.table.specs.Number.{Got, got, bad, andThen, require, readNumber, bytesOf, Wrote, wrote}
-use Rattle.table.specs.Group.{GroupPairs, blankPair}
-use Rattle.table.specs.Table.{blankSpan, loadRule, storeRule, pairFault, countsRight, Seen, noneSeen, seenAfter, tableFault}
+use Rattle.table.specs.Packed.{packedPair, packedGroup}
+use Rattle.table.specs.Group.{GroupPairs}
+use Rattle.table.specs.Table.{loadRule, storeRule, pairFault, countsRight, Seen, noneSeen, seenAfter, tableFault}
 
 -- the refusal, where the fault is not 0, else what follows
 abbrev pub unless : {A : Type 0} → ℕ → Got A → Got A
@@ -62,15 +63,17 @@ readTable s =
     require (eqb (length s₃) 0) leftOver (got gs s₃)))
 
 -- The record of a table: each group's accesses stand behind those of the groups before it. Places that no group has, which
--- mean nothing, are blank.
-abbrev pub filled : List Pair → List Pair
-filled ps = ps ++ replicate (32 - length ps) blankPair
+-- mean nothing, are 0.
+abbrev pub filled : List Pair → List ℕ
+filled ps = map packedPair ps ++ replicate (32 - length ps) 0
 
--- where the accesses of groups stand, from these places on
-abbrev pub spans : ℕ → ℕ → List GroupPairs → List Span
+-- the group whose accesses stand from these places on, and the groups after it
+abbrev pub placed : ℕ → ℕ → GroupPairs → Group
+placed load store g = record { loads = record { first = load; count = length (g .loads) }; stores = record { first = store; count = length (g .stores) } }
+
+abbrev pub spans : ℕ → ℕ → List GroupPairs → List ℕ
 spans load store [] = []
-spans load store (g ∷ gs) =
-    record { «first_load» = load; loads = length (g .loads); «first_store» = store; stores = length (g .stores) } ∷ spans (load + length (g .loads)) (store + length (g .stores)) gs
+spans load store (g ∷ gs) = packedGroup (placed load store g) ∷ spans (load + length (g .loads)) (store + length (g .stores)) gs
 
 abbrev pub loadsIn : List GroupPairs → List Pair
 loadsIn gs = flat (λ (g : GroupPairs). g .loads) gs
@@ -79,7 +82,7 @@ abbrev pub storesIn : List GroupPairs → List Pair
 storesIn gs = flat (λ (g : GroupPairs). g .stores) gs
 
 abbrev pub pack : List GroupPairs → Table
-pack gs = record { count = length gs; groups = spans 0 0 gs ++ replicate (16 - length gs) blankSpan; loads = filled (loadsIn gs); stores = filled (storesIn gs) }
+pack gs = record { count = length gs; groups = spans 0 0 gs ++ replicate (16 - length gs) 0; loads = filled (loadsIn gs); stores = filled (storesIn gs) }
 
 -- the answer of a call that reads a table; a refused one holds the table of no groups, which means nothing
 abbrev pub tableAnswer : Got (List GroupPairs) → TableRead

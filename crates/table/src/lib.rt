@@ -16,36 +16,29 @@ pub struct Pair {
     pub port: u8,
 }
 
-// The accesses of one kind in a group, in program order: so many, from the first one's place on. The other places mean nothing.
-pub struct Pairs {
-    pub first: u8,
-    pub count: u8,
-    pub places: [Pair; 32],
-}
-
-// A group: its loads and its stores.
-pub struct Group {
-    pub loads: Pairs,
-    pub stores: Pairs,
-}
-
-// Where a group's loads and its stores stand in a table: the first one's place, and how many.
+// Where the accesses of one kind in a group stand, in program order: so many, from the first one's place on.
 #[repr(C)]
 pub struct Span {
-    pub first_load: u8,
-    pub loads: u8,
-    pub first_store: u8,
-    pub stores: u8,
+    pub first: u8,
+    pub count: u8,
 }
 
-// A group table: where each group's accesses stand, and the accesses of all groups, loads and stores apart. A port stands
-// once in a table, so 32 places of each kind are enough. Places beyond the count, or that no group has, mean nothing.
+// A group: where its loads and its stores stand in a table.
+#[repr(C)]
+pub struct Group {
+    pub loads: Span,
+    pub stores: Span,
+}
+
+// A group table: its groups, and the accesses of all groups, loads and stores apart. Each group and each access is packed into
+// a number (`parts`), since arrays of numbers can be lent and need no copy. A port stands once in a table, so 32 places of
+// each kind are enough. Places beyond the count, or that no group has, mean nothing.
 #[repr(C)]
 pub struct Table {
     pub count: u8,
-    pub groups: [Span; 16],
-    pub loads: [Pair; 32],
-    pub stores: [Pair; 32],
+    pub groups: [u32; 16],
+    pub loads: [u16; 32],
+    pub stores: [u16; 32],
 }
 
 // What reading a number answers: its value and the place after it, or the refusal number.

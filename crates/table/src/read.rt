@@ -3,14 +3,13 @@ ghost use mathlib.Core.Path.{_≡_};
 ghost use Prim.Native.Nat.{_+_, _≤_};
 ghost use lib.ListN.{length, drop};
 ghost use Rattle.table.specs.TableBytes.{readPairs, readGroup, readGroups, readTable, tableAnswer, pack};
-ghost use Rattle.table.specs.Internal.{readTwo, twoAnswer, twoRefusal, ruleOf, RuleRight, packPairs, PairsResult, seenOf, groupMade, GroupResult, putIn, Growing, Grown, GroupsResult};
+ghost use Rattle.table.specs.Internal.{readTwo, twoAnswer, twoRefusal, ruleOf, RuleRight, front, pairsIn, packPairs, PairsResult, seenOf, groupMade, GroupResult, putIn, Growing, Grown, GroupsResult};
 ghost use mathlib.Core.List.{[]};
 ghost use Rattle.table.specs.Table.{noneSeen};
 ghost use Rattle.table.specs.Number.{bad};
 use crate::Group;
 use crate::NumberRead;
 use crate::Pair;
-use crate::Pairs;
 use crate::Span;
 use crate::Table;
 use crate::TableRead;
@@ -19,6 +18,8 @@ use crate::check::offset_right;
 use crate::check::pair_fault;
 use crate::number::number_refusal;
 use crate::number::read_number;
+use crate::parts::pack_group;
+use crate::parts::pack_pair;
 use crate::refusal::BAD_COUNTS;
 use crate::refusal::BAD_FIELDS;
 use crate::refusal::BAD_GROUP_COUNT;
@@ -40,6 +41,18 @@ pub struct Ports {
     pub stores: [bool; 32],
 }
 
+// A group's pairs of one kind that were read, each packed into a number: so many, from the first place on.
+pub struct Pairs {
+    pub count: u8,
+    pub places: [u16; 32],
+}
+
+// A group that was read: its loads and its stores.
+pub struct NewGroup {
+    pub loads: Pairs,
+    pub stores: Pairs,
+}
+
 // The pairs that were read and the ports seen by then; or the refusal number, and the rest means nothing.
 pub struct PairsRead {
     pub answer: u8,
@@ -52,7 +65,7 @@ pub struct PairsRead {
 pub struct GroupRead {
     pub answer: u8,
     pub next: usize,
-    pub group: Group,
+    pub group: NewGroup,
     pub seen: Ports,
 }
 
@@ -107,11 +120,9 @@ fn two_refusal(read: TwoRead) -> u8
 fn no_pairs() -> Pairs
     ensures { λ r. ⌜ r ≡ packPairs [] ⌝ }
 {
-    let blank = Pair { offset: 0, port: 0 };
     Pairs {
-        first: 0,
         count: 0,
-        places: [blank; 32],
+        places: [0; 32],
     }
 }
 
@@ -137,9 +148,14 @@ fn read_pairs(
     loads: Pairs,
     seen: [bool; 32],
 ) -> PairsRead
-    requires { ⌜ (count ≤ 16) × (at ≤ length (now bytes)) × RuleRight storing stores loads ⌝ }
-    ensures { λ r. ⌜ PairsResult (now (bytes .entry)) seen (readPairs (ruleOf storing stores loads) count 0 0 seen (drop at (now (bytes .entry)))) r ⌝ }
+    requires { ⌜ (count ≤ 16) × (at ≤ length (now bytes)) × RuleRight storing stores (loads .places) (front (loads .count)) ⌝ }
+    ensures { λ r. ⌜ PairsResult (now (bytes .entry)) seen (readPairs (ruleOf storing stores (pairsIn loads)) count 0 0 seen (drop at (now (bytes .entry)))) r ⌝ }
 {
+    let load_places = loads.places;
+    let load_span = Span {
+        first: 0,
+        count: loads.count,
+    };
     let mut pairs = no_pairs();
     let mut marks = seen;
     let mut low: u32 = 0;
@@ -155,7 +171,7 @@ fn read_pairs(
         else {
             return no_pairs_read(two_refusal(read), marks);
         };
-        let right = offset_right(storing, stores, loads, low, i, offset);
+        let right = offset_right(storing, stores, &load_places, load_span, low, i, offset);
         let answer = pair_fault(right, &marks, port);
         if answer != 0 {
             return no_pairs_read(answer, marks);
@@ -164,7 +180,7 @@ fn read_pairs(
             offset: offset as u8,
             port: port as u8,
         };
-        pairs.places[i as usize] = pair;
+        pairs.places[i as usize] = pack_pair(pair);
         marks[port as usize] = true;
         low = offset;
         place = next;
@@ -184,7 +200,7 @@ fn no_group(answer: u8, seen: Ports) -> GroupRead
     ensures { λ r. ⌜ r .answer ≡ answer ⌝ }
 {
     let none = no_pairs();
-    let group = Group {
+    let group = NewGroup {
         loads: none,
         stores: none,
     };
@@ -202,7 +218,7 @@ fn group_made(first: PairsRead, second: PairsRead) -> GroupRead
 {
     let loads = first.pairs;
     let stores = second.pairs;
-    let group = Group { loads, stores };
+    let group = NewGroup { loads, stores };
     let load_marks = first.seen;
     let store_marks = second.seen;
     let marks = Ports {
@@ -261,24 +277,17 @@ fn read_group(bytes: &[u8], at: usize, seen: Ports) -> GroupRead
 pub fn no_table() -> Table
     ensures { λ r. ⌜ r ≡ pack [] ⌝ }
 {
-    let nowhere = Span {
-        first_load: 0,
-        loads: 0,
-        first_store: 0,
-        stores: 0,
-    };
-    let blank = Pair { offset: 0, port: 0 };
     Table {
         count: 0,
-        groups: [nowhere; 16],
-        loads: [blank; 32],
-        stores: [blank; 32],
+        groups: [0; 16],
+        loads: [0; 32],
+        stores: [0; 32],
     }
 }
 
 // The places with a group's accesses put in from a place on.
-fn with_pairs(mut places: [Pair; 32], from: usize, pairs: Pairs) -> [Pair; 32]
-    requires { ⌜ (pairs .first ≡ 0) × (from + pairs .count ≤ 32) ⌝ }
+fn with_pairs(mut places: [u16; 32], from: usize, pairs: Pairs) -> [u16; 32]
+    requires { ⌜ from + pairs .count ≤ 32 ⌝ }
     ensures { λ r. ⌜ r ≡ putIn places from pairs ⌝ }
 {
     let count = pairs.count as usize;
@@ -291,19 +300,26 @@ fn with_pairs(mut places: [Pair; 32], from: usize, pairs: Pairs) -> [Pair; 32]
 }
 
 // A table with a group more, behind the loads and stores of those that it has, which are so many.
-fn with_group(mut table: Table, loads: u8, stores: u8, group: Group) -> Table
+fn with_group(mut table: Table, loads: u8, stores: u8, group: NewGroup) -> Table
     requires { ⌜ Growing table loads stores group ⌝ }
     ensures { λ r. ⌜ Grown table loads stores group r ⌝ }
 {
     let new_loads = group.loads;
     let new_stores = group.stores;
     let at = table.count as usize;
-    table.groups[at] = Span {
-        first_load: loads,
-        loads: new_loads.count,
-        first_store: stores,
-        stores: new_stores.count,
+    let load_span = Span {
+        first: loads,
+        count: new_loads.count,
     };
+    let store_span = Span {
+        first: stores,
+        count: new_stores.count,
+    };
+    let placed = Group {
+        loads: load_span,
+        stores: store_span,
+    };
+    table.groups[at] = pack_group(placed);
     let load_places = table.loads;
     let store_places = table.stores;
     table.loads = with_pairs(load_places, loads as usize, new_loads);

@@ -5,30 +5,31 @@ ghost use lib.ListN.{length};
 ghost use Rattle.table.specs.Basics.{flat, splice};
 ghost use Rattle.table.specs.Number.{bytesOf};
 ghost use Rattle.table.specs.Group.{listOf, pairsOf, Inside};
-ghost use Rattle.table.specs.Table.{groupsOf};
+ghost use Rattle.table.specs.Table.{groupsIn, groupsOf};
 ghost use Rattle.table.specs.TableBytes.{pairNumbers, groupNumbers, tableNumbers, wroteTable};
 ghost use Rattle.table.specs.Internal.{GroupInside};
 use crate::Group;
-use crate::Pairs;
+use crate::Span;
 use crate::Table;
 use crate::Written;
 use crate::check::table_fault;
 use crate::number::number_length;
 use crate::number::put_number;
 use crate::parts::group_at;
+use crate::parts::unpack_pair;
 use crate::refusal::TOO_SHORT;
 
 // How many bytes a group's pairs of one kind take.
-fn pairs_length(pairs: Pairs) -> usize
+fn pairs_length(places: &[u16; 32], pairs: Span) -> usize
     requires { ⌜ Inside pairs ⌝ }
-    ensures { λ r. ⌜ (r ≡ length (bytesOf (flat pairNumbers (listOf pairs)))) × (r ≤ 320) ⌝ }
+    ensures { λ r. ⌜ (r ≡ length (bytesOf (flat pairNumbers (listOf (now (places .entry)) pairs)))) × (r ≤ 320) ⌝ }
 {
     let first = pairs.first as usize;
     let count = pairs.count as usize;
     let mut total: usize = 0;
     let mut i: usize = 0;
     while i < count {
-        let pair = pairs.places[first + i];
+        let pair = unpack_pair(places[first + i]);
         total += number_length(pair.offset as u32) + number_length(pair.port as u32);
         i += 1;
     }
@@ -36,43 +37,48 @@ fn pairs_length(pairs: Pairs) -> usize
 }
 
 // How many bytes a group takes.
-fn group_length(group: Group) -> usize
+fn group_length<'a>(group: Group, loads: &'a [u16; 32], stores: &'a [u16; 32]) -> usize
     requires { ⌜ GroupInside group ⌝ }
-    ensures { λ r. ⌜ (r ≡ length (bytesOf (groupNumbers (pairsOf group)))) × (r ≤ 650) ⌝ }
+    ensures { λ r. ⌜ (r ≡ length (bytesOf (groupNumbers (pairsOf (now (loads .entry)) (now (stores .entry)) group)))) × (r ≤ 650) ⌝ }
 {
-    let loads = group.loads;
-    let stores = group.stores;
-    let counts = number_length(loads.count as u32) + number_length(stores.count as u32);
-    counts + pairs_length(loads) + pairs_length(stores)
+    let load_span = group.loads;
+    let store_span = group.stores;
+    let counts = number_length(load_span.count as u32) + number_length(store_span.count as u32);
+    counts + pairs_length(loads, load_span) + pairs_length(stores, store_span)
 }
 
 // How many bytes a table takes.
-fn table_length(table: Table) -> usize
-    requires { ⌜ table .count ≤ 16 ⌝ }
-    ensures { λ r. ⌜ r ≡ length (bytesOf (tableNumbers (groupsOf table))) ⌝ }
+fn table_length<'a>(
+    count: u8,
+    groups: &'a [u32; 16],
+    loads: &'a [u16; 32],
+    stores: &'a [u16; 32],
+) -> usize
+    requires { ⌜ count ≤ 16 ⌝ }
+    ensures { λ r. ⌜ r ≡ length (bytesOf (tableNumbers (groupsIn count (now (groups .entry)) (now (loads .entry)) (now (stores .entry))))) ⌝ }
 {
-    let count = table.count as usize;
+    let many = count as usize;
     let mut total: usize = 0;
     let mut i: usize = 0;
-    while i < count {
-        let group = group_at(table, i);
-        total += group_length(group);
+    while i < many {
+        let group = group_at(groups, i);
+        total += group_length(group, loads, stores);
         i += 1;
     }
-    number_length(2) + number_length(table.count as u32) + total
+    number_length(2) + number_length(count as u32) + total
 }
 
 // Puts a group's pairs of one kind at a place where they fit, and says where they end.
-fn put_pairs(pairs: Pairs, out: &mut [u8], at: usize) -> usize
-    requires { ⌜ Inside pairs × (at + length (bytesOf (flat pairNumbers (listOf pairs))) ≤ length (now out)) ⌝ }
-    ensures { λ r. ⌜ (r ≡ at + length (bytesOf (flat pairNumbers (listOf pairs)))) × (now (out .exit) ≡ splice (now (out .entry)) at (bytesOf (flat pairNumbers (listOf pairs)))) ⌝ }
+fn put_pairs(places: &[u16; 32], pairs: Span, out: &mut [u8], at: usize) -> usize
+    requires { ⌜ Inside pairs × (at + length (bytesOf (flat pairNumbers (listOf (now places) pairs))) ≤ length (now out)) ⌝ }
+    ensures { λ r. ⌜ (r ≡ at + length (bytesOf (flat pairNumbers (listOf (now (places .entry)) pairs)))) × (now (out .exit) ≡ splice (now (out .entry)) at (bytesOf (flat pairNumbers (listOf (now (places .entry)) pairs)))) ⌝ }
 {
     let first = pairs.first as usize;
     let count = pairs.count as usize;
     let mut place = at;
     let mut i: usize = 0;
     while i < count {
-        let pair = pairs.places[first + i];
+        let pair = unpack_pair(places[first + i]);
         place = put_number(out, place, pair.offset as u32);
         place = put_number(out, place, pair.port as u32);
         i += 1;
@@ -81,30 +87,42 @@ fn put_pairs(pairs: Pairs, out: &mut [u8], at: usize) -> usize
 }
 
 // Puts a group at a place where it fits, and says where it ends.
-fn put_group(group: Group, out: &mut [u8], at: usize) -> usize
-    requires { ⌜ GroupInside group × (at + length (bytesOf (groupNumbers (pairsOf group))) ≤ length (now out)) ⌝ }
-    ensures { λ r. ⌜ (r ≡ at + length (bytesOf (groupNumbers (pairsOf group)))) × (now (out .exit) ≡ splice (now (out .entry)) at (bytesOf (groupNumbers (pairsOf group)))) ⌝ }
+fn put_group<'a>(
+    group: Group,
+    loads: &'a [u16; 32],
+    stores: &'a [u16; 32],
+    out: &mut [u8],
+    at: usize,
+) -> usize
+    requires { ⌜ GroupInside group × (at + length (bytesOf (groupNumbers (pairsOf (now loads) (now stores) group))) ≤ length (now out)) ⌝ }
+    ensures { λ r. ⌜ (r ≡ at + length (bytesOf (groupNumbers (pairsOf (now (loads .entry)) (now (stores .entry)) group)))) × (now (out .exit) ≡ splice (now (out .entry)) at (bytesOf (groupNumbers (pairsOf (now (loads .entry)) (now (stores .entry)) group)))) ⌝ }
 {
-    let loads = group.loads;
-    let stores = group.stores;
-    let after_loads = put_number(out, at, loads.count as u32);
-    let after_counts = put_number(out, after_loads, stores.count as u32);
-    let after_pairs = put_pairs(loads, out, after_counts);
-    put_pairs(stores, out, after_pairs)
+    let load_span = group.loads;
+    let store_span = group.stores;
+    let after_loads = put_number(out, at, load_span.count as u32);
+    let after_counts = put_number(out, after_loads, store_span.count as u32);
+    let after_pairs = put_pairs(loads, load_span, out, after_counts);
+    put_pairs(stores, store_span, out, after_pairs)
 }
 
 // Puts a table at the front of a buffer where it fits.
-fn put_table(table: Table, out: &mut [u8])
-    requires { ⌜ (table .count ≤ 16) × (length (bytesOf (tableNumbers (groupsOf table))) ≤ length (now out)) ⌝ }
-    ensures { λ _. ⌜ now (out .exit) ≡ splice (now (out .entry)) 0 (bytesOf (tableNumbers (groupsOf table))) ⌝ }
+fn put_table<'a>(
+    count: u8,
+    groups: &'a [u32; 16],
+    loads: &'a [u16; 32],
+    stores: &'a [u16; 32],
+    out: &mut [u8],
+)
+    requires { ⌜ (count ≤ 16) × (length (bytesOf (tableNumbers (groupsIn count (now groups) (now loads) (now stores)))) ≤ length (now out)) ⌝ }
+    ensures { λ _. ⌜ now (out .exit) ≡ splice (now (out .entry)) 0 (bytesOf (tableNumbers (groupsIn count (now (groups .entry)) (now (loads .entry)) (now (stores .entry))))) ⌝ }
 {
-    let count = table.count as usize;
+    let many = count as usize;
     let after_fields = put_number(out, 0, 2);
-    let mut place = put_number(out, after_fields, table.count as u32);
+    let mut place = put_number(out, after_fields, count as u32);
     let mut i: usize = 0;
-    while i < count {
-        let group = group_at(table, i);
-        place = put_group(group, out, place);
+    while i < many {
+        let group = group_at(groups, i);
+        place = put_group(group, loads, stores, out, place);
         i += 1;
     }
 }
@@ -117,10 +135,10 @@ pub fn write_table(table: Table, out: &mut [u8]) -> Written
     if fault != 0 {
         return Written::Unwritten(fault);
     }
-    let length = table_length(table);
+    let length = table_length(table.count, &table.groups, &table.loads, &table.stores);
     if out.len() < length {
         return Written::Unwritten(TOO_SHORT);
     }
-    put_table(table, out);
+    put_table(table.count, &table.groups, &table.loads, &table.stores, out);
     Written::Bytes(length)
 }

@@ -4,7 +4,6 @@ use crate::script::Bytes;
 use crate::show;
 use table::Table;
 use table::TableRead;
-use table::parts::group_at;
 
 // The bytes to read are the first `count`. A buffer that is written to has `length` bytes, each EE.
 pub struct Run {
@@ -90,7 +89,7 @@ pub(crate) fn look(mut run: Run, command: usize, number: u64) -> Run {
     match command {
         command::READ_TABLE => read_table(run),
         command::ORDER => {
-            show::order(group_at(table, 0));
+            show::order(table);
             run
         }
         command::CHECK => {

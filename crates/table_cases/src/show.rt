@@ -3,14 +3,14 @@ ghost use Prim.Native.Nat.{_<_};
 use libc::STDOUT_FILENO;
 use table::Event;
 use table::EventRead;
-use table::Group;
 use table::HeaderRead;
 use table::NumberRead;
 use table::Pair;
-use table::Pairs;
+use table::Span;
 use table::Table;
 use table::Written;
 use table::parts::group_at;
+use table::parts::unpack_pair;
 
 pub(crate) fn words(text: &[u8]) {
     io::write_all(STDOUT_FILENO, text);
@@ -71,27 +71,28 @@ pub(crate) fn written(answer: Written) {
 }
 
 // The ith of the pairs. They stand within the places (`group_at`), so the remainder changes nothing.
-fn access(pairs: Pairs, i: u8) -> Pair {
+fn access(places: &[u16; 32], pairs: Span, i: u8) -> Pair {
     let place = pairs.first as usize + i as usize;
-    pairs.places[place % 32]
+    unpack_pair(places[place % 32])
 }
 
 // Pairs of one kind, each as offset/port.
-fn accesses(pairs: Pairs) {
+fn accesses(places: &[u16; 32], pairs: Span) {
     let mut i: u8 = 0;
     while i < pairs.count {
-        let pair = access(pairs, i);
+        let pair = access(places, pairs, i);
         number(b" ", pair.offset as u64);
         number(b"/", pair.port as u64);
         i += 1;
     }
 }
 
-fn one_group(group: Group) {
+fn one_group(table: Table, i: usize) {
+    let group = group_at(&table.groups, i);
     words(b" [loads");
-    accesses(group.loads);
+    accesses(&table.loads, group.loads);
     words(b" stores");
-    accesses(group.stores);
+    accesses(&table.stores, group.stores);
     words(b"]");
 }
 
@@ -100,16 +101,16 @@ pub(crate) fn groups(table: Table) {
     number(b" groups ", table.count as u64);
     let mut i: u8 = 0;
     while i < table.count {
-        one_group(group_at(table, i as usize));
+        one_group(table, i as usize);
         i += 1;
     }
 }
 
 // The loads of one offset.
-fn loads_at(loads: Pairs, offset: u8) {
+fn loads_at(places: &[u16; 32], loads: Span, offset: u8) {
     let mut i: u8 = 0;
     while i < loads.count {
-        let load = access(loads, i);
+        let load = access(places, loads, i);
         if load.offset == offset {
             number(b", load ", load.port as u64);
         }
@@ -117,20 +118,21 @@ fn loads_at(loads: Pairs, offset: u8) {
     }
 }
 
-// A group's accesses in program order: load i is before store j when its offset is at most j.
-pub(crate) fn order(group: Group) {
+// The first group's accesses in program order: load i is before store j when its offset is at most j.
+pub(crate) fn order(table: Table) {
+    let group = group_at(&table.groups, 0);
     let loads = group.loads;
     let stores = group.stores;
     let mut j: u8 = 0;
     while j < 16 {
-        loads_at(loads, j);
+        loads_at(&table.loads, loads, j);
         if j < stores.count {
-            let store = access(stores, j);
+            let store = access(&table.stores, stores, j);
             number(b", store ", store.port as u64);
         }
         j += 1;
     }
-    loads_at(loads, 16);
+    loads_at(&table.loads, loads, 16);
 }
 
 // What reading the leading numbers of a trace answers.

@@ -2,9 +2,12 @@
 // (`command::takes`), so no remainder below changes a number.
 use crate::command;
 use crate::run::Run;
+use table::Group;
 use table::Pair;
 use table::Span;
 use table::Table;
+use table::parts::pack_group;
+use table::parts::pack_pair;
 
 fn byte(value: u64) -> u8 {
     (value % 256) as u8
@@ -12,41 +15,47 @@ fn byte(value: u64) -> u8 {
 
 // One group, and 255 everywhere else: what no table may hold.
 fn filled() -> Table {
-    let pair = Pair {
+    let pair = pack_pair(Pair {
         offset: 255,
         port: 255,
-    };
+    });
     let span = Span {
-        first_load: 255,
-        loads: 255,
-        first_store: 255,
-        stores: 255,
+        first: 255,
+        count: 255,
     };
+    let group = pack_group(Group {
+        loads: span,
+        stores: span,
+    });
     Table {
         count: 1,
-        groups: [span; 16],
+        groups: [group; 16],
         loads: [pair; 32],
         stores: [pair; 32],
     }
 }
 
 // Of the numbers: group, first load's place, loads, first store's place, stores.
-fn span_of(numbers: [u64; 8]) -> Span {
-    Span {
-        first_load: byte(numbers[1]),
-        loads: byte(numbers[2]),
-        first_store: byte(numbers[3]),
-        stores: byte(numbers[4]),
-    }
+fn group_of(numbers: [u64; 8]) -> Group {
+    let loads = Span {
+        first: byte(numbers[1]),
+        count: byte(numbers[2]),
+    };
+    let stores = Span {
+        first: byte(numbers[3]),
+        count: byte(numbers[4]),
+    };
+    Group { loads, stores }
 }
 
 // Of the numbers: place, offset, port.
-fn with_pair(mut places: [Pair; 32], numbers: [u64; 8]) -> [Pair; 32] {
+fn with_pair(mut places: [u16; 32], numbers: [u64; 8]) -> [u16; 32] {
     let place = (numbers[0] % 32) as usize;
-    places[place] = Pair {
+    let pair = Pair {
         offset: byte(numbers[1]),
         port: byte(numbers[2]),
     };
+    places[place] = pack_pair(pair);
     places
 }
 
@@ -69,7 +78,7 @@ fn table_with(mut table: Table, command: usize, numbers: [u64; 8]) -> Table {
             table
         }
         _ => {
-            table.groups[group] = span_of(numbers);
+            table.groups[group] = pack_group(group_of(numbers));
             table
         }
     }

@@ -1,13 +1,13 @@
 -- Each test that is left behind is a step of the rule; the test that fails is its refusal.
+use Prim.Native.Nat.{_<_}
 use mathlib.Core.Path.{_≡_, refl, sym, ap, _∙_}
 use mathlib.Core.Bool.{true}
-use lib.ListN.{length}
 use Rattle.queue.specs.Parts.{queueOf, outcomeOf}
 use Rattle.queue.proofs.PartsLaws.{Fit, fit, unfit}
 use borrow.Author.Needs.{needs}
 use borrow.Author.Tests.{not-true, not-false}
-use Rattle.table.specs.Group.{pairsOf}
-use Rattle.table.proofs.CheckLaws.{long, Sized, sized, group-inside}
+use Rattle.table.specs.Group.{GroupPairs, pairsOf}
+use Rattle.table.proofs.CheckLaws.{group-inside}
 use Rattle.table.proofs.OrderOffsets.{GroupRight}
 use Rattle.queue.specs.declared.Queue.{Queue}
 use Rattle.queue.specs.declared.Outcome.{Outcome}
@@ -43,47 +43,42 @@ good c = fit (queue (c .before)) (c .before .sound-in .ensures) (c .if1 .left)
 
 -- where a group was chosen: the sound queue
 abbrev checked : tie.After-group-at → tie.Else1
-checked g = g .before .before .before .before
+checked g = g .before .before .before .before .before
 
 abbrev begun : tie.After-group-at → tie.Start
 begun g = start (checked g .before)
 
-wide-table : (s : tie.Start) → length (s .args .frame .table .groups) ≡ 16
-wide-table s = search (needs, long)
+-- the group as it is meant
+abbrev meant : tie.After-group-at → GroupPairs
+meant g = pairsOf (begun g .args .frame .table .loads) (begun g .args .frame .table .stores) (g .group-at .result)
 
-wide : (g : tie.After-group-at) → length (begun g .args .frame .table .groups) ≡ 16
-wide g = wide-table (begun g)
+below : (g : tie.After-group-at) → begun g .args .group < begun g .args .frame .table .count
+below g = g .before .before .before .if2 .left
 
-size : (g : tie.After-group-at) → Sized (g .group-at .result)
-size g =
-    let l : length (g .group-at .result .loads .places) ≡ 32 = search (needs, long) in
-    let s : length (g .group-at .result .stores .places) ≡ 32 = search (needs, long) in
-    sized l s (group-inside _ _ (g .group-at .ensures))
-
-good-group : (g : tie.After-group-at) → GroupRight (pairsOf (g .group-at .result))
+good-group : (g : tie.After-group-at) → GroupRight (meant g)
 good-group g =
     let s = begun g in
     let t = table-right (queueIn s) (good (checked g) .right) in
-    group-right (s .args .frame .table) (groups-few (s .args .frame .table) t) (wide g) (s .args .group) (g .before .if2 .left) (g .group-at .ensures) t
+    group-right (s .args .frame .table) (groups-few (s .args .frame .table) t) (s .args .group) (below g) (g .group-at .ensures) t
 
 rule : (g : tie.After-group-at) → let s = begun g in
-    activate (contentsOf (queueIn s)) (s .args .group) ≡ need (room (contentsOf (queueIn s)) (pairsOf (g .group-at .result))) noPlace (accept (withGroup (contentsOf (queueIn s)) (pairsOf (g .group-at .result))))
-rule g = let s = begun g in activate-group (queueIn s) (s .args .group) (good (checked g) .right) (wide g) (g .before .if2 .left) (g .group-at .ensures)
+    activate (contentsOf (queueIn s)) (s .args .group) ≡ need (room (contentsOf (queueIn s)) (meant g)) noPlace (accept (withGroup (contentsOf (queueIn s)) (meant g)))
+rule g = let s = begun g in activate-group (queueIn s) (s .args .group) (good (checked g) .right) (below g) (g .group-at .ensures)
 
 abbrev chosen : tie.After-has-room → tie.After-group-at
 chosen h = h .before .before .before
 
-has-place : (h : tie.After-has-room) → room (contentsOf (queueIn (begun (chosen h)))) (pairsOf (chosen h .group-at .result)) ≡ h .has-room .result
-has-place h = room-record (queueIn (begun (chosen h))) (size (chosen h)) ∙ sym (h .has-room .ensures)
+has-place : (h : tie.After-has-room) → room (contentsOf (queueIn (begun (chosen h)))) (meant (chosen h)) ≡ h .has-room .result
+has-place h = room-record (queueIn (begun (chosen h))) (chosen h .group-at .result) ∙ sym (h .has-room .ensures)
 
-place : (e : tie.Else3) → room (contentsOf (queueIn (begun (chosen (e .before))))) (pairsOf (chosen (e .before) .group-at .result)) ≡ true
+place : (e : tie.Else3) → room (contentsOf (queueIn (begun (chosen (e .before))))) (meant (chosen (e .before))) ≡ true
 place e = has-place (e .before) ∙ not-false _ (e .if3 .left)
 
 fits : (e : tie.Else3) → let g = chosen (e .before) in let s = begun g in
-    PairsFit (s .args .frame .loads .count) (g .group-at .result .loads) × PairsFit (s .args .frame .stores .count) (g .group-at .result .stores)
+    PairsFit (s .args .frame .loads .count) (s .args .frame .table .loads) (g .group-at .result .loads) × PairsFit (s .args .frame .stores .count) (s .args .frame .table .stores) (g .group-at .result .stores)
 fits e =
     let g = chosen (e .before) in
-    group-fits (queueIn (begun g)) (size g) (group-inside _ _ (g .group-at .ensures)) (good (checked g) .right) (good-group g) (place e)
+    group-fits (queueIn (begun g)) (g .group-at .result) (group-inside _ _ (g .group-at .ensures)) (good (checked g) .right) (good-group g) (place e)
 
 sound-in-requires : tie.Need-sound-in-requires
 sound-in-requires c κs = search needs
@@ -105,7 +100,7 @@ refused-requires-2 c κs = search needs
 
 returns-2 : tie.Need-returns-2
 returns-2 c =
-    let e = c .before .before .before .before in
+    let e = c .before .before .before in
     let s = start (e .before) in
     rw (good e .full, activate-no-group (queueIn s) (s .args .group) (good e .right) (c .before .if2 .taken)) (ap (unchanged s) (c .refused2 .ensures))
 
@@ -126,29 +121,29 @@ returns-3 c =
 
 append-requires : tie.Need-append-requires
 append-requires c κs =
-    let e = c .before .before .before in
+    let e = c .before .before .before .before .before in
     let g = chosen (e .before) in
     let s = begun g in
     (fits e .0, stores-few (queueIn s) (good (checked g) .right), good (checked g) .loads-whole)
 
 append-requires-2 : tie.Need-append-requires-2
 append-requires-2 c κs =
-    let e = c .before .before .before .before .before .before .before in
+    let e = c .before .before .before .before .before .before .before .before .before .before .before in
     let g = chosen (e .before) in
     let s = begun g in
     (fits e .1, loads-few (queueIn s) (good (checked g) .right), good (checked g) .stores-whole)
 
 longer-requires : tie.Need-longer-requires
-longer-requires c κs = fits (c .before .before .before .before .before .before .before .before .before .before) .0 .room
+longer-requires c κs = fits (c .before .before .before .before .before .before .before .before .before .before .before .before .before .before) .0 .room
 
 longer-requires-2 : tie.Need-longer-requires-2
-longer-requires-2 c κs = fits (c .before .before .before .before .before .before .before .before .before .before .before) .1 .room
+longer-requires-2 c κs = fits (c .before .before .before .before .before .before .before .before .before .before .before .before .before .before .before) .1 .room
 
 returns-4 : tie.Need-returns-4
 returns-4 c =
     let b = c .before .before .before .before in
-    let a = b .before .before .before .before in
-    let e = a .before .before .before .before in
+    let a = b .before .before .before .before .before .before in
+    let e = a .before .before .before .before .before .before in
     let g = chosen (e .before) in
     let s = begun g in
     rw (good (checked g) .full, rule g, place e)
@@ -156,7 +151,7 @@ returns-4 c =
       answer = refl {a = 0};
       gives = refl {a = Nothing};
       holds = rw (c .before .longer .ensures, c .longer2 .ensures)
-          (appended-both (queueIn s) (size g) (a .append .ensures) (b .append2 .ensures) ∙ with-group-is (contentsOf (queueIn s)) (pairsOf (g .group-at .result)) (good-group g));
+          (appended-both (queueIn s) (g .group-at .result) (a .append .ensures) (b .append2 .ensures) ∙ with-group-is (contentsOf (queueIn s)) (meant g) (good-group g));
     })
 
 same-length : tie.Need-same-length

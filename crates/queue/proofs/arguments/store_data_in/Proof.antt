@@ -13,6 +13,7 @@ use Rattle.queue.proofs.EntryLaws.{store-lacks-word}
 use Rattle.queue.proofs.SoundLaws.{table-right}
 use Rattle.queue.proofs.ArgumentLaws.{store-data-record, store-given}
 use Rattle.queue.proofs.PartsLaws.{Fit, fit, unfit}
+use Rattle.queue.proofs.GroupLaws.{groups-few}
 use borrow.Author.Needs.{needs}
 use Rattle.queue.proofs.arguments.store_data_in.Statement.{statement}
 use Rattle.queue.proofs.arguments.store_data_in.Tie as tie
@@ -23,13 +24,17 @@ start c = c .before .before .before .before
 abbrev queue : tie.After-sound-in → Queue
 queue c =
     let a = start c .args in
-    queueOf (a .frame) (a .load-entries .now) (a .store-entries .now)
+    queueOf (a .t1) (a .load-entries .now) (a .store-entries .now)
 
 -- the runs are whole and the queue is sound
 good : (c : tie.Else1) → Fit (queue (c .before))
 good c = fit (queue (c .before)) (c .before .sound-in .ensures) (c .if1 .left)
 
-port : (c : tie.Else2) → let p = c .before .before .before .before in any (isStorePort (start p .args .port)) (groupsOf (queue p .frame .table)) ≡ true
+-- where the port was looked up
+abbrev sure : tie.After-has-port → tie.Else1
+sure c = c .before .before .before .before .before
+
+port : (c : tie.Else2) → let p = sure (c .before) .before in any (isStorePort (start p .args .port)) (groupsOf (queue p .frame .table)) ≡ true
 port c = sym (c .before .has-port .ensures) ∙ not-false _ (c .if2 .left)
 
 sound-in-requires : tie.Need-sound-in-requires
@@ -45,7 +50,9 @@ returns c =
     rw (unfit q (storeData (contentsOf q) (start s .args .port) (start s .args .word)) (c .before .sound-in .ensures) (c .if1 .taken) (λ e. rw (store-data-record q (start s .args .port) (start s .args .word), e)))
 
 has-port-requires : tie.Need-has-port-requires
-has-port-requires c κs = table-right (queue (c .before .before)) (good (c .before) .right)
+has-port-requires c κs =
+    let e = c .before .before .before .before in
+    groups-few (queue (e .before) .frame .table) (table-right (queue (e .before)) (good e .right))
 
 same-length-2 : tie.Need-same-length-2
 same-length-2 c = search needs
@@ -53,13 +60,13 @@ same-length-2 c = search needs
 returns-2 : tie.Need-returns-2
 returns-2 c =
     let p = c .before in
-    let e = p .before .before in
+    let e = sure p in
     let s = e .before in
     rw (good e .full, store-data-record (queue s) (start s .args .port) (start s .args .word), good e .right, sym (p .has-port .ensures) ∙ not-true _ (c .if2 .taken))
 
 give-requires : tie.Need-give-requires
 give-requires c κs =
-    let e = c .before .before .before .before .before in
+    let e = sure (c .before .before .before) in
     good e .stores-room
 
 same-length-3 : tie.Need-same-length-3
@@ -69,7 +76,7 @@ returns-3 : tie.Need-returns-3
 returns-3 c =
     let g = c .before .before in
     let p = g .before .before .before in
-    let e = p .before .before .before in
+    let e = sure (p .before) in
     let s = e .before in
     let q = queue s in
     let w = start s .args .word in

@@ -2,11 +2,10 @@ use Prim.Native.Nat.{_+_, _≤_, _-_}
 use mathlib.Core.Path.{_≡_}
 use mathlib.Core.List.{_∷_}
 use native.Mathlib.Omega.{arith}
-use lib.ListN.{length, getD, drop}
+use lib.ListN.{drop}
 use borrow.Author.Needs.{needs}
 use borrow.Author.Tests.{eq-eqb, ne-eqb}
-use Rattle.table.specs.Group.{blankPair, listOf}
-use Rattle.table.proofs.CheckLaws.{long}
+use Rattle.table.specs.Group.{listOf}
 use Rattle.queue.specs.Arguments.{isPort}
 use Rattle.queue.proofs.GroupLaws.{pairs-here, pairs-end}
 use Rattle.queue.proofs.WalkLaws.{NoneYet, none-none, none-on, none-stop, none-end}
@@ -14,15 +13,20 @@ use Rattle.queue.proofs.ports.names_port.Statement.{statement}
 use Rattle.queue.proofs.ports.names_port.Tie as tie
 
 abbrev Inv-loop : tie.InvT-loop
-Inv-loop port pairs first count i₀ i = (i ≤ pairs .count) × NoneYet (isPort port) (listOf pairs) i
+Inv-loop places port first count i₀ i = (i ≤ count) × NoneYet (isPort port) (listOf places (record { first = first; count = count })) i
 
 abbrev μ-loop : tie.MeasureT-loop
-μ-loop port pairs first count i₀ i = count - i
+μ-loop places port first count i₀ i = count - i
 
-here : (c : tie.In-loop Inv-loop μ-loop) → drop (c .before .loop .i) (listOf (c .before .before .args .t1)) ≡ getD (c .before .before .args .t1 .places) (c .before .before .args .t1 .first + c .before .loop .i) blankPair ∷ drop (c .before .loop .i + 1) (listOf (c .before .before .args .t1))
-here c =
-    let e : length (c .before .before .args .t1 .places) ≡ 32 = search (needs, long) in
-    pairs-here (c .before .before .args .t1) e (c .before .before .pre) (c .before .loop .i) (c .loop-test .taken)
+abbrev start : tie.At-loop Inv-loop μ-loop → tie.Start Inv-loop μ-loop
+start c = c .before .before .before
+
+here : (u : tie.After-unpack-pair Inv-loop μ-loop) → let l = u .before .before .before in let a = start l .args in
+    drop (l .loop .i) (listOf (a .places .now) (a .pairs)) ≡ u .unpack-pair .result ∷ drop (l .loop .i + 1) (listOf (a .places .now) (a .pairs))
+here u =
+    let l = u .before .before in
+    let a = start (l .before) .args in
+    rw (u .unpack-pair .ensures) (pairs-here (a .places .now) (a .pairs) (l .before .loop .i) (l .loop-test .taken))
 
 cast-first : tie.Need-cast-first Inv-loop μ-loop
 cast-first c = search needs
@@ -33,36 +37,44 @@ cast-count c = search needs
 loop-holds : tie.Need-loop-holds Inv-loop μ-loop
 loop-holds c = (search needs, none-none)
 
-add-pair : tie.Need-add-pair Inv-loop μ-loop
-add-pair c = omega (arith, c .before .before .pre)
+add-unpack-pair : tie.Need-add-unpack-pair Inv-loop μ-loop
+add-unpack-pair c = omega (arith, start (c .before) .pre)
 
-mul-pair : tie.Need-mul-pair Inv-loop μ-loop
-mul-pair c = omega (arith, c .before .before .pre)
+mul-unpack-pair : tie.Need-mul-unpack-pair Inv-loop μ-loop
+mul-unpack-pair c = omega (arith, start (c .before) .pre)
 
-element-copy-out-pair : tie.Need-element-copy-out-pair Inv-loop μ-loop
-element-copy-out-pair c = omega (arith, c .before .before .pre)
+element-copy-out-unpack-pair : tie.Need-element-copy-out-unpack-pair Inv-loop μ-loop
+element-copy-out-unpack-pair c = omega (arith, start (c .before) .pre)
+
+unpack-pair-requires : tie.Need-unpack-pair-requires Inv-loop μ-loop
+unpack-pair-requires c κs = search needs
 
 cast-if1 : tie.Need-cast-if1 Inv-loop μ-loop
 cast-if1 c = search needs
 
 returns : tie.Need-returns Inv-loop μ-loop
 returns c =
-    let l = c .before .before .before in
-    none-stop (l .before .loop .inv .1) (here l) (eq-eqb _ _ (c .if1 .taken))
+    let u = c .before .before in
+    none-stop (u .before .before .before .loop .inv .1) (here u) (eq-eqb _ _ (c .if1 .taken))
 
 add-i : tie.Need-add-i Inv-loop μ-loop
-add-i c = omega arith
+add-i c =
+    let l = c .before .before .before .before in
+    omega (arith, l .loop-test .taken, start (l .before) .pre)
 
 loop-less : tie.Need-loop-less Inv-loop μ-loop
-loop-less c = omega arith
+loop-less c = omega (arith, c .before .before .before .before .loop-test .taken)
 
 loop-again : tie.Need-loop-again Inv-loop μ-loop
 loop-again c =
-    let l = c .before .before .before in
-    (omega arith, none-on (l .before .loop .inv .1) (here l) (ne-eqb _ _ (c .if1 .left)))
+    let u = c .before .before in
+    let l = u .before .before in
+    (omega (arith, l .loop-test .taken), none-on (l .before .loop .inv .1) (here u) (ne-eqb _ _ (c .if1 .left)))
 
 returns-2 : tie.Need-returns-2 Inv-loop μ-loop
-returns-2 c = none-end (c .before .loop .inv .1) (pairs-end (c .before .before .args .t1) (c .before .loop .i) (c .loop-test .left))
+returns-2 c =
+    let a = start (c .before) .args in
+    none-end (c .before .loop .inv .1) (pairs-end (a .places .now) (a .pairs) (c .before .loop .i) (c .loop-test .left))
 
 pub names-port-spec : {M : Type 1} → statement M
 names-port-spec =
@@ -73,9 +85,10 @@ names-port-spec =
     cast-first
     cast-count
     loop-holds
-    add-pair
-    mul-pair
-    element-copy-out-pair
+    add-unpack-pair
+    mul-unpack-pair
+    element-copy-out-unpack-pair
+    unpack-pair-requires
     cast-if1
     returns
     add-i

@@ -20,6 +20,7 @@ use Rattle.queue.proofs.ContentsLaws.{load-anew}
 use Rattle.queue.proofs.SoundLaws.{table-right}
 use Rattle.queue.proofs.TakeLaws.{take-unsound, take-no-port, take-none, take-unserved, take-served}
 use Rattle.queue.proofs.PartsLaws.{Fit, fit, unfit}
+use Rattle.queue.proofs.GroupLaws.{groups-few}
 use borrow.Author.Needs.{needs}
 use Rattle.queue.proofs.taking.take_in.Statement.{statement}
 use Rattle.queue.proofs.taking.take_in.Tie as tie
@@ -30,7 +31,7 @@ start c = c .before .before .before .before .before
 abbrev queue : tie.After-sound-in → Queue
 queue c =
     let a = start c .args in
-    queueOf (a .frame) (a .load-entries .now) (a .store-entries .now)
+    queueOf (a .t1) (a .load-entries .now) (a .store-entries .now)
 
 -- the runs are whole and the queue is sound
 good : (c : tie.Else1) → Fit (queue (c .before))
@@ -38,7 +39,7 @@ good c = fit (queue (c .before)) (c .before .sound-in .ensures) (c .if1 .left)
 
 -- where the port was looked up, and where its oldest untaken load was
 abbrev sure : tie.After-has-port → tie.Else1
-sure c = c .before .before
+sure c = c .before .before .before .before .before
 
 abbrev known : tie.After-oldest-without → tie.Else2
 known c = c .before .before .before
@@ -88,7 +89,9 @@ returns c =
     rw (unfit q (take (contentsOf q) (start s .args .port)) (c .before .before .sound-in .ensures) (c .before .if1 .taken) (take-unsound q (start s .args .port)), c .refused .ensures)
 
 has-port-requires : tie.Need-has-port-requires
-has-port-requires c κs = table-right (queue (c .before .before)) (good (c .before) .right)
+has-port-requires c κs =
+    let e = c .before .before .before .before in
+    groups-few (queue (e .before) .frame .table) (table-right (queue (e .before)) (good e .right))
 
 refused-requires-2 : tie.Need-refused-requires-2
 refused-requires-2 c κs = search needs

@@ -1,31 +1,36 @@
 -- The store's rule looks into the loads, which the first half of the check has found to rise.
-use Prim.Native.Nat.{_≤_}
+use Prim.Native.Nat.{ℕ, _≤_}
 use mathlib.Core.Path.{_≡_, sym, _∙_}
 use mathlib.Core.Bool.{true, false≢true}
+use mathlib.Core.List.{List}
 use native.Mathlib.Omega.{arith}
 use borrow.Author.Tests.{not-true, not-false}
 use Rattle.table.specs.declared.Group.{Group}
 use Rattle.table.specs.Table.{countsRight, Seen}
 use Rattle.table.specs.Internal.{seenIn, GroupInside}
-use Rattle.table.proofs.CheckLaws.{long, Sized, sized, counts-few, rising-checked, group-counts, group-loads, group-stores}
+use Rattle.table.proofs.CheckLaws.{counts-few, rising-checked, group-counts, group-loads, group-stores}
 use borrow.Author.Needs.{needs}
 use Rattle.table.proofs.check.check_group.Statement.{statement}
 use Rattle.table.proofs.check.check_group.Tie as tie
 
--- the group, and the ports seen before it
+abbrev start : tie.After-counts-right → tie.Start
+start c = c .before .before .before .before
+
+-- the group, the places of its accesses, and the ports seen before it
 abbrev groupIn : tie.After-counts-right → Group
-groupIn c = c .before .before .before .before .args .group
+groupIn c = start c .args .group
+
+abbrev loadsIn : tie.After-counts-right → List ℕ
+loadsIn c = start c .args .loads .now
+
+abbrev storesIn : tie.After-counts-right → List ℕ
+storesIn c = start c .args .stores .now
 
 abbrev seenBefore : tie.After-counts-right → Seen
-seenBefore c =
-    let a = c .before .before .before .before .args in
-    seenIn (a .loads .now) (a .stores .now)
+seenBefore c = seenIn (start c .args .seen-loads .now) (start c .args .seen-stores .now)
 
 pre : (c : tie.After-counts-right) → GroupInside (groupIn c)
-pre c = c .before .before .before .before .pre
-
-sizes : (c : tie.After-counts-right) → Sized (groupIn c)
-sizes c = sized (search (needs, long)) (search (needs, long)) (pre c)
+pre c = start c .pre
 
 right : (c : tie.Else1) → countsRight (groupIn (c .before) .loads .count) (groupIn (c .before) .stores .count) ≡ true
 right c = sym (c .before .counts-right .ensures) ∙ not-false _ (c .if1 .left)
@@ -44,8 +49,9 @@ counts-right-requires c κs = search needs
 
 returns : tie.Need-returns
 returns c =
+    let k = c .before in
     record {
-      answer = group-counts (groupIn (c .before)) (seenBefore (c .before)) (sizes (c .before)) (sym (c .before .counts-right .ensures) ∙ not-true _ (c .if1 .taken));
+      answer = group-counts (loadsIn k) (storesIn k) (groupIn k) (seenBefore k) (sym (k .counts-right .ensures) ∙ not-true _ (c .if1 .taken));
       marks = λ z. absurd (omega arith);
     }
 
@@ -58,8 +64,9 @@ check-pairs-requires c κs =
 returns-2 : tie.Need-returns-2
 returns-2 c =
     let e = c .before .before .before in
+    let k = e .before in
     record {
-      answer = group-loads (groupIn (e .before)) (seenBefore (e .before)) (sizes (e .before)) (right e) (c .before .check-pairs .ensures .answer) (c .if2 .taken);
+      answer = group-loads (loadsIn k) (storesIn k) (groupIn k) (seenBefore k) (right e) (c .before .check-pairs .ensures .answer) (c .if2 .taken);
       marks = λ z. absurd (c .if2 .taken z);
     }
 
@@ -74,9 +81,10 @@ returns-3 : tie.Need-returns-3
 returns-3 c =
     let p = c .before .before .before in
     let e = p .before .before in
+    let k = e .before in
     let d = c .before .before .if2 .left in
     record {
-      answer = group-stores (groupIn (e .before)) (seenBefore (e .before)) (sizes (e .before)) (right e) (sym (p .check-pairs .ensures .answer) ∙ d) (c .check-pairs2 .ensures .answer);
+      answer = group-stores (loadsIn k) (storesIn k) (groupIn k) (seenBefore k) (right e) (sym (p .check-pairs .ensures .answer) ∙ d) (c .check-pairs2 .ensures .answer);
       marks = λ z. rw (p .check-pairs .ensures .marks d, c .check-pairs2 .ensures .marks z);
     }
 

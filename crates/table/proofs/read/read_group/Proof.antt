@@ -9,7 +9,7 @@ use Rattle.table.specs.Table.{loadRule, pairsFault, countsRight}
 use Rattle.table.specs.TableBytes.{readPairs}
 use Rattle.table.specs.Internal.{twoRefusal, seenOf, group-none, group-found}
 use Rattle.table.proofs.CheckLaws.{counts-few, rising-checked}
-use Rattle.table.proofs.ReadLaws.{TwoGot, two-answer, two-bad, two-refused, pairs-bad, PairsGot, pairs-got, read-right, group-refused, group-counts-bad, group-loads-bad, group-stores-bad, group-read, store-rule, same-stores, group-made}
+use Rattle.table.proofs.ReadLaws.{TwoGot, two-answer, two-bad, two-refused, pairs-bad, PairsGot, pairs-got, read-right, group-refused, group-counts-bad, group-loads-bad, group-stores-bad, group-read, same-stores, group-made}
 use borrow.Author.Needs.{needs}
 use Rattle.table.proofs.read.read_group.Statement.{statement}
 use Rattle.table.proofs.read.read_group.Tie as tie
@@ -96,7 +96,7 @@ read-pairs-requires-2 c κs =
         inside = rw (loads l .told .pairs) (omega (arith, loads-few l));
         few = rw (loads l .told .pairs) (loads-few l);
         few-stores = few e .1;
-        rising = λ z. rw (store-rule (loads l .told)) (rising-checked _ _ _ _ _ (loads-right l .0));
+        rising = λ z. rw (loads l .told .holds) (rising-checked _ _ _ _ _ (loads-right l .0));
       },
     )
 

@@ -1,28 +1,36 @@
 -- i pairs have been read into the array; what is left to read is the rest, with the marks and the last offset so far.
-use Prim.Native.Nat.{ℕ, _≤_, _-_}
+use Prim.Native.Nat.{ℕ, _≤_, _<_, _-_}
 use mathlib.Core.Path.{_≡_, refl, sym, ap, _∙_}
 use mathlib.Core.Bool.{Bool}
 use native.Mathlib.Omega.{arith}
 use borrow.Author.Needs.{needs}
-use Rattle.table.specs.declared.Pairs.{Pairs}
+use lib.ListN.{length}
+use Rattle.table.specs.declared.read.Pairs.{Pairs}
+use Rattle.table.specs.Packed.{SmallPair}
+use Rattle.table.specs.Group.{listOf}
 use Rattle.table.specs.Table.{pairFault}
-use Rattle.table.specs.Internal.{ruleOf, twoRefusal}
+use Rattle.table.specs.TableBytes.{pair}
+use Rattle.table.specs.Internal.{ruleOf, front, twoRefusal}
 use Rattle.table.proofs.CheckLaws.{fault-none, rule-small}
-use Rattle.table.proofs.ReadLaws.{TwoGot, two-answer, two-bad, two-refused, Reading, reading-none, reading-refused, reading-fault, reading-more, reading-end, packed, pairs-refused, pairs-found}
+use Rattle.table.proofs.ReadLaws.{TwoGot, two-answer, two-bad, two-refused, Reading, reading-none, reading-refused, reading-fault, reading-more, reading-end, packed, held-pairs, pairs-refused, pairs-found}
 use Rattle.table.proofs.read.read_pairs.Statement.{statement}
 use Rattle.table.proofs.read.read_pairs.Tie as tie
 
 abbrev Inv-loop : tie.InvT-loop
-Inv-loop bytes at count storing stores loads pairs₀ marks₀ low₀ place₀ i₀ pairs marks low place i = (i ≤ count) × Reading (ruleOf storing stores loads) count marks₀ bytes at i low marks place (pairs .places) × (pairs .first ≡ 0)
+Inv-loop bytes at count storing stores load-places load-span pairs₀ marks₀ low₀ place₀ i₀ pairs marks low place i =
+    (i ≤ count) × Reading (ruleOf storing stores (listOf load-places load-span)) count marks₀ bytes at i low marks place (pairs .places)
 
 abbrev μ-loop : tie.MeasureT-loop
-μ-loop bytes at count storing stores loads pairs₀ marks₀ low₀ place₀ i₀ pairs marks low place i = count - i
+μ-loop bytes at count storing stores load-places load-span pairs₀ marks₀ low₀ place₀ i₀ pairs marks low place i = count - i
+
+abbrev start : tie.At-loop Inv-loop μ-loop → tie.Start Inv-loop μ-loop
+start c = c .before .before .before .before
 
 no-pairs-requires : tie.Need-no-pairs-requires Inv-loop μ-loop
 no-pairs-requires c κs = search needs
 
 loop-holds : tie.Need-loop-holds Inv-loop μ-loop
-loop-holds c = (search needs, reading-none (c .before .before .pre .1) (ap (λ (p : Pairs). p .places) (c .no-pairs .ensures)), ap (λ (p : Pairs). p .first) (c .no-pairs .ensures))
+loop-holds c = (search needs, reading-none (c .before .before .before .pre .1) (ap (λ (p : Pairs). p .places) (c .no-pairs .ensures)))
 
 read-two-requires : tie.Need-read-two-requires Inv-loop μ-loop
 read-two-requires c κs = search needs
@@ -43,30 +51,30 @@ returns : tie.Need-returns Inv-loop μ-loop
 returns c =
     let t = c .before .before in
     let l = t .before .before .before in
-    let e = two-bad (l .before .before .before .before .args .bytes .now) (l .before .loop .place) (sym (t .enum-told .given .1) ∙ t .before .before .read-two .ensures) in
+    let e = two-bad (start (l .before) .args .bytes .now) (l .before .loop .place) (sym (t .enum-told .given .1) ∙ t .before .before .read-two .ensures) in
     pairs-refused (reading-refused (l .before .loop .inv .1) (l .loop-test .taken) e) (c .no-pairs-read .ensures ∙ c .before .two-refusal .ensures ∙ ap twoRefusal (t .enum-told .given .1)) (two-refused _ e)
 
 offset-right-requires : tie.Need-offset-right-requires Inv-loop μ-loop
-offset-right-requires c κs = c .before .before .before .before .before .before .before .before .pre .2
+offset-right-requires c κs = start (c .before .before .before .before .before .before) .pre .2
 
 pair-fault-requires : tie.Need-pair-fault-requires Inv-loop μ-loop
 pair-fault-requires c κs = search needs
 
-two : (c : tie.After-read Inv-loop μ-loop) → TwoGot (c .before .before .before .before .before .before .before .args .bytes .now) (c .before .before .before .before .loop .place) (c .read .given .0 .0) (c .read .given .0 .1 .0) (c .read .given .0 .1 .1 .0)
+two : (c : tie.After-read Inv-loop μ-loop) → TwoGot (start (c .before .before .before .before) .args .bytes .now) (c .before .before .before .before .loop .place) (c .read .given .0 .0) (c .read .given .0 .1 .0) (c .read .given .0 .1 .1 .0)
 two c = two-answer _ _ (sym (c .read .given .1) ∙ c .before .before .read-two .ensures)
 
 -- the pair's offset by the rule, and its fault
 abbrev rightOf : tie.After-read Inv-loop μ-loop → Bool
 rightOf g =
     let l = g .before .before .before .before in
-    let a = l .before .before .before .args in
-    ruleOf (a .storing) (a .stores) (a .loads) (l .loop .low) (l .loop .i) (g .read .given .0 .0)
+    let a = start l .args in
+    ruleOf (a .storing) (a .stores) (listOf (a .loads .places) (front (a .loads .count))) (l .loop .low) (l .loop .i) (g .read .given .0 .0)
 
 abbrev faultOf : tie.After-read Inv-loop μ-loop → Bool → ℕ
 faultOf g right = pairFault right (g .before .before .before .before .loop .marks) (g .read .given .0 .1 .0)
 
 abbrev turn : tie.After-pair-fault Inv-loop μ-loop → tie.After-read Inv-loop μ-loop
-turn c = c .before .before .before .before
+turn c = c .before .before .before .before .before
 
 fault : (c : tie.After-pair-fault Inv-loop μ-loop) → c .pair-fault .result ≡ faultOf (turn c) (rightOf (turn c))
 fault c = c .pair-fault .ensures ∙ ap (faultOf (turn c)) (c .before .before .offset-right .ensures)
@@ -88,54 +96,70 @@ small : (c : tie.Else1 Inv-loop μ-loop) → (turn (c .before) .read .given .0 .
 small c =
     let g = turn (c .before) in
     let l = g .before .before .before .before in
-    let s = l .before .before .before in
+    let s = start l in
     let f = fault-none (rightOf g) (l .loop .marks) (g .read .given .0 .1 .0) (no-fault c) in
-    (rule-small (s .args .storing) (s .args .stores) (s .args .loads) (l .loop .low) (l .loop .i) (g .read .given .0 .0) (s .pre .2) (f .0), f .1)
+    (rule-small (s .args .storing) (s .args .stores) (s .args .loads .places) (front (s .args .loads .count)) (l .loop .low) (l .loop .i) (g .read .given .0 .0) (s .pre .2) (f .0), f .1)
 
-cast-t26 : tie.Need-cast-t26 Inv-loop μ-loop
-cast-t26 c = omega (arith, small c .0)
+small-pair : (c : tie.Else1 Inv-loop μ-loop) → let g = turn (c .before) in SmallPair (pair (g .read .given .0 .0) (g .read .given .0 .1 .0))
+small-pair c = record { offset = omega (arith, small c .0); port = omega (arith, small c .1) }
 
-cast-t27 : tie.Need-cast-t27 Inv-loop μ-loop
-cast-t27 c = omega (arith, small c .1)
+-- there is a place for one pair more
+place : (c : tie.Else1 Inv-loop μ-loop) → turn (c .before) .before .before .before .before .loop .i < 16
+place c =
+    let l = turn (c .before) .before .before .before in
+    omega (arith, l .loop-test .taken, start (l .before) .pre .0)
 
-cast-pair : tie.Need-cast-pair Inv-loop μ-loop
-cast-pair c = omega arith
+cast-t29 : tie.Need-cast-t29 Inv-loop μ-loop
+cast-t29 c = omega (arith, small c .0)
 
-mul-pair : tie.Need-mul-pair Inv-loop μ-loop
-mul-pair c = omega arith
+cast-t30 : tie.Need-cast-t30 Inv-loop μ-loop
+cast-t30 c = omega (arith, small c .1)
 
-element-set-from-pair : tie.Need-element-set-from-pair Inv-loop μ-loop
-element-set-from-pair c = omega arith
+pack-pair-requires : tie.Need-pack-pair-requires Inv-loop μ-loop
+pack-pair-requires c κs = search needs
+
+cast-pairs : tie.Need-cast-pairs Inv-loop μ-loop
+cast-pairs c = omega (arith, place (c .before))
+
+mul-pairs : tie.Need-mul-pairs Inv-loop μ-loop
+mul-pairs c = omega (arith, place (c .before))
+
+element-write-pairs : tie.Need-element-write-pairs Inv-loop μ-loop
+element-write-pairs c = omega (arith, place (c .before))
 
 cast-marks : tie.Need-cast-marks Inv-loop μ-loop
-cast-marks c = omega (arith, small c .1)
+cast-marks c = omega (arith, small (c .before) .1)
 
 array-write-marks : tie.Need-array-write-marks Inv-loop μ-loop
-array-write-marks c = omega (arith, small c .1)
+array-write-marks c = omega (arith, small (c .before) .1)
 
 add-i : tie.Need-add-i Inv-loop μ-loop
-add-i c = omega arith
+add-i c = omega (arith, place (c .before))
 
 loop-less : tie.Need-loop-less Inv-loop μ-loop
-loop-less c = omega arith
+loop-less c = omega (arith, turn (c .before .before) .before .before .before .loop-test .taken)
 
 loop-again : tie.Need-loop-again Inv-loop μ-loop
 loop-again c =
-    let g = turn (c .before) in
+    let g = turn (c .before .before) in
     let l = g .before .before .before in
-    (omega arith, reading-more (l .before .loop .inv .1) (l .loop-test .taken) (two g) (l .before .before .before .before .pre .0) (no-fault c), l .before .loop .inv .2)
+    (omega (arith, l .loop-test .taken), reading-more (l .before .loop .inv .1) (l .loop-test .taken) (two g) (start (l .before) .pre .0) (no-fault (c .before)) (small-pair (c .before)) _ (c .pack-pair .ensures))
 
-cast-pairs : tie.Need-cast-pairs Inv-loop μ-loop
-cast-pairs c = omega arith
+cast-pairs-2 : tie.Need-cast-pairs-2 Inv-loop μ-loop
+cast-pairs-2 c = omega (arith, c .before .loop .inv .0, start (c .before) .pre .0)
 
 returns-3 : tie.Need-returns-3 Inv-loop μ-loop
 returns-3 c =
-    let a = c .before .before .before .before in
+    let a = start (c .before) in
     let w = c .before .loop .inv .1 in
+    let i = c .before .loop .i in
+    let places = c .before .loop .pairs .places in
     let e = reading-end w (a .pre .0) (c .loop-test .left) (c .before .loop .inv .0) in
+    let n : a .args .count ≡ i = omega (arith, c .loop-test .left, c .before .loop .inv .0) in
     pairs-found (e .0) (record {
       answer = refl;
-      pairs = packed _ _ _ _ (c .before .loop .inv .2) (omega (arith, c .loop-test .left, c .before .loop .inv .0)) (e .1) (e .2);
+      pairs = packed _ i places n (e .2) (e .1) (w .packs);
+      holds = held-pairs _ i places n (e .2) (omega (arith, w .long, n, a .pre .0));
       marks = w .marks-are;
       rest-is = refl;
       inside = w .inside;
@@ -159,15 +183,16 @@ read-pairs-spec =
     pair-fault-requires
     no-pairs-read-requires-2
     returns-2
-    cast-t26
-    cast-t27
-    cast-pair
-    mul-pair
-    element-set-from-pair
+    cast-t29
+    cast-t30
+    pack-pair-requires
+    cast-pairs
+    mul-pairs
+    element-write-pairs
     cast-marks
     array-write-marks
     add-i
     loop-less
     loop-again
-    cast-pairs
+    cast-pairs-2
     returns-3)

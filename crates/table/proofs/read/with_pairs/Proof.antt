@@ -5,8 +5,6 @@ use native.Mathlib.Omega.{arith}
 use native.Mathlib.Numerals.{add-one}
 use lib.ListN.{length}
 use lib.Seq.{paste, paste-zero, paste-suc}
-use Rattle.table.specs.Group.{blankPair}
-use Rattle.table.proofs.CheckLaws.{long}
 use borrow.Author.Needs.{needs}
 use Rattle.table.proofs.read.with_pairs.Statement.{statement}
 use Rattle.table.proofs.read.with_pairs.Tie as tie
@@ -35,8 +33,8 @@ add-places c = omega arith
 mul-places-2 : tie.Need-mul-places-2 Inv-loop μ-loop
 mul-places-2 c = omega arith
 
-array-set-from-places : tie.Need-array-set-from-places Inv-loop μ-loop
-array-set-from-places c = omega arith
+array-write-places : tie.Need-array-write-places Inv-loop μ-loop
+array-write-places c = omega arith
 
 add-i : tie.Need-add-i Inv-loop μ-loop
 add-i c = omega arith
@@ -48,15 +46,15 @@ loop-again : tie.Need-loop-again Inv-loop μ-loop
 loop-again c =
     let l = c .before .before in
     let a = l .before .args in
-    let m : length (a .t1) ≡ 32 = search (needs, long) in
-    let n : length (a .t3 .places) ≡ 32 = search (needs, long) in
-    (omega arith, rw (l .loop .inv .1, add-one) (paste-suc (a .t1) (a .from) (a .t3 .places) (l .loop .i) blankPair (omega arith) (omega arith)))
+    let m : length (a .t1) ≡ 32 = search needs in
+    let n : length (a .t3 .places) ≡ 32 = search needs in
+    (omega arith, rw (l .loop .inv .1, add-one) (paste-suc (a .t1) (a .from) (a .t3 .places) (l .loop .i) 0 (omega arith) (omega arith)))
 
 returns : tie.Need-returns Inv-loop μ-loop
 returns c =
     let w = c .before .loop .inv in
     let e : c .before .loop .i ≡ c .before .before .args .t3 .count = omega (arith, w .0, c .loop-test .left) in
-    w .1 ∙ rw (c .before .before .pre .0, e)
+    w .1 ∙ rw e
 
 pub with-pairs-spec : {M : Type 1} → statement M
 with-pairs-spec =
@@ -70,7 +68,7 @@ with-pairs-spec =
     element-copy-out-places
     add-places
     mul-places-2
-    array-set-from-places
+    array-write-places
     add-i
     loop-less
     loop-again

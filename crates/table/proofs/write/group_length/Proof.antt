@@ -1,14 +1,10 @@
 use Prim.Native.Nat.{_≤_}
 use native.Mathlib.Omega.{arith}
-use Rattle.table.proofs.CheckLaws.{long, Sized, sized}
 use Rattle.table.proofs.SpliceLaws.{bytes-most}
 use Rattle.table.proofs.WriteLaws.{group-bytes}
 use borrow.Author.Needs.{needs}
 use Rattle.table.proofs.write.group_length.Statement.{statement}
 use Rattle.table.proofs.write.group_length.Tie as tie
-
-sizes : (c : tie.Start) → Sized (c .args .group)
-sizes c = sized (search (needs, long)) (search (needs, long)) (c .pre)
 
 cast-number-length : tie.Need-cast-number-length
 cast-number-length c = search needs
@@ -46,7 +42,7 @@ returns : tie.Need-returns
 returns c =
     let n = c .before .before in
     let s = n .before .before .before .before .before .before in
-    (rw (group-bytes (s .args .group) (sizes s)) (omega (arith, n .before .before .number-length .ensures .1, n .number-length2 .ensures .1, c .before .pairs-length .ensures .0, c .pairs-length2 .ensures .0)), omega (arith, five n .0, five n .1, c .before .pairs-length .ensures .1, c .pairs-length2 .ensures .1))
+    (rw (group-bytes (s .args .loads .now) (s .args .stores .now) (s .args .group)) (omega (arith, n .before .before .number-length .ensures .1, n .number-length2 .ensures .1, c .before .pairs-length .ensures .0, c .pairs-length2 .ensures .0)), omega (arith, five n .0, five n .1, c .before .pairs-length .ensures .1, c .pairs-length2 .ensures .1))
 
 pub group-length-spec : {M : Type 1} → statement M
 group-length-spec =

@@ -1,27 +1,27 @@
 use Prim.Native.Nat.{_≤_, _+_, _*_, _-_}
-use mathlib.Core.Path.{_≡_}
+use mathlib.Core.Path.{_≡_, sym, _∙_}
 use native.Mathlib.Omega.{arith}
 use lib.ListN.{length, getD}
 use borrow.Author.Needs.{needs}
 use Rattle.table.specs.Group.{listOf, blankPair}
 use Rattle.table.specs.TableBytes.{pairNumbers}
-use Rattle.table.proofs.CheckLaws.{long, view-length, view-at}
+use Rattle.table.proofs.CheckLaws.{view-length, view-at}
 use Rattle.table.proofs.SpliceLaws.{bytes-most}
 use Rattle.table.proofs.WriteLaws.{Tallied, tallied-none, tallied-more, tallied-end, pair-length}
 use Rattle.table.proofs.write.pairs_length.Statement.{statement}
 use Rattle.table.proofs.write.pairs_length.Tie as tie
 
 abbrev Inv-loop : tie.InvT-loop
-Inv-loop pairs first count total₀ i₀ total i = (i ≤ count) × (total ≤ 10 * i) × Tallied pairNumbers (listOf pairs) i total
+Inv-loop places first count total₀ i₀ total i = (i ≤ count) × (total ≤ 10 * i) × Tallied pairNumbers (listOf places (record { first = first; count = count })) i total
 
 abbrev μ-loop : tie.MeasureT-loop
-μ-loop pairs first count total₀ i₀ total i = count - i
+μ-loop places first count total₀ i₀ total i = count - i
 
-whole : (c : tie.Start Inv-loop μ-loop) → length (c .args .t1 .places) ≡ 32
-whole c = search (needs, long)
+abbrev start : tie.At-loop Inv-loop μ-loop → tie.Start Inv-loop μ-loop
+start c = c .before .before .before
 
-size : (c : tie.Start Inv-loop μ-loop) → length (listOf (c .args .t1)) ≡ c .args .t1 .count
-size c = view-length (c .args .t1) (whole c) (c .pre)
+size : (c : tie.At-loop Inv-loop μ-loop) → length (listOf (start c .args .places .now) (start c .args .pairs)) ≡ start c .args .pairs .count
+size c = view-length (start c .args .places .now) (start c .args .pairs)
 
 cast-first : tie.Need-cast-first Inv-loop μ-loop
 cast-first c = search needs
@@ -32,14 +32,17 @@ cast-count c = search needs
 loop-holds : tie.Need-loop-holds Inv-loop μ-loop
 loop-holds c = (search needs, search needs, tallied-none)
 
-add-pair : tie.Need-add-pair Inv-loop μ-loop
-add-pair c = omega (arith, c .before .before .pre)
+add-unpack-pair : tie.Need-add-unpack-pair Inv-loop μ-loop
+add-unpack-pair c = omega (arith, start (c .before) .pre)
 
-mul-pair : tie.Need-mul-pair Inv-loop μ-loop
-mul-pair c = omega (arith, c .before .before .pre)
+mul-unpack-pair : tie.Need-mul-unpack-pair Inv-loop μ-loop
+mul-unpack-pair c = omega (arith, start (c .before) .pre)
 
-element-copy-out-pair : tie.Need-element-copy-out-pair Inv-loop μ-loop
-element-copy-out-pair c = omega (arith, c .before .before .pre)
+element-copy-out-unpack-pair : tie.Need-element-copy-out-unpack-pair Inv-loop μ-loop
+element-copy-out-unpack-pair c = omega (arith, start (c .before) .pre)
+
+unpack-pair-requires : tie.Need-unpack-pair-requires Inv-loop μ-loop
+unpack-pair-requires c κs = search needs
 
 cast-number-length : tie.Need-cast-number-length Inv-loop μ-loop
 cast-number-length c = search needs
@@ -57,33 +60,37 @@ number-length-requires-2 c κs = search needs
 five : (c : tie.After-number-length2 Inv-loop μ-loop) → (c .before .before .number-length .result ≤ 5) × (c .number-length2 .result ≤ 5)
 five c =
     let n = c .before .before in
-    let t = n .before .before .before .before .before .args .t1 in
-    let p = getD (t .places) (t .first + n .before .before .before .before .loop .i) blankPair in
+    let p = n .before .before .unpack-pair .result in
     (omega (arith, n .number-length .ensures .1, bytes-most (p .offset)), omega (arith, c .number-length2 .ensures .1, bytes-most (p .port)))
 
 add-total : tie.Need-add-total Inv-loop μ-loop
 add-total c = omega (arith, five c .0, five c .1)
 
 add-total-2 : tie.Need-add-total-2 Inv-loop μ-loop
-add-total-2 c = omega (arith, five c .0, five c .1)
+add-total-2 c =
+    let l = c .before .before .before .before .before .before in
+    omega (arith, five c .0, five c .1, l .before .loop .inv .1, l .loop-test .taken, start (l .before) .pre)
 
 add-i : tie.Need-add-i Inv-loop μ-loop
-add-i c = omega arith
+add-i c =
+    let l = c .before .before .before .before .before .before in
+    omega (arith, l .loop-test .taken, start (l .before) .pre)
 
 loop-less : tie.Need-loop-less Inv-loop μ-loop
-loop-less c = omega arith
+loop-less c = omega (arith, c .before .before .before .before .before .before .loop-test .taken)
 
 loop-again : tie.Need-loop-again Inv-loop μ-loop
 loop-again c =
     let n = c .before .before in
-    let l = n .before .before .before in
-    let s = l .before .before in
-    let p = getD (s .args .t1 .places) (s .args .t1 .first + l .before .loop .i) blankPair in
-    let e : getD (listOf (s .args .t1)) (l .before .loop .i) blankPair ≡ p = view-at (s .args .t1) (whole s) (s .pre) (l .before .loop .i) (l .loop-test .taken) in
-    (omega arith, omega (arith, five c .0, five c .1), tallied-more (l .before .loop .inv .2) blankPair (omega (arith, size s, l .loop-test .taken)) (rw (e, pair-length p, ← n .number-length .ensures .1, ← c .number-length2 .ensures .1)))
+    let u = n .before .before in
+    let l = u .before .before in
+    let s = start (l .before) in
+    let p = u .unpack-pair .result in
+    let e : getD (listOf (s .args .places .now) (s .args .pairs)) (l .before .loop .i) blankPair ≡ p = view-at (s .args .places .now) (s .args .pairs) (l .before .loop .i) (l .loop-test .taken) ∙ sym (u .unpack-pair .ensures) in
+    (omega (arith, l .loop-test .taken), omega (arith, five c .0, five c .1, l .before .loop .inv .1), tallied-more (l .before .loop .inv .2) blankPair (omega (arith, size (l .before), l .loop-test .taken)) (rw (e, pair-length p, ← n .number-length .ensures .1, ← c .number-length2 .ensures .1)))
 
 returns : tie.Need-returns Inv-loop μ-loop
-returns c = (tallied-end (c .before .loop .inv .2) (omega (arith, size (c .before .before))), omega (arith, c .before .before .pre))
+returns c = (tallied-end (c .before .loop .inv .2) (omega (arith, size (c .before), c .loop-test .left)), omega (arith, start (c .before) .pre, c .before .loop .inv .0, c .before .loop .inv .1))
 
 pub pairs-length-spec : {M : Type 1} → statement M
 pairs-length-spec =
@@ -94,9 +101,10 @@ pairs-length-spec =
     cast-first
     cast-count
     loop-holds
-    add-pair
-    mul-pair
-    element-copy-out-pair
+    add-unpack-pair
+    mul-unpack-pair
+    element-copy-out-unpack-pair
+    unpack-pair-requires
     cast-number-length
     number-length-requires
     cast-number-length-2

@@ -7,19 +7,15 @@ use Rattle.table.specs.Basics.{flat}
 use Rattle.table.specs.Number.{bytesOf, numberBytes}
 use Rattle.table.specs.Group.{listOf}
 use Rattle.table.specs.TableBytes.{pairNumbers}
-use Rattle.table.proofs.CheckLaws.{long, Sized, sized}
 use Rattle.table.proofs.SpliceLaws.{Put, put-none, put-two}
 use Rattle.table.proofs.WriteLaws.{group-bytes, put-group}
 use borrow.Author.Needs.{needs}
 use Rattle.table.proofs.write.put_group.Statement.{statement}
 use Rattle.table.proofs.write.put_group.Tie as tie
 
-sizes : (c : tie.Start) → Sized (c .args .group)
-sizes c = sized (search (needs, long)) (search (needs, long)) (c .pre .0)
-
 -- the bytes of the group, part by part, and that there is room for them
-room : (c : tie.Start) → c .args .at + (length (numberBytes (c .args .group .loads .count)) + length (numberBytes (c .args .group .stores .count)) + length (bytesOf (flat pairNumbers (listOf (c .args .group .loads)))) + length (bytesOf (flat pairNumbers (listOf (c .args .group .stores))))) ≤ length (c .args .out .now)
-room c = omega (arith, group-bytes (c .args .group) (sizes c), c .pre .1)
+room : (c : tie.Start) → c .args .at + (length (numberBytes (c .args .group .loads .count)) + length (numberBytes (c .args .group .stores .count)) + length (bytesOf (flat pairNumbers (listOf (c .args .loads .now) (c .args .group .loads)))) + length (bytesOf (flat pairNumbers (listOf (c .args .stores .now) (c .args .group .stores))))) ≤ length (c .args .out .now)
+room c = omega (arith, group-bytes (c .args .loads .now) (c .args .stores .now) (c .args .group), c .pre .1)
 
 cast-put-number : tie.Need-cast-put-number
 cast-put-number c = search needs
@@ -54,10 +50,10 @@ put-pairs-requires c κs =
     let s = n .before .before .before .before .before .before .before .before .before .before .before in
     (s .pre .0 .0, omega (arith, room s, counts-end n .0, counts-end n .1))
 
-loads-end : (c : tie.After-put-pairs) → (c .put-pairs .result ≡ c .before .before .before .before .before .before .before .before .before .before .before .before .before .before .before .args .at + length (numberBytes (c .before .before .before .before .before .before .before .before .before .before .before .before .before .before .before .args .group .loads .count)) + length (numberBytes (c .before .before .before .before .before .before .before .before .before .before .before .before .before .before .before .args .group .stores .count)) + length (bytesOf (flat pairNumbers (listOf (c .before .before .before .before .before .before .before .before .before .before .before .before .before .before .before .args .group .loads))))) × (length (c .put-pairs .last .1 .0) ≡ length (c .before .before .before .before .before .before .before .before .before .before .before .before .before .before .before .args .out .now))
+loads-end : (c : tie.After-put-pairs) → (c .put-pairs .result ≡ c .before .before .before .before .before .before .before .before .before .before .before .before .before .before .before .args .at + length (numberBytes (c .before .before .before .before .before .before .before .before .before .before .before .before .before .before .before .args .group .loads .count)) + length (numberBytes (c .before .before .before .before .before .before .before .before .before .before .before .before .before .before .before .args .group .stores .count)) + length (bytesOf (flat pairNumbers (listOf (c .before .before .before .before .before .before .before .before .before .before .before .before .before .before .before .args .loads .now) (c .before .before .before .before .before .before .before .before .before .before .before .before .before .before .before .args .group .loads))))) × (length (c .put-pairs .last .1 .1 .0) ≡ length (c .before .before .before .before .before .before .before .before .before .before .before .before .before .before .before .args .out .now))
 loads-end c =
     let n = c .before .before .before .before in
-    (omega (arith, counts-end n .0, c .put-pairs .ensures .0), omega (arith, counts-end n .1, c .put-pairs .kept .1 .0))
+    (omega (arith, counts-end n .0, c .put-pairs .ensures .0), omega (arith, counts-end n .1, c .put-pairs .kept .1 .1 .0))
 
 put-pairs-requires-2 : tie.Need-put-pairs-requires-2
 put-pairs-requires-2 c κs =
@@ -68,7 +64,7 @@ put-pairs-requires-2 c κs =
 same-length : tie.Need-same-length
 same-length c =
     let m = c .before .before in
-    omega (arith, loads-end (m .before .before .before .before) .1, m .put-pairs2 .kept .1 .0)
+    omega (arith, loads-end (m .before .before .before .before) .1, m .put-pairs2 .kept .1 .1 .0)
 
 returns : tie.Need-returns
 returns c =
@@ -76,7 +72,7 @@ returns c =
     let l = m .before .before .before .before in
     let n = l .before .before .before .before in
     let s = n .before .before .before .before .before .before .before .before .before .before .before in
-    let w = put-group (s .args .group) (sizes s) (counts-put n) (s .pre .1) (l .put-pairs .ensures .1) (l .put-pairs .ensures .0) (m .put-pairs2 .ensures .1) (m .put-pairs2 .ensures .0) in
+    let w = put-group (s .args .loads .now) (s .args .stores .now) (s .args .group) (counts-put n) (s .pre .1) (l .put-pairs .ensures .1) (l .put-pairs .ensures .0) (m .put-pairs2 .ensures .1) (m .put-pairs2 .ensures .0) in
     (w .ends, w .is)
 
 pub put-group-spec : {M : Type 1} → statement M

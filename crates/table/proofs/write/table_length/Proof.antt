@@ -3,28 +3,25 @@ use mathlib.Core.Path.{_≡_}
 use native.Mathlib.Omega.{arith}
 use lib.ListN.{length}
 use borrow.Author.Needs.{needs}
+use Rattle.table.specs.declared.Table.{Table}
 use Rattle.table.specs.Group.{pairsOf}
-use Rattle.table.specs.Table.{groupsOf}
+use Rattle.table.specs.Table.{groupsIn, groupsOf}
 use Rattle.table.specs.TableBytes.{groupNumbers}
-use Rattle.table.proofs.CheckLaws.{long, groups-size, group-inside, group-at}
+use Rattle.table.proofs.CheckLaws.{groups-size, group-inside, group-at}
 use Rattle.table.proofs.SpliceLaws.{bytes-most}
 use Rattle.table.proofs.WriteLaws.{Tallied, tallied-none, tallied-more, tallied-end, table-bytes}
 use Rattle.table.proofs.write.table_length.Statement.{statement}
 use Rattle.table.proofs.write.table_length.Tie as tie
 
 abbrev Inv-loop : tie.InvT-loop
-Inv-loop table count total₀ i₀ total i = (i ≤ count) × (total ≤ 650 * i) × Tallied groupNumbers (groupsOf table) i total
+Inv-loop count groups loads stores many total₀ i₀ total i = (i ≤ count) × (total ≤ 650 * i) × Tallied groupNumbers (groupsIn count groups loads stores) i total
 
 abbrev μ-loop : tie.MeasureT-loop
-μ-loop table count total₀ i₀ total i = count - i
+μ-loop count groups loads stores many total₀ i₀ total i = count - i
 
-whole : (c : tie.Start Inv-loop μ-loop) → c .args .table .count ≤ length (c .args .table .groups)
-whole c =
-    let e : length (c .args .table .groups) ≡ 16 = search (needs, long) in
-    omega (arith, c .pre)
-
-cast-count : tie.Need-cast-count Inv-loop μ-loop
-cast-count c = search needs
+-- the record of these parts
+abbrev tableOf : tie.Start Inv-loop μ-loop → Table
+tableOf c = record { count = c .args .count; groups = c .args .groups .now; loads = c .args .loads .now; stores = c .args .stores .now }
 
 loop-holds : tie.Need-loop-holds Inv-loop μ-loop
 loop-holds c = (search needs, search needs, tallied-none)
@@ -36,39 +33,36 @@ group-length-requires : tie.Need-group-length-requires Inv-loop μ-loop
 group-length-requires c κs = group-inside _ _ (c .group-at .ensures)
 
 add-total : tie.Need-add-total Inv-loop μ-loop
-add-total c = omega (arith, c .group-length .ensures .1, c .before .before .before .before .before .pre)
+add-total c = omega (arith, c .group-length .ensures .1, c .before .before .before .before .pre, c .before .before .before .loop .inv .1, c .before .before .loop-test .taken)
 
 add-i : tie.Need-add-i Inv-loop μ-loop
-add-i c = omega (arith, c .before .before .before .before .before .pre)
+add-i c = omega (arith, c .before .before .before .before .pre, c .before .before .loop-test .taken)
 
 loop-less : tie.Need-loop-less Inv-loop μ-loop
-loop-less c = omega arith
+loop-less c = omega (arith, c .before .before .loop-test .taken)
 
 loop-again : tie.Need-loop-again Inv-loop μ-loop
 loop-again c =
     let k = c .before in
     let l = k .before in
-    let s = l .before .before .before in
-    let t = s .args .table in
+    let s = l .before .before in
+    let t = tableOf s in
     let i = l .before .loop .i in
-    let g = pairsOf (k .group-at .result) in
-    let e = group-at t (whole s) i (l .loop-test .taken) g (k .group-at .ensures) in
-    (omega arith, omega (arith, c .group-length .ensures .1), tallied-more (l .before .loop .inv .2) g (omega (arith, groups-size t, l .loop-test .taken)) (rw e (c .group-length .ensures .0)))
+    let g = pairsOf (t .loads) (t .stores) (k .group-at .result) in
+    let e = group-at t (s .pre) i (l .loop-test .taken) g (k .group-at .ensures) in
+    (omega (arith, l .loop-test .taken), omega (arith, c .group-length .ensures .1, l .before .loop .inv .1), tallied-more (l .before .loop .inv .2) g (omega (arith, groups-size t, l .loop-test .taken)) (rw e (c .group-length .ensures .0)))
 
 number-length-requires : tie.Need-number-length-requires Inv-loop μ-loop
 number-length-requires c κs = search needs
 
-cast-number-length : tie.Need-cast-number-length Inv-loop μ-loop
-cast-number-length c = search needs
-
 number-length-requires-2 : tie.Need-number-length-requires-2 Inv-loop μ-loop
 number-length-requires-2 c κs = search needs
 
-parts : (c : tie.After-number-length2 Inv-loop μ-loop) → (c .before .before .number-length .result ≤ 5) × (c .number-length2 .result ≤ 5) × (c .before .before .before .before .loop .total ≤ 10400)
+parts : (c : tie.After-number-length2 Inv-loop μ-loop) → (c .before .number-length .result ≤ 5) × (c .number-length2 .result ≤ 5) × (c .before .before .before .loop .total ≤ 10400)
 parts c =
-    let l = c .before .before .before .before in
-    let s = l .before .before in
-    (omega (arith, c .before .before .number-length .ensures .1, bytes-most 2), omega (arith, c .number-length2 .ensures .1, bytes-most (s .args .table .count)), omega (arith, s .pre, l .loop .inv .1, l .loop .inv .0))
+    let l = c .before .before .before in
+    let s = l .before in
+    (omega (arith, c .before .number-length .ensures .1, bytes-most 2), omega (arith, c .number-length2 .ensures .1, bytes-most (s .args .count)), omega (arith, s .pre, l .loop .inv .1, l .loop .inv .0))
 
 add-result : tie.Need-add-result Inv-loop μ-loop
 add-result c = omega (arith, parts c .0, parts c .1)
@@ -78,10 +72,10 @@ add-result-2 c = omega (arith, parts c .0, parts c .1, parts c .2)
 
 returns : tie.Need-returns Inv-loop μ-loop
 returns c =
-    let a = c .before .before .before in
-    let t = a .before .before .before .args .table in
-    let e = tallied-end (a .before .loop .inv .2) (omega (arith, groups-size t)) in
-    rw (table-bytes (groupsOf t), groups-size t) (omega (arith, e, c .before .before .number-length .ensures .1, c .number-length2 .ensures .1))
+    let a = c .before .before in
+    let t = tableOf (a .before .before) in
+    let e = tallied-end (a .before .loop .inv .2) (omega (arith, groups-size t, a .loop-test .left)) in
+    rw (table-bytes (groupsOf t), groups-size t) (omega (arith, e, c .before .number-length .ensures .1, c .number-length2 .ensures .1))
 
 pub table-length-spec : {M : Type 1} → statement M
 table-length-spec =
@@ -89,7 +83,6 @@ table-length-spec =
     (tie.spec
     Inv-loop
     μ-loop
-    cast-count
     loop-holds
     group-at-requires
     group-length-requires
@@ -98,7 +91,6 @@ table-length-spec =
     loop-less
     loop-again
     number-length-requires
-    cast-number-length
     number-length-requires-2
     add-result
     add-result-2

@@ -13,12 +13,12 @@ use borrow.Author.Needs.{needs}
 use Rattle.table.proofs.write.write_table.Statement.{statement}
 use Rattle.table.proofs.write.write_table.Tie as tie
 
-right : (c : tie.Else1) → tableFault (groupsOf (c .before .before .before .args .table)) ≡ 0
+right : (c : tie.Else1) → tableFault (groupsOf (c .before .before .before .args .t1)) ≡ 0
 right c = sym (c .before .table-fault .ensures) ∙ c .if1 .left
 
-few : (c : tie.Else1) → c .before .before .before .args .table .count ≤ 16
+few : (c : tie.Else1) → c .before .before .before .args .t1 .count ≤ 16
 few c =
-    let t = c .before .before .before .args .table in
+    let t = c .before .before .before .args .t1 in
     rw (groups-size t) at (table-groups-few (groupsOf t) (right c))
 
 table-fault-requires : tie.Need-table-fault-requires
@@ -29,22 +29,22 @@ unfolding wroteTable
 returns c =
     let t = c .before in
     let e = t .before .before .args in
-    rw (ne-eqb (tableFault (groupsOf (e .table))) 0 (λ z. c .if1 .taken (t .table-fault .ensures ∙ z)), t .table-fault .ensures) (refl, refl)
+    rw (ne-eqb (tableFault (groupsOf (e .t1))) 0 (λ z. c .if1 .taken (t .table-fault .ensures ∙ z)), t .table-fault .ensures) (refl, refl)
 
 table-length-requires : tie.Need-table-length-requires
-table-length-requires c κs = few c
+table-length-requires c κs = few (c .before .before .before .before)
 
 returns-2 : tie.Need-returns-2
 unfolding wroteTable
 returns-2 c =
-    let e = c .before .before in
+    let e = c .before .before .before .before .before .before in
     let a = e .before .before .before .args in
-    rw (eq-eqb (tableFault (groupsOf (a .table))) 0 (right e), wrote-short (tableBytes (groupsOf (a .table))) (a .out .now) (omega (arith, c .before .table-length .ensures))) (refl, refl)
+    rw (eq-eqb (tableFault (groupsOf (a .t1))) 0 (right e), wrote-short (tableBytes (groupsOf (a .t1))) (a .out .now) (omega (arith, c .before .table-length .ensures))) (refl, refl)
 
 put-table-requires : tie.Need-put-table-requires
 put-table-requires c κs =
-    let e = c .before .before .before in
-    (few e, omega (arith, c .before .before .table-length .ensures))
+    let l = c .before .before .before .before .before .before in
+    (few (l .before .before .before .before .before), omega (arith, l .table-length .ensures))
 
 same-length : tie.Need-same-length
 same-length c = search needs
@@ -53,10 +53,10 @@ returns-3 : tie.Need-returns-3
 unfolding wroteTable
 returns-3 c =
     let p = c .before .before in
-    let l = p .before .before .before in
-    let e = l .before in
+    let l = p .before .before .before .before .before .before .before in
+    let e = l .before .before .before .before .before in
     let a = e .before .before .before .args in
-    rw (eq-eqb (tableFault (groupsOf (a .table))) 0 (right e), wrote-fits (tableBytes (groupsOf (a .table))) (a .out .now) (omega (arith, l .table-length .ensures))) (ap Bytes (l .table-length .ensures), p .put-table .ensures)
+    rw (eq-eqb (tableFault (groupsOf (a .t1))) 0 (right e), wrote-fits (tableBytes (groupsOf (a .t1))) (a .out .now) (omega (arith, l .table-length .ensures))) (ap Bytes (l .table-length .ensures), p .put-table .ensures)
 
 pub write-table-spec : {M : Type 1} → statement M
 write-table-spec =

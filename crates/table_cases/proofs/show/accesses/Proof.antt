@@ -4,10 +4,10 @@ use Rattle.table_cases.proofs.show.accesses.Statement.{statement}
 use Rattle.table_cases.proofs.show.accesses.Tie as tie
 
 abbrev Inv-loop : tie.InvT-loop
-Inv-loop pairs i₀ t4 t5 i = i ≤ pairs .count
+Inv-loop places pairs i₀ t5 t6 i = i ≤ pairs .count
 
 abbrev μ-loop : tie.MeasureT-loop
-μ-loop pairs i₀ t4 t5 i = pairs .count - i
+μ-loop places pairs i₀ t5 t6 i = pairs .count - i
 
 loop-holds : tie.Need-loop-holds Inv-loop μ-loop
 loop-holds c = search needs

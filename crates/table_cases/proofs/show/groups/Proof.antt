@@ -21,11 +21,8 @@ number-requires c κs = search needs
 loop-holds : tie.Need-loop-holds Inv-loop μ-loop
 loop-holds c = search needs
 
-cast-group-at : tie.Need-cast-group-at Inv-loop μ-loop
-cast-group-at c = search needs
-
-group-at-requires : tie.Need-group-at-requires Inv-loop μ-loop
-group-at-requires c κs = search needs
+cast-one-group : tie.Need-cast-one-group Inv-loop μ-loop
+cast-one-group c = search needs
 
 one-group-requires : tie.Need-one-group-requires Inv-loop μ-loop
 one-group-requires c κs = search needs
@@ -52,8 +49,7 @@ groups-spec =
     cast-number
     number-requires
     loop-holds
-    cast-group-at
-    group-at-requires
+    cast-one-group
     one-group-requires
     add-i
     loop-less

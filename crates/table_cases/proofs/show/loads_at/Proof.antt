@@ -4,10 +4,10 @@ use Rattle.table_cases.proofs.show.loads_at.Statement.{statement}
 use Rattle.table_cases.proofs.show.loads_at.Tie as tie
 
 abbrev Inv-loop : tie.InvT-loop
-Inv-loop loads offset i₀ t5 i = i ≤ loads .count
+Inv-loop places loads offset i₀ t6 i = i ≤ loads .count
 
 abbrev μ-loop : tie.MeasureT-loop
-μ-loop loads offset i₀ t5 i = loads .count - i
+μ-loop places loads offset i₀ t6 i = loads .count - i
 
 loop-holds : tie.Need-loop-holds Inv-loop μ-loop
 loop-holds c = search needs

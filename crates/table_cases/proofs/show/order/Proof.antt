@@ -4,10 +4,13 @@ use Rattle.table_cases.proofs.show.order.Statement.{statement}
 use Rattle.table_cases.proofs.show.order.Tie as tie
 
 abbrev Inv-loop : tie.InvT-loop
-Inv-loop loads stores j₀ t6 j = j ≤ 16
+Inv-loop table loads stores j₀ t8 j = j ≤ 16
 
 abbrev μ-loop : tie.MeasureT-loop
-μ-loop loads stores j₀ t6 j = 16 - j
+μ-loop table loads stores j₀ t8 j = 16 - j
+
+group-at-requires : tie.Need-group-at-requires Inv-loop μ-loop
+group-at-requires c κs = search needs
 
 loop-holds : tie.Need-loop-holds Inv-loop μ-loop
 loop-holds c = search needs
@@ -48,6 +51,7 @@ order-spec =
     (tie.spec
     Inv-loop
     μ-loop
+    group-at-requires
     loop-holds
     loads-at-requires
     access-requires

@@ -121,23 +121,15 @@ uint64_t lsq_text(const uint8_t *table, size_t table_len,
 
 /* ---- Tables, and the bytes of tables, numbers and events ---- */
 
-/* Where a group's accesses stand in a table: the first load's place and how
- * many loads, the first store's place and how many stores. */
-typedef struct lsq_span {
-    uint8_t first_load, loads, first_store, stores;
-} lsq_span;
-
-/* An access of a group: how many accesses of the other kind come before it in
- * the group, and its port. */
-typedef struct lsq_pair {
-    uint8_t offset, port;
-} lsq_pair;
-
-/* A group table. Places beyond the count, or that no group has, mean nothing. */
+/* A group table. A group's number says where its accesses stand: the first
+ * load's place + 256 * how many loads + 65536 * the first store's place +
+ * 16777216 * how many stores. An access's number is offset + 256 * port: how
+ * many accesses of the other kind come before it in the group, and its port.
+ * Places beyond the count, or that no group has, mean nothing. */
 typedef struct lsq_table {
     uint8_t count;
-    lsq_span groups[16];
-    lsq_pair loads[32], stores[32];
+    uint32_t groups[16];
+    uint16_t loads[32], stores[32];
 } lsq_table;
 
 /* What reading a table answers: 0, or 1 to 9 and the table of no groups, which
@@ -436,17 +428,34 @@ static inline const uint8_t *lsq_get(const uint8_t *at, uint64_t *number, int by
     return at;
 }
 
-/* Every field of a table is a byte, and none lies between them. */
 static inline uint8_t *lsq_put_table(uint8_t *at, const lsq_table *table)
 {
-    memcpy(at, table, sizeof *table);
-    return at + sizeof *table;
+    at = lsq_put(at, table->count, 1);
+    for (int i = 0; i < 16; i++)
+        at = lsq_put(at, table->groups[i], 4);
+    for (int i = 0; i < 32; i++)
+        at = lsq_put(at, table->loads[i], 2);
+    for (int i = 0; i < 32; i++)
+        at = lsq_put(at, table->stores[i], 2);
+    return at;
+}
+
+static inline const uint8_t *lsq_get_pairs(const uint8_t *at, uint16_t *pairs)
+{
+    for (int i = 0; i < 32; i++, at += 2)
+        pairs[i] = (uint16_t)(at[0] | at[1] << 8);
+    return at;
 }
 
 static inline const uint8_t *lsq_get_table(const uint8_t *at, lsq_table *table)
 {
-    memcpy(table, at, sizeof *table);
-    return at + sizeof *table;
+    uint64_t group;
+    table->count = *at++;
+    for (int i = 0; i < 16; i++) {
+        at = lsq_get(at, &group, 4);
+        table->groups[i] = (uint32_t)group;
+    }
+    return lsq_get_pairs(lsq_get_pairs(at, table->loads), table->stores);
 }
 
 static inline uint8_t *lsq_put_side(uint8_t *at, const lsq_side *side)
@@ -492,19 +501,19 @@ static inline void lsq_restore(lsq_queue *q, const uint8_t *in)
 /* ---- The layout that the library was compiled for ---- */
 
 LSQ_HOLDS(sizeof(size_t) == 8);
-LSQ_HOLDS(sizeof(lsq_table) == 193);
-LSQ_HOLDS(offsetof(lsq_table, groups) == 1);
-LSQ_HOLDS(offsetof(lsq_table, loads) == 65);
-LSQ_HOLDS(offsetof(lsq_table, stores) == 129);
+LSQ_HOLDS(sizeof(lsq_table) == 196);
+LSQ_HOLDS(offsetof(lsq_table, groups) == 4);
+LSQ_HOLDS(offsetof(lsq_table, loads) == 68);
+LSQ_HOLDS(offsetof(lsq_table, stores) == 132);
 LSQ_HOLDS(sizeof(lsq_table_read) == 200);
 LSQ_HOLDS(sizeof(lsq_side) == 8);
 LSQ_HOLDS(offsetof(lsq_side, next) == 4);
-LSQ_HOLDS(sizeof(lsq_frame) == 212);
-LSQ_HOLDS(offsetof(lsq_frame, words) == 194);
-LSQ_HOLDS(offsetof(lsq_frame, loads) == 196);
-LSQ_HOLDS(offsetof(lsq_frame, stores) == 204);
+LSQ_HOLDS(sizeof(lsq_frame) == 216);
+LSQ_HOLDS(offsetof(lsq_frame, words) == 196);
+LSQ_HOLDS(offsetof(lsq_frame, loads) == 200);
+LSQ_HOLDS(offsetof(lsq_frame, stores) == 208);
 LSQ_HOLDS(sizeof(lsq_counts) == 8);
-LSQ_HOLDS(sizeof(lsq_opened) == 216);
+LSQ_HOLDS(sizeof(lsq_opened) == 220);
 LSQ_HOLDS(sizeof(lsq_step) == 28);
 LSQ_HOLDS(sizeof(lsq_service) == 20);
 LSQ_HOLDS(sizeof(lsq_listed) == 16);

@@ -12,7 +12,6 @@ pub const PLACES: usize = 32;
 pub const ENTRIES: usize = 64;
 
 /// Where a group's accesses stand in a table.
-#[repr(C)]
 #[derive(Clone, Copy, Debug, Default, PartialEq, Eq)]
 pub struct Span {
     /// The first load's place.
@@ -26,7 +25,6 @@ pub struct Span {
 }
 
 /// An access of a group.
-#[repr(C)]
 #[derive(Clone, Copy, Debug, Default, PartialEq, Eq)]
 pub struct Pair {
     /// How many accesses of the other kind come before it in the group.
@@ -41,9 +39,9 @@ pub struct Pair {
 #[derive(Clone, Copy, Debug, Default, PartialEq, Eq)]
 pub struct Table {
     count: u8,
-    groups: [Span; GROUPS],
-    loads: [Pair; PLACES],
-    stores: [Pair; PLACES],
+    groups: [u32; GROUPS],
+    loads: [u16; PLACES],
+    stores: [u16; PLACES],
 }
 
 /// What a table's record holds. Places beyond the count, or that no group has,
@@ -66,9 +64,9 @@ impl Table {
     pub fn new(parts: TableParts) -> Self {
         Self {
             count: parts.count,
-            groups: parts.groups,
-            loads: parts.loads,
-            stores: parts.stores,
+            groups: parts.groups.map(Span::number),
+            loads: parts.loads.map(Pair::number),
+            stores: parts.stores.map(Pair::number),
         }
     }
 
@@ -77,10 +75,37 @@ impl Table {
     pub fn parts(&self) -> TableParts {
         TableParts {
             count: self.count,
-            groups: self.groups,
-            loads: self.loads,
-            stores: self.stores,
+            groups: self.groups.map(Span::of),
+            loads: self.loads.map(Pair::of),
+            stores: self.stores.map(Pair::of),
         }
+    }
+}
+
+impl Span {
+    fn number(self) -> u32 {
+        u32::from_le_bytes([self.first_load, self.loads, self.first_store, self.stores])
+    }
+
+    fn of(number: u32) -> Self {
+        let [first_load, loads, first_store, stores] = number.to_le_bytes();
+        Self {
+            first_load,
+            loads,
+            first_store,
+            stores,
+        }
+    }
+}
+
+impl Pair {
+    fn number(self) -> u16 {
+        u16::from_le_bytes([self.offset, self.port])
+    }
+
+    fn of(number: u16) -> Self {
+        let [offset, port] = number.to_le_bytes();
+        Self { offset, port }
     }
 }
 
@@ -197,19 +222,19 @@ pub struct TableRead {
 // The layout that the library was compiled for; `lsq.h` has the same numbers.
 const _: () = {
     assert!(size_of::<usize>() == 8);
-    assert!(size_of::<Table>() == 193);
-    assert!(offset_of!(Table, groups) == 1);
-    assert!(offset_of!(Table, loads) == 65);
-    assert!(offset_of!(Table, stores) == 129);
+    assert!(size_of::<Table>() == 196);
+    assert!(offset_of!(Table, groups) == 4);
+    assert!(offset_of!(Table, loads) == 68);
+    assert!(offset_of!(Table, stores) == 132);
     assert!(size_of::<TableRead>() == 200);
     assert!(size_of::<Side>() == 8);
     assert!(offset_of!(Side, next) == 4);
-    assert!(size_of::<Frame>() == 212);
-    assert!(offset_of!(Frame, words) == 194);
-    assert!(offset_of!(Frame, loads) == 196);
-    assert!(offset_of!(Frame, stores) == 204);
+    assert!(size_of::<Frame>() == 216);
+    assert!(offset_of!(Frame, words) == 196);
+    assert!(offset_of!(Frame, loads) == 200);
+    assert!(offset_of!(Frame, stores) == 208);
     assert!(size_of::<Counts>() == 8);
-    assert!(size_of::<Opened>() == 216);
+    assert!(size_of::<Opened>() == 220);
     assert!(size_of::<Step>() == 28);
     assert!(size_of::<Service>() == 20);
     assert!(size_of::<Listed>() == 16);

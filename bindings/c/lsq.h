@@ -222,7 +222,9 @@ typedef struct lsq_listed {
  * (bit 5), whether it has its word, which is a load's value or a store's data
  * (bit 6), whether a load was taken or a store written (bit 7), how many queued
  * entries of the other kind come before it (bits 8 to 15), its address (bits 16
- * to 31) and its word (the rest). Numbers beyond a side's count mean nothing.
+ * to 31) and its word (the rest). Numbers beyond a side's count mean nothing,
+ * nor do the bits of an address or a word that an entry has not: an accepted
+ * call may leave anything there.
  *
  * The parts may come from anywhere. Each call first answers 40 (LSQ_UNSOUND)
  * where a run has another length than LSQ_ENTRIES, a depth or the memory length
@@ -290,20 +292,23 @@ lsq_listed lsq_ready_stores_in(lsq_frame frame, const uint64_t *loads, size_t lo
 
 /* A queue in one piece. It is plain data with no pointer inside: it may be
  * copied, saved, and sent to another host, as it stands where that host has the
- * same layout (the assertions at the end of this file), or else by lsq_save.
+ * same layout (the assertions at the end of this file) and the same order of
+ * bytes, or else by lsq_save.
  * As it stands it has bytes between its fields that mean nothing and may hold
  * anything. The memory is the caller's, and no part of it.
  *
  * Whatever a queue holds when it comes back, the calls test it (40) and go by
  * what it holds. That each port gets the values of one access after another is
- * promised of queues that an opening and the calls led to, on one memory. */
+ * proved of every list of calls on a queue's parts that begins with an accepted
+ * opening, on one memory (frames-demand3 of the crate queue); the library's
+ * functions below state the same calls as numbers. */
 typedef struct lsq_queue {
     lsq_frame frame;
     uint64_t loads[LSQ_ENTRIES], stores[LSQ_ENTRIES];
 } lsq_queue;
 
-/* Each of these answers 0 or the refusal number of the call that it stands on.
- * A refusal leaves *q, *value, *counts, *count, memory and out as they were.
+/* Each of these but lsq_sound answers 0 or the refusal number of the call that
+ * it stands on. A refusal leaves *q, *value, *counts, *count, memory and out as they were.
  * Besides what every call is owed, q points to an lsq_queue, and nothing else
  * that is handed over lies inside it. */
 

@@ -7,8 +7,9 @@ use crate::record::{Counts, Frame, Listed, Opened, Service, Step, Table, TableRe
 use crate::Lent;
 
 // A slice's pointer and length are what each function asks for: the pointer is
-// never null, and no slice that is written overlaps another. That is the whole
-// reason why the blocks below are sound.
+// never null, and no slice that is written overlaps another. A struct that goes
+// by value has the library's layout (the assertions of `record`). That is the
+// whole reason why the blocks below are sound.
 
 /// 0 where the bytes spell a right table, else 1 to 9.
 #[must_use]

@@ -34,7 +34,7 @@ pub struct Pair {
 }
 
 /// A group table as the library holds it. What it holds is shown by
-/// [`Table::parts`]; nothing else in this crate knows the layout.
+/// [`Table::parts`]; nothing else in this crate knows how it is packed.
 #[repr(C)]
 #[derive(Clone, Copy, Debug, Default, PartialEq, Eq)]
 pub struct Table {

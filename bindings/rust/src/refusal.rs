@@ -59,6 +59,7 @@ refusals! {
     NONE_UNTAKEN = 33, "no untaken load of the port is queued";
     NOT_SERVED = 34, "the port's oldest untaken load is unserved";
     KIND = 35, "an event's kind is above 6";
+    FILE_TOO_LONG = 36, "a file has more than 16384 bytes";
     UNSOUND = 40, "no right queue";
 }
 

@@ -11,6 +11,7 @@ use Rattle.queue.specs.NoQueue.{noFrame}
 use Rattle.queue.specs.Open.{openQueue}
 use Rattle.queue.specs.Parts.{OpensFrame}
 use Rattle.queue.specs.declared.Queue.{Queue}
+use Rattle.queue.specs.declared.Frame.{Frame}
 use Rattle.queue.specs.declared.Counts.{Counts}
 use Rattle.queue.specs.declared.Outcome.{Outcome}
 use Rattle.queue.specs.declared.Counted.{Counted}
@@ -55,7 +56,7 @@ no-table-opens : (a b c d : ℕ) → openQueue (groupsOf (pack [])) a b c d ≡ 
 unfolding openQueue tableFault
 no-table-opens a b c d = refl
 
-pub no-table-no-frame : (a b c d : ℕ) (o : OpenedFrame) (t : Table) → t ≡ pack [] → OpensFrame noFrame (openQueue (groupsOf t) a b c d) o → o .frame ≡ noFrame
-no-table-no-frame a b c d o t e w =
+pub no-table-no-frame : (fresh : Frame) (a b c d : ℕ) (o : OpenedFrame) (t : Table) → t ≡ pack [] → OpensFrame fresh (openQueue (groupsOf t) a b c d) o → o .frame ≡ noFrame
+no-table-no-frame fresh a b c d o t e w =
     let is : openQueue (groupsOf t) a b c d ≡ refuse badGroupCount = ap (λ (x : Table). openQueue (groupsOf x) a b c d) e ∙ no-table-opens a b c d in
     ap (λ (x : OpenedFrame). x .frame) (rw is at w)

@@ -1,9 +1,11 @@
 -- What live calls hand to C and Rust. Each rule is the queue's own, on the parts that are lent (`onParts`).
 use Prim.Native.Nat.{ℕ}
 use mathlib.Core.Path.{_≡_}
-use mathlib.Core.List.{List}
+use mathlib.Core.List.{List, []}
 use mathlib.Core.Option.{Option, none, some}
+use Rattle.table.specs.declared.Table.{Table}
 use Rattle.table.specs.Group.{GroupPairs}
+use Rattle.table.specs.TableBytes.{pack}
 use Rattle.queue.specs.declared.Queue.{Queue}
 use Rattle.queue.specs.declared.Frame.{Frame}
 use Rattle.queue.specs.declared.Counts.{Counts}
@@ -20,7 +22,7 @@ use Rattle.queue.specs.Serve.{Served}
 use Rattle.queue.specs.Write.{Written}
 use Rattle.queue.specs.Take.{Taken}
 use Rattle.queue.specs.Records.{valueIn}
-use Rattle.queue.specs.NoQueue.{noFrame}
+use Rattle.queue.specs.NoQueue.{freshFrame}
 use Rattle.queue.specs.Parts.{queueOf, OpensFrame}
 use Rattle.replay.specs.Playing.{givenIn, wordIn}
 use Rattle.exports.specs.declared.live.LiveOpened.{LiveOpened}
@@ -33,8 +35,14 @@ use Rattle.exports.specs.Prepared.{tableIn}
 abbrev pub openBytes : List ℕ → ℕ → ℕ → ℕ → ℕ → Ruled Contents
 openBytes table loadDepth storeDepth first words = andThen (tableIn table) λ gs. openQueue gs loadDepth storeDepth first words
 
-abbrev pub LiveOpens : Ruled Contents → LiveOpened → Type 0
-LiveOpens rule r = OpensFrame noFrame rule (record { answer = r .answer; frame = r .frame })
+-- the record of the table that the bytes hold; of bytes that are refused, the table of no groups
+abbrev pub packedIn : Ruled (List GroupPairs) → Table
+packedIn (refuse n) = pack []
+packedIn (accept gs) = pack gs
+
+abbrev pub LiveOpens : List ℕ → ℕ → ℕ → ℕ → ℕ → LiveOpened → Type 0
+LiveOpens table loadDepth storeDepth first words r =
+    OpensFrame (freshFrame (packedIn (tableIn table)) loadDepth storeDepth first words) (openBytes table loadDepth storeDepth first words) (record { answer = r .answer; frame = r .frame })
 
 -- What a live call tells: its answer, 1 or 0 as it gave a value or none, the value or 0, and the queue that its parts are left as.
 pub record Told : Type 0 where

@@ -3,14 +3,13 @@ ghost use mathlib.Core.Path.{_≡_};
 ghost use Rattle.table.specs.Number.{numberBytes, wrote};
 ghost use Rattle.table.specs.Table.{groupsOf};
 ghost use Rattle.table.specs.TableBytes.{readTable, tableAnswer, wroteTable};
-ghost use Rattle.exports.specs.Bytes.{bytesWritten, wroteEvent, tableFound};
+ghost use Rattle.table.specs.Event.{wroteEventOf};
+ghost use Rattle.exports.specs.Bytes.{bytesWritten, tableFound};
 use table::Table;
 use table::Written;
 use table::number::write_number;
 use table::read::read_table;
-use table::refusal::BAD_KIND;
-use table::trace::event_of;
-use table::trace::write_event;
+use table::trace::write_event_of;
 use table::write::write_table;
 
 // What writing hands back: 0 and how many bytes were written, or the refusal and 0.
@@ -73,13 +72,9 @@ pub extern "C" fn lsq_write_event(
     second: u32,
     out: &mut [u8],
 ) -> BytesWritten
-    ensures { λ r. ⌜ (r ≡ bytesWritten (wroteEvent kind first second (now (out .entry)) .answer)) × (now (out .exit) ≡ wroteEvent kind first second (now (out .entry)) .buffer) ⌝ }
+    ensures { λ r. ⌜ (r ≡ bytesWritten (wroteEventOf kind first second (now (out .entry)) .answer)) × (now (out .exit) ≡ wroteEventOf kind first second (now (out .entry)) .buffer) ⌝ }
 {
-    if 6 < kind {
-        return bytes_written(Written::Unwritten(BAD_KIND));
-    }
-    let event = event_of(kind, first, second);
-    let written = write_event(event, out);
+    let written = write_event_of(kind, first, second, out);
     bytes_written(written)
 }
 

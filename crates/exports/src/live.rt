@@ -17,7 +17,7 @@ ghost use Rattle.queue.specs.ReadyOutcome.{Readies};
 ghost use Rattle.queue.specs.Parts.{whole, onParts, queueOf, answered};
 ghost use Rattle.queue.specs.Ruled.{andThen};
 ghost use Rattle.replay.specs.Playing.{afterServe};
-ghost use Rattle.exports.specs.Live.{openBytes, LiveOpens, liveStep, liveService, toldStep, toldService, Tells, moved, took, served, written, memoryAfter, readiedOf};
+ghost use Rattle.exports.specs.Live.{LiveOpens, liveStep, liveService, toldStep, toldService, Tells, moved, took, served, written, memoryAfter, readiedOf};
 use queue::Counts;
 use queue::Frame;
 use queue::Side;
@@ -111,7 +111,7 @@ pub extern "C" fn lsq_open_in(
     first: u32,
     words: u32,
 ) -> LiveOpened
-    ensures { λ r. ⌜ LiveOpens (openBytes (now (table .entry)) «load_depth» «store_depth» first words) r ⌝ }
+    ensures { λ r. ⌜ LiveOpens (now (table .entry)) «load_depth» «store_depth» first words r ⌝ }
 {
     let read = read_table(table);
     let groups = read.table;

@@ -8,14 +8,15 @@ use lib.Dec.{eqb}
 use lib.ListN.{length, replicate}
 use borrow.Author.Tests.{not-true, not-false, eqb-true, eq-eqb, ne-eqb}
 use Rattle.queue.specs.declared.Queue.{Queue}
+use Rattle.queue.specs.declared.Frame.{Frame}
 use Rattle.queue.specs.declared.opening.OpenedFrame.{OpenedFrame}
 use Rattle.queue.specs.Refusal.{unsound}
 use Rattle.queue.specs.Ruled.{Ruled, refuse, accept, need}
 use Rattle.queue.specs.Contents.{Contents, contentsOf}
 use Rattle.queue.specs.Sound.{sound}
-use Rattle.queue.specs.NoQueue.{freshQueue, noFrame, noQueue}
+use Rattle.queue.specs.NoQueue.{freshQueue, noQueue}
 use Rattle.queue.specs.Outcome.{Opens}
-use Rattle.queue.specs.Parts.{whole, onParts, OpensFrame}
+use Rattle.queue.specs.Parts.{whole, onParts, OnWholeRuns, OpensFrame}
 use Rattle.queue.proofs.Lists.{and-left, and-right}
 use Rattle.queue.proofs.SoundLaws.{loads-few, stores-few}
 
@@ -33,6 +34,9 @@ module _ (l s : List ℕ) where
   pub stores-not-whole : length l ≡ 64 → (length s ≡ 64 → ⊥) → whole l s ≡ false
   unfolding whole
   stores-not-whole a n = rw (eq-eqb _ _ a, ne-eqb _ _ n)
+
+pub on-whole-runs : OnWholeRuns
+on-whole-runs A l s rule a b = rw (both-whole l s a b)
 
 -- ---- the check of a queue's parts
 -- both runs are whole and the queue is sound, so each run has room for what its side holds
@@ -78,6 +82,6 @@ module _ (q : Queue) where
       go false z = refl
 
 -- ---- an opened frame is an opened queue, with two runs of zeros
-pub opens : (rule : Ruled Contents) (r : OpenedFrame) → OpensFrame noFrame rule r → Opens noQueue rule (record { answer = r .answer; queue = freshQueue (r .frame) })
-opens (refuse n) r e = ap (λ (o : OpenedFrame). record { answer = o .answer; queue = freshQueue (o .frame) }) e
-opens (accept q) r e = (e .0, e .1 (replicate 64 0) (replicate 64 0))
+pub opens : (fresh : Frame) (rule : Ruled Contents) (r : OpenedFrame) → OpensFrame fresh rule r → Opens noQueue rule (record { answer = r .answer; queue = freshQueue (r .frame) })
+opens fresh (refuse n) r e = ap (λ (o : OpenedFrame). record { answer = o .answer; queue = freshQueue (o .frame) }) e
+opens fresh (accept q) r e = (ap (λ (o : OpenedFrame). o .answer) (e .0), ap (λ (o : OpenedFrame). contentsOf (freshQueue (o .frame))) (e .0) ∙ e .1 (replicate 64 0) (replicate 64 0))

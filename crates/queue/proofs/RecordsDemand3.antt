@@ -21,6 +21,8 @@ use Rattle.queue.specs.declared.Outcome.{Outcome}
 use Rattle.queue.specs.declared.Opened.{Opened}
 use Rattle.queue.specs.declared.Counted.{Counted}
 use Rattle.queue.specs.declared.Readied.{Readied}
+use Rattle.queue.specs.declared.Frame.{Frame}
+use Rattle.queue.specs.declared.opening.OpenedFrame.{OpenedFrame}
 use Rattle.queue.specs.Ruled.{Ruled, refuse, accept, need}
 use Rattle.queue.specs.Contents.{Contents, contentsOf}
 use Rattle.queue.specs.Activate.{activate}
@@ -29,9 +31,11 @@ use Rattle.queue.specs.Write.{Written, write}
 use Rattle.queue.specs.Take.{Taken, take}
 use Rattle.queue.specs.Outcome.{Moves, Takes, Serves, Writes, Opens}
 use Rattle.queue.specs.ReadyOutcome.{Readies}
+use Rattle.queue.specs.NoQueue.{freshFrame}
+use Rattle.queue.specs.Parts.{queueOf, OpensFrame}
 use Rattle.queue.specs.Calls.{Call, Activate, Give, Serve, Write, Take, Ready}
 use Rattle.queue.specs.Call.{Machine, Step, moved, served, written, taken, looked, give, ready, step, Answered, answers, leaves}
-use Rattle.queue.specs.Records.{valueIn, Runs, done, activates, gives, serves, writes, takes, readies, machineOf, OpenedRecord, RecordsDemand3, AlikeRecords, RecordsSound}
+use Rattle.queue.specs.Records.{valueIn, Runs, done, activates, gives, serves, writes, takes, readies, machineOf, OpenedRecord, RecordsDemand3, FramesDemand3, AlikeRecords, RecordsSound}
 use Rattle.queue.specs.Demand3.{Opening}
 use Rattle.queue.proofs.ReachedSound.{reached-sound}
 use Rattle.queue.proofs.Demand3.{demand3, alike}
@@ -127,6 +131,24 @@ pub records-demand3 : RecordsDemand3
 records-demand3 table memory o w calls log q left run fill below =
     let a = runs-agree run in
     rw (← a .says, ← a .ends) (demand3 (groupsOf table) memory (machineOf (o .queue) memory) (opening w) calls fill below)
+
+-- an opened frame, with any two runs, is an opened record
+opened-parts : (fresh : Frame) (rule : Ruled Contents) (o : OpenedFrame) (l s : List ℕ) → OpensFrame fresh rule o → Opens (queueOf (o .frame) l s) rule (record { answer = o .answer; queue = queueOf (o .frame) l s })
+opened-parts fresh (refuse n) o l s e = ap (λ (x : OpenedFrame). record { answer = x .answer; queue = queueOf (o .frame) l s }) e
+opened-parts fresh (accept q) o l s e = (ap (λ (x : OpenedFrame). x .answer) (e .0), ap (λ (x : OpenedFrame). contentsOf (queueOf (x .frame) l s)) (e .0) ∙ e .1 l s)
+
+pub frames-demand3 : FramesDemand3
+frames-demand3 table loadDepth storeDepth first memory o serial opens accepted l s =
+    records-demand3 table memory (record { answer = o .answer; queue = queueOf (o .frame) l s })
+    (record {
+      loadDepth = loadDepth;
+      storeDepth = storeDepth;
+      first = first;
+      serial = serial;
+      refused = queueOf (o .frame) l s;
+      opens = opened-parts (freshFrame table loadDepth storeDepth first (length memory)) (openQueue (groupsOf table) loadDepth storeDepth first (length memory)) o l s opens;
+      accepted = accepted;
+    })
 
 pub alike-records : AlikeRecords
 alike-records table memory o₁ o₂ w₁ w₂ calls₁ calls₂ log₁ log₂ q₁ q₂ left₁ left₂ run₁ run₂ =

@@ -18,6 +18,7 @@ use Rattle.queue.specs.declared.Outcome.{Outcome}
 use Rattle.queue.specs.declared.Opened.{Opened}
 use Rattle.queue.specs.declared.Counted.{Counted}
 use Rattle.queue.specs.declared.Readied.{Readied}
+use Rattle.queue.specs.declared.opening.OpenedFrame.{OpenedFrame}
 use Rattle.queue.specs.Contents.{contentsOf}
 use Rattle.queue.specs.Open.{openQueue}
 use Rattle.queue.specs.Activate.{activate}
@@ -26,6 +27,8 @@ use Rattle.queue.specs.Write.{write}
 use Rattle.queue.specs.Take.{take}
 use Rattle.queue.specs.Outcome.{Moves, Takes, Serves, Writes, Opens}
 use Rattle.queue.specs.ReadyOutcome.{Readies}
+use Rattle.queue.specs.NoQueue.{freshFrame}
+use Rattle.queue.specs.Parts.{queueOf, OpensFrame}
 use Rattle.queue.specs.Calls.{Argument, Side, Call, Activate, Give, Serve, Write, Take, Ready}
 use Rattle.queue.specs.Call.{give, ready, Machine, Answered}
 use Rattle.queue.specs.Plain.{Filling}
@@ -68,6 +71,15 @@ abbrev pub RecordsDemand3 : Type 0
 RecordsDemand3 =
     (table : Table) (memory : List ℕ) (o : Opened) → OpenedRecord table memory o →
     (calls : List Call) (log : List Answered) (q : Queue) (left : List ℕ) → Runs (o .queue) memory calls log q left →
+    (fill : Filling) → ((k : ℕ) → fill .address k < length memory) →
+    Sequential (groupsOf table) memory log (machineOf q left) fill
+
+-- The same from an opened frame, with whatever two runs of entries are lent to the calls.
+abbrev pub FramesDemand3 : Type 0
+FramesDemand3 =
+    (table : Table) (loadDepth storeDepth first : ℕ) (memory : List ℕ) (o : OpenedFrame) → first < 2 ^ 32 →
+    OpensFrame (freshFrame table loadDepth storeDepth first (length memory)) (openQueue (groupsOf table) loadDepth storeDepth first (length memory)) o → o .answer ≡ 0 →
+    (loads stores : List ℕ) (calls : List Call) (log : List Answered) (q : Queue) (left : List ℕ) → Runs (queueOf (o .frame) loads stores) memory calls log q left →
     (fill : Filling) → ((k : ℕ) → fill .address k < length memory) →
     Sequential (groupsOf table) memory log (machineOf q left) fill
 

@@ -13,9 +13,10 @@ use Rattle.table.specs.declared.HeaderRead.the-variants.{Leading, NoHead
 use Rattle.table.specs.declared.EventRead.{EventRead}
 use Rattle.table.specs.declared.EventRead.the-variants.{Found, End, NoEvent}
 use Rattle.table.specs.declared.Stepped.{Stepped}
+use Rattle.table.specs.declared.Written.the-variants.{Unwritten}
 use Rattle.table.specs.Basics.{pick, flat, within}
 use Rattle.table.specs.Refusal.{badKind}
-use Rattle.table.specs.Number.{Got, got, bad, andThen, require, readNumber, placeOf, bytesOf}
+use Rattle.table.specs.Number.{Got, got, bad, andThen, require, readNumber, placeOf, bytesOf, Wrote, wrote}
 
 -- "0 activate (group), 1 load address (port, address), 2 store address (port, address), 3 store data (port, word), 4 serve
 -- load (serial), 5 write store (serial), 6 take (port)": an event's numbers, its kind first.
@@ -82,6 +83,10 @@ stepAt s place = record { read = eventAt s place; next = placeAfter place (event
 
 abbrev pub eventBytes : Event → List ℕ
 eventBytes e = bytesOf (eventNumbers e)
+
+-- writing an event by its kind and its numbers: 35 kind above 6, then 10; a kind with one number leaves the second alone
+abbrev pub wroteEventOf : ℕ → ℕ → ℕ → List ℕ → Wrote
+wroteEventOf kind x y buffer = pick (leb kind 6) (wrote (eventBytes (eventOf kind x y)) buffer) (record { answer = Unwritten badKind; buffer = buffer })
 
 abbrev pub eventsBytes : List Event → List ℕ
 eventsBytes = flat eventBytes

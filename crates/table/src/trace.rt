@@ -3,7 +3,7 @@ ghost use mathlib.Core.Path.{_≡_};
 ghost use Prim.Native.Nat.{_+_, _≤_};
 ghost use lib.ListN.{length, take, drop};
 ghost use Rattle.table.specs.Number.{bytesOf, wrote};
-ghost use Rattle.table.specs.Event.{readHeader, headerAnswer, headerBytes, eventOf, readKind, eventAnswer, eventAt, stepAt, eventNumbers, eventBytes};
+ghost use Rattle.table.specs.Event.{readHeader, headerAnswer, headerBytes, eventOf, readKind, eventAnswer, eventAt, stepAt, eventNumbers, eventBytes, wroteEventOf};
 ghost use Rattle.table.specs.Reader.{movedTo};
 ghost use Rattle.table.specs.Basics.{splice};
 ghost use Rattle.table.specs.Internal.{listed};
@@ -72,8 +72,8 @@ pub fn read_header(bytes: &[u8]) -> HeaderRead
     HeaderRead::Leading(header, place)
 }
 
-// The event of a kind and its numbers; a kind above 6 is taken for 6, and a kind with one number leaves the second alone.
-pub fn event_of(kind: u32, first: u32, second: u32) -> Event
+// The event of a kind and its numbers.
+fn event_of(kind: u32, first: u32, second: u32) -> Event
     ensures { λ r. ⌜ r ≡ eventOf kind first second ⌝ }
 {
     match kind {
@@ -241,6 +241,18 @@ pub fn write_event(event: Event, out: &mut [u8]) -> Written
     ensures { λ r. ⌜ (r ≡ wrote (eventBytes event) (now (out .entry)) .answer) × (now (out .exit) ≡ wrote (eventBytes event) (now (out .entry)) .buffer) ⌝ }
 {
     write_numbers(numbers_of(event), out)
+}
+
+// Writes an event, by its kind and its numbers, at the front of a buffer: 35, then 10. A kind with one number leaves the second
+// alone.
+pub fn write_event_of(kind: u32, first: u32, second: u32, out: &mut [u8]) -> Written
+    ensures { λ r. ⌜ (r ≡ wroteEventOf kind first second (now (out .entry)) .answer) × (now (out .exit) ≡ wroteEventOf kind first second (now (out .entry)) .buffer) ⌝ }
+{
+    if 6 < kind {
+        return Written::Unwritten(BAD_KIND);
+    }
+    let event = event_of(kind, first, second);
+    write_event(event, out)
 }
 
 // Writes a trace's leading numbers at the front of a buffer.

@@ -2,7 +2,7 @@
 
 #![allow(unsafe_code)]
 
-use lsq::record::{Counts, Frame, Listed, Opened, Table, TableRead, Written, ENTRIES};
+use lsq::record::{Counts, Frame, Listed, Opened, Side, Table, TableRead, Written, ENTRIES};
 use lsq::{Queue, QUEUE_BYTES};
 use lsq_ref::{Event, Header as Opening};
 
@@ -55,8 +55,18 @@ const FILLER: u32 = 0xA5A5_A5A5;
 
 /// A queue that a refused opening must leave as it is.
 fn filled() -> Queue {
+    let side = Side {
+        depth: 0xA5,
+        count: 0xA5,
+        next: FILLER,
+    };
     Queue {
-        frame: Frame::default(),
+        frame: Frame {
+            words: 0xA5A5,
+            loads: side,
+            stores: side,
+            ..Frame::default()
+        },
         loads: [u64::MAX; ENTRIES],
         stores: [u64::MAX; ENTRIES],
     }
@@ -93,13 +103,16 @@ impl Live for Header {
                 header.memory_length,
             )
         };
-        let entries = if answer == 0 { 0 } else { u64::MAX };
-        let entries = [entries; ENTRIES];
-        assert_eq!(
-            [queue.loads, queue.stores],
-            [entries; 2],
-            "lsq_open, entries"
-        );
+        if answer != 0 {
+            assert_eq!(queue, filled(), "lsq_open, a refused one");
+            queue = Queue {
+                frame: Frame::default(),
+                loads: [0; ENTRIES],
+                stores: [0; ENTRIES],
+            };
+        }
+        let entries = [queue.loads, queue.stores];
+        assert_eq!(entries, [[0; ENTRIES]; 2], "lsq_open, entries");
         Opened {
             answer,
             frame: queue.frame,

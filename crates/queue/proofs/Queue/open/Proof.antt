@@ -1,5 +1,6 @@
 use Rattle.table.specs.Table.{groupsOf}
 use Rattle.queue.specs.Open.{openQueue}
+use Rattle.queue.specs.NoQueue.{freshFrame}
 use Rattle.queue.proofs.PartsLaws.{opens}
 use borrow.Author.Needs.{needs}
 use Rattle.queue.proofs.Queue.open.Statement.{statement}
@@ -12,7 +13,7 @@ returns : tie.Need-returns
 returns c =
     let o = c .before in
     let a = o .before .args in
-    opens (openQueue (groupsOf (a .table)) (a .load-depth) (a .store-depth) (a .first) (a .words)) (o .open-in .result) (o .open-in .ensures)
+    opens (freshFrame (a .table) (a .load-depth) (a .store-depth) (a .first) (a .words)) (openQueue (groupsOf (a .table)) (a .load-depth) (a .store-depth) (a .first) (a .words)) (o .open-in .result) (o .open-in .ensures)
 
 pub open-spec : {M : Type 1} → statement M
 open-spec = tie.close (tie.spec open-in-requires returns)

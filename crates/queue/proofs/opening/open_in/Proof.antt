@@ -1,10 +1,11 @@
 -- Each test that is left behind is a step of the rule; the test that fails is its refusal.
-use mathlib.Core.Path.{_≡_, refl, sym, _∙_}
+use mathlib.Core.Path.{_≡_, sym, ap, _∙_}
 use mathlib.Core.Bool.{true}
 use native.Mathlib.Nat.{zero-sub}
 use native.Mathlib.Omega.{arith}
 use borrow.Author.Tests.{not-true, not-false, ne-eqb}
 use Rattle.table.specs.Table.{groupsOf, tableFault}
+use Rattle.queue.specs.declared.Frame.{Frame}
 use Rattle.queue.specs.Contents.{contentsOf}
 use Rattle.queue.specs.Sound.{depthRight, memoryRight}
 use Rattle.queue.specs.Open.{openQueue}
@@ -113,7 +114,7 @@ returns-6 c =
     let p = c .before .before in
     let m = p .before in
     let s = m .before .before in
-    rw (table-right (s .before .before .before .before), load-depth (s .before .before), store-depth s, memory m, sym (p .groups-fit .ensures) ∙ not-false _ (c .before .if5 .left)) (refl, λ l s. rw (c .fresh-frame .ensures) (simp zero-sub))
+    rw (table-right (s .before .before .before .before), load-depth (s .before .before), store-depth s, memory m, sym (p .groups-fit .ensures) ∙ not-false _ (c .before .if5 .left)) (ap (λ (f : Frame). record { answer = 0; frame = f }) (c .fresh-frame .ensures), λ l s. simp zero-sub)
 
 pub open-in-spec : {M : Type 1} → statement M
 open-in-spec =

@@ -1,6 +1,6 @@
 // Live calls for C and Rust: a queue is a frame, which goes in and out by value as a C struct, and two runs of 64 numbers, its
 // packed entries, which are lent. It is plain data with no pointer inside. Whatever a host hands in is tested (40), a run of
-// another length first of all.
+// another length first of all. The frame's arrays are lent on to the queue's own calls: a table is copied nowhere.
 ghost use mathlib.Core.Path.{_≡_};
 ghost use mathlib.Core.Bool.{_&&_};
 ghost use Rattle.queue.specs.Entry.{bit};
@@ -23,6 +23,7 @@ use queue::Frame;
 use queue::Side;
 use queue::activation::activate_in;
 use queue::answering::Step;
+use queue::answering::outline_of;
 use queue::arguments::load_address_in;
 use queue::arguments::store_address_in;
 use queue::arguments::store_data_in;
@@ -134,7 +135,16 @@ pub extern "C" fn lsq_open_in(
 pub extern "C" fn lsq_sound_in(frame: Frame, loads: &[u64], stores: &[u64]) -> u32
     ensures { λ r. ⌜ r ≡ bit (whole (now (loads .entry)) (now (stores .entry)) && sound (contentsOf (queueOf frame (now (loads .entry)) (now (stores .entry))))) ⌝ }
 {
-    if sound_in(frame, loads, stores) { 1 } else { 0 }
+    let outline = outline_of(frame);
+    let right = sound_in(
+        outline,
+        &frame.table.groups,
+        &frame.table.loads,
+        &frame.table.stores,
+        loads,
+        stores,
+    );
+    if right { 1 } else { 0 }
 }
 
 // Queues the group's accesses, with no argument yet: 40, 20, 21.
@@ -149,7 +159,16 @@ pub extern "C" fn lsq_activate_in(
         (andThen (onParts (now (loads .entry)) (now (stores .entry)) (activate (contentsOf (queueOf frame (now (loads .entry)) (now (stores .entry)))) group)) moved)
         (toldStep frame r (now (loads .exit)) (now (stores .exit))) ⌝ }
 {
-    let step = activate_in(frame, loads, stores, group);
+    let outline = outline_of(frame);
+    let step = activate_in(
+        outline,
+        &frame.table.groups,
+        &frame.table.loads,
+        &frame.table.stores,
+        loads,
+        stores,
+        group,
+    );
     live_step(step)
 }
 
@@ -166,7 +185,17 @@ pub extern "C" fn lsq_load_address_in(
         (onParts (now (loads .entry)) (now (stores .entry)) (loadAddress (contentsOf (queueOf frame (now (loads .entry)) (now (stores .entry)))) port address))
         (answered r (queueOf frame (now (loads .exit)) (now (stores .entry)))) ⌝ }
 {
-    let answer = load_address_in(frame, loads, stores, port, address);
+    let outline = outline_of(frame);
+    let answer = load_address_in(
+        outline,
+        &frame.table.groups,
+        &frame.table.loads,
+        &frame.table.stores,
+        loads,
+        stores,
+        port,
+        address,
+    );
     answer as u32
 }
 
@@ -183,7 +212,17 @@ pub extern "C" fn lsq_store_address_in(
         (onParts (now (loads .entry)) (now (stores .entry)) (storeAddress (contentsOf (queueOf frame (now (loads .entry)) (now (stores .entry)))) port address))
         (answered r (queueOf frame (now (loads .entry)) (now (stores .exit)))) ⌝ }
 {
-    let answer = store_address_in(frame, loads, stores, port, address);
+    let outline = outline_of(frame);
+    let answer = store_address_in(
+        outline,
+        &frame.table.groups,
+        &frame.table.loads,
+        &frame.table.stores,
+        loads,
+        stores,
+        port,
+        address,
+    );
     answer as u32
 }
 
@@ -200,7 +239,17 @@ pub extern "C" fn lsq_store_data_in(
         (onParts (now (loads .entry)) (now (stores .entry)) (storeData (contentsOf (queueOf frame (now (loads .entry)) (now (stores .entry)))) port word))
         (answered r (queueOf frame (now (loads .entry)) (now (stores .exit)))) ⌝ }
 {
-    let answer = store_data_in(frame, loads, stores, port, word);
+    let outline = outline_of(frame);
+    let answer = store_data_in(
+        outline,
+        &frame.table.groups,
+        &frame.table.loads,
+        &frame.table.stores,
+        loads,
+        stores,
+        port,
+        word,
+    );
     answer as u32
 }
 
@@ -219,7 +268,18 @@ pub extern "C" fn lsq_serve_in(
         (toldService r (queueOf frame (now (loads .exit)) (now (stores .entry))))
         × (r .counts ≡ afterServe counts (onParts (now (loads .entry)) (now (stores .entry)) (serve (contentsOf (queueOf frame (now (loads .entry)) (now (stores .entry)))) (now (memory .entry)) serial))) ⌝ }
 {
-    let service = serve_in(frame, loads, stores, memory, counts, serial);
+    let outline = outline_of(frame);
+    let service = serve_in(
+        outline,
+        &frame.table.groups,
+        &frame.table.loads,
+        &frame.table.stores,
+        loads,
+        stores,
+        memory,
+        counts,
+        serial,
+    );
     live_service(service)
 }
 
@@ -237,7 +297,17 @@ pub extern "C" fn lsq_write_in(
         (toldStep frame r (now (loads .exit)) (now (stores .exit)))
         × (now (memory .exit) ≡ memoryAfter (now (memory .entry)) (onParts (now (loads .entry)) (now (stores .entry)) (write (contentsOf (queueOf frame (now (loads .entry)) (now (stores .entry)))) (now (memory .entry)) serial))) ⌝ }
 {
-    let step = write_in(frame, loads, stores, memory, serial);
+    let outline = outline_of(frame);
+    let step = write_in(
+        outline,
+        &frame.table.groups,
+        &frame.table.loads,
+        &frame.table.stores,
+        loads,
+        stores,
+        memory,
+        serial,
+    );
     live_step(step)
 }
 
@@ -253,7 +323,16 @@ pub extern "C" fn lsq_take_in(
         (andThen (onParts (now (loads .entry)) (now (stores .entry)) (take (contentsOf (queueOf frame (now (loads .entry)) (now (stores .entry)))) port)) took)
         (toldStep frame r (now (loads .exit)) (now (stores .exit))) ⌝ }
 {
-    let step = take_in(frame, loads, stores, port);
+    let outline = outline_of(frame);
+    let step = take_in(
+        outline,
+        &frame.table.groups,
+        &frame.table.loads,
+        &frame.table.stores,
+        loads,
+        stores,
+        port,
+    );
     live_step(step)
 }
 
@@ -269,7 +348,16 @@ pub extern "C" fn lsq_ready_loads_in(
         (onParts (now (loads .entry)) (now (stores .entry)) (readyLoads (contentsOf (queueOf frame (now (loads .entry)) (now (stores .entry)))) (now (out .entry))))
         (readiedOf r (queueOf frame (now (loads .entry)) (now (stores .entry)))) (now (out .exit)) ⌝ }
 {
-    let ready = ready_loads_in(frame, loads, stores, out);
+    let outline = outline_of(frame);
+    let ready = ready_loads_in(
+        outline,
+        &frame.table.groups,
+        &frame.table.loads,
+        &frame.table.stores,
+        loads,
+        stores,
+        out,
+    );
     LiveReady {
         answer: ready.answer as u32,
         count: ready.count as u64,
@@ -288,7 +376,16 @@ pub extern "C" fn lsq_ready_stores_in(
         (onParts (now (loads .entry)) (now (stores .entry)) (readyStores (contentsOf (queueOf frame (now (loads .entry)) (now (stores .entry)))) (now (out .entry))))
         (readiedOf r (queueOf frame (now (loads .entry)) (now (stores .entry)))) (now (out .exit)) ⌝ }
 {
-    let ready = ready_stores_in(frame, loads, stores, out);
+    let outline = outline_of(frame);
+    let ready = ready_stores_in(
+        outline,
+        &frame.table.groups,
+        &frame.table.loads,
+        &frame.table.stores,
+        loads,
+        stores,
+        out,
+    );
     LiveReady {
         answer: ready.answer as u32,
         count: ready.count as u64,

@@ -7,17 +7,21 @@ use lib.Dec.{eqb, leb, ltb}
 use lib.ListN.{length}
 use Rattle.table.specs.Basics.{pick, held}
 use Rattle.queue.specs.declared.Entry.{Entry}
+use Rattle.table.specs.declared.Table.{Table}
 use Rattle.queue.specs.declared.Frame.{Frame}
+use Rattle.queue.specs.declared.Outline.{Outline}
 use Rattle.queue.specs.declared.Value.the-variants.{Nothing}
 use Rattle.queue.specs.declared.answering.Step.{Step}
 use Rattle.queue.specs.declared.entries.Mark.{Mark}
 use Rattle.queue.specs.declared.entries.Mark.the-variants.{Addressed, Filled, Finished}
 use Rattle.queue.specs.Entry.{entryOf}
-use Rattle.queue.specs.Contents.{Load, Store, loadIn, storeIn}
+use Rattle.queue.specs.Contents.{Load, Store, loadIn, storeIn, contentsOf}
+use Rattle.queue.specs.Sound.{sound}
+use Rattle.queue.specs.Parts.{queueOf}
 
 -- ---- what a call on the parts gives where it is refused
-abbrev pub refusedStep : ℕ → Frame → Step
-refusedStep n frame = record { answer = n; value = Nothing; loads = frame .loads; stores = frame .stores }
+abbrev pub refusedStep : ℕ → Outline → Step
+refusedStep n outline = record { answer = n; value = Nothing; loads = outline .loads; stores = outline .stores }
 
 -- ---- what a count and an array of numbers hold
 abbrev pub sideOf : {A B : Type 0} → (A → B) → A → ℕ → List A → List B
@@ -35,6 +39,18 @@ storesIn n l = sideOf storeIn 0 n l
 -- a run of entries, with just as many numbers as a side has places
 abbrev pub Whole : List ℕ → Type 0
 Whole l = length l ≡ 64
+
+-- ---- functions that do not read the table
+-- an outline, with a table
+abbrev pub frameWith : Table → Outline → Frame
+frameWith table outline = record { table = table; words = outline .words; loads = outline .loads; stores = outline .stores }
+
+-- the check is behind them: both runs are whole, and with some table the queue is sound
+pub record Checked (outline : Outline) (loads stores : List ℕ) : Type 0 where
+  pub table : Table
+  pub right : sound (contentsOf (queueOf (frameWith table outline) loads stores)) ≡ true
+  pub loads-whole : Whole loads
+  pub stores-whole : Whole stores
 
 -- ---- an entry, whichever its side
 abbrev pub has : Mark → Entry → Bool

@@ -1,5 +1,5 @@
--- Calls on a queue's parts: its frame is handed over, and both sides' entries are lent as runs of numbers of any length. A run
--- that has not just 64 numbers is no side's places: 40, before anything else.
+-- Calls on a queue's parts: its frame's outline is handed over, the table's arrays are lent, and both sides' entries are lent as
+-- runs of numbers of any length. A run that has not just 64 numbers is no side's places: 40, before anything else.
 use Prim.Native.Nat.{ℕ}
 use mathlib.Core.Path.{_≡_}
 use mathlib.Core.Bool.{Bool, _&&_}
@@ -8,6 +8,7 @@ use lib.Dec.{eqb}
 use lib.ListN.{length}
 use Rattle.queue.specs.declared.Value.the-variants.{Nothing}
 use Rattle.queue.specs.declared.Frame.{Frame}
+use Rattle.queue.specs.declared.Outline.{Outline}
 use Rattle.queue.specs.declared.Queue.{Queue}
 use Rattle.queue.specs.declared.Outcome.{Outcome}
 use Rattle.queue.specs.declared.Counted.{Counted}
@@ -21,7 +22,19 @@ use Rattle.queue.specs.Ruled.{Ruled, refuse, accept, need}
 use Rattle.queue.specs.Contents.{Contents, contentsOf}
 use Rattle.queue.specs.NoQueue.{noFrame}
 
--- the queue of these parts
+-- the frame of an outline and its table's arrays, and a frame's outline
+abbrev pub frameOf : Outline → List ℕ → List ℕ → List ℕ → Frame
+frameOf outline groups loads stores = record {
+  table = record { count = outline .count; groups = groups; loads = loads; stores = stores };
+  words = outline .words;
+  loads = outline .loads;
+  stores = outline .stores;
+}
+
+abbrev pub outlineOf : Frame → Outline
+outlineOf frame = record { count = frame .table .count; words = frame .words; loads = frame .loads; stores = frame .stores }
+
+-- the queue of a frame and two runs of entries
 abbrev pub queueOf : Frame → List ℕ → List ℕ → Queue
 queueOf frame loads stores = record { frame = frame; «load_entries» = loads; «store_entries» = stores }
 

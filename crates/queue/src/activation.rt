@@ -6,17 +6,18 @@ ghost use lib.Dec.{leb};
 ghost use Rattle.queue.specs.Contents.{contentsOf};
 ghost use Rattle.queue.specs.Activate.{activate};
 ghost use Rattle.queue.specs.Outcome.{Moves};
-ghost use Rattle.queue.specs.Parts.{queueOf, outcomeOf, onParts};
+ghost use Rattle.queue.specs.Parts.{frameOf, queueOf, outcomeOf, onParts};
 ghost use Rattle.queue.specs.Internal.{Whole};
 ghost use Rattle.queue.specs.InternalActivate.{PairsFit, Appended, longer};
 use crate::Entry;
-use crate::Frame;
 use crate::Outcome;
+use crate::Outline;
 use crate::Queue;
 use crate::Side;
 use crate::Value;
 use crate::answering::Step;
 use crate::answering::frame_after;
+use crate::answering::outline_of;
 use crate::answering::refused;
 use crate::entries::pack;
 use crate::refusal::NO_GROUP;
@@ -86,44 +87,54 @@ fn longer(side: Side, more: u8) -> Side
 }
 
 // Activate on a queue's parts: 40, 20, 21. Each side goes by the other's count before the activation.
-pub fn activate_in(
-    frame: Frame,
+pub fn activate_in<'a>(
+    outline: Outline,
+    groups: &'a [u32; 16],
+    load_places: &'a [u16; 32],
+    store_places: &'a [u16; 32],
     load_entries: &mut [u64],
     store_entries: &mut [u64],
     group: u32,
 ) -> Step
-    ensures { λ r. ⌜ Moves (queueOf frame (now («load_entries» .entry)) (now («store_entries» .entry)))
+    ensures { λ r. ⌜ (let frame = frameOf outline (now (groups .entry)) (now («load_places» .entry)) (now («store_places» .entry)) in
+        Moves (queueOf frame (now («load_entries» .entry)) (now («store_entries» .entry)))
         (onParts (now («load_entries» .entry)) (now («store_entries» .entry))
         (activate (contentsOf (queueOf frame (now («load_entries» .entry)) (now («store_entries» .entry)))) group))
-        (outcomeOf frame r (now («load_entries» .exit)) (now («store_entries» .exit))) ⌝ }
+        (outcomeOf frame r (now («load_entries» .exit)) (now («store_entries» .exit)))) ⌝ }
 {
-    if !sound_in(frame, load_entries, store_entries) {
-        return refused(UNSOUND, frame);
+    if !sound_in(
+        outline,
+        groups,
+        load_places,
+        store_places,
+        load_entries,
+        store_entries,
+    ) {
+        return refused(UNSOUND, outline);
     }
-    let table = frame.table;
-    if table.count as u32 <= group {
-        return refused(NO_GROUP, frame);
+    if outline.count as u32 <= group {
+        return refused(NO_GROUP, outline);
     }
     let at = group as usize;
-    let chosen = group_at(&table.groups, at);
-    let loads = frame.loads;
-    let stores = frame.stores;
+    let chosen = group_at(groups, at);
+    let loads = outline.loads;
+    let stores = outline.stores;
     if !has_room(loads, stores, chosen) {
-        return refused(NO_PLACE, frame);
+        return refused(NO_PLACE, outline);
     }
     let new_loads = chosen.loads;
     let new_stores = chosen.stores;
     append(
         load_entries,
         loads.count,
-        &table.loads,
+        load_places,
         new_loads,
         stores.count,
     );
     append(
         store_entries,
         stores.count,
-        &table.stores,
+        store_places,
         new_stores,
         loads.count,
     );
@@ -145,7 +156,16 @@ impl Queue {
         let frame = self.frame;
         let mut load_entries = self.load_entries;
         let mut store_entries = self.store_entries;
-        let step = activate_in(frame, &mut load_entries, &mut store_entries, group);
+        let outline = outline_of(frame);
+        let step = activate_in(
+            outline,
+            &frame.table.groups,
+            &frame.table.loads,
+            &frame.table.stores,
+            &mut load_entries,
+            &mut store_entries,
+            group,
+        );
         let value = step.value;
         let after = frame_after(frame, step);
         let queue = Queue {

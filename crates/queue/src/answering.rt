@@ -1,8 +1,10 @@
-// What the calls on a queue's parts hand back: they are handed the frame, and both runs of entries are lent to them.
+// What the calls on a queue's parts are handed and hand back: they are handed the outline, and the table's arrays and both runs
+// of entries are lent to them. A frame handed over would be copied at every call, and most of its bytes are the arrays.
 ghost use mathlib.Core.Path.{_≡_};
-ghost use Rattle.queue.specs.Parts.{frameAfter};
+ghost use Rattle.queue.specs.Parts.{outlineOf, frameAfter};
 ghost use Rattle.queue.specs.Internal.{refusedStep};
 use crate::Frame;
+use crate::Outline;
 use crate::Side;
 use crate::Value;
 
@@ -22,14 +24,28 @@ pub struct Step {
 }
 
 // A refused call gives back the very sides that it was handed.
-pub(crate) fn refused(answer: u8, frame: Frame) -> Step
-    ensures { λ r. ⌜ r ≡ refusedStep answer frame ⌝ }
+pub(crate) fn refused(answer: u8, outline: Outline) -> Step
+    ensures { λ r. ⌜ r ≡ refusedStep answer outline ⌝ }
 {
-    let loads = frame.loads;
-    let stores = frame.stores;
+    let loads = outline.loads;
+    let stores = outline.stores;
     Step {
         answer,
         value: Value::Nothing,
+        loads,
+        stores,
+    }
+}
+
+// A frame's outline.
+pub fn outline_of(frame: Frame) -> Outline
+    ensures { λ r. ⌜ r ≡ outlineOf frame ⌝ }
+{
+    let loads = frame.loads;
+    let stores = frame.stores;
+    Outline {
+        count: frame.table.count,
+        words: frame.words,
         loads,
         stores,
     }

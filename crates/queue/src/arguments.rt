@@ -5,13 +5,14 @@ ghost use lib.ListN.{length};
 ghost use Rattle.queue.specs.Contents.{contentsOf};
 ghost use Rattle.queue.specs.Arguments.{loadAddress, storeAddress, storeData};
 ghost use Rattle.queue.specs.Outcome.{Moves};
-ghost use Rattle.queue.specs.Parts.{queueOf, answered, onParts};
+ghost use Rattle.queue.specs.Parts.{frameOf, queueOf, answered, onParts};
 ghost use Rattle.queue.specs.InternalArguments.{markOf, withArgument, Given};
 use crate::Entry;
-use crate::Frame;
 use crate::Outcome;
+use crate::Outline;
 use crate::Queue;
 use crate::Value;
+use crate::answering::outline_of;
 use crate::entries::Mark;
 use crate::entries::oldest_without;
 use crate::entries::pack;
@@ -74,103 +75,122 @@ fn give(entries: &mut [u64], held: u8, port: u32, argument: Argument) -> u8
 }
 
 // Load address on a queue's parts: 40, 22, 23, 24.
-pub fn load_address_in(
-    frame: Frame,
+pub fn load_address_in<'a>(
+    outline: Outline,
+    groups: &'a [u32; 16],
+    load_places: &'a [u16; 32],
+    store_places: &'a [u16; 32],
     load_entries: &mut [u64],
     store_entries: &[u64],
     port: u32,
     address: u32,
 ) -> u8
-    ensures { λ r. ⌜ Moves (queueOf frame (now («load_entries» .entry)) (now («store_entries» .entry)))
+    ensures { λ r. ⌜ (let frame = frameOf outline (now (groups .entry)) (now («load_places» .entry)) (now («store_places» .entry)) in
+        Moves (queueOf frame (now («load_entries» .entry)) (now («store_entries» .entry)))
         (onParts (now («load_entries» .entry)) (now («store_entries» .entry))
         (loadAddress (contentsOf (queueOf frame (now («load_entries» .entry)) (now («store_entries» .entry)))) port address))
-        (answered r (queueOf frame (now («load_entries» .exit)) (now («store_entries» .entry)))) ⌝ }
+        (answered r (queueOf frame (now («load_entries» .exit)) (now («store_entries» .entry))))) ⌝ }
 {
-    if !sound_in(frame, load_entries, store_entries) {
+    if !sound_in(
+        outline,
+        groups,
+        load_places,
+        store_places,
+        load_entries,
+        store_entries,
+    ) {
         return UNSOUND;
     }
     let named = has_port(
-        frame.table.count,
-        &frame.table.groups,
-        &frame.table.loads,
-        &frame.table.stores,
+        outline.count,
+        groups,
+        load_places,
+        store_places,
         false,
         port,
     );
     if !named {
         return NO_PORT;
     }
-    if frame.words as u32 <= address {
+    if outline.words as u32 <= address {
         return BAD_ADDRESS;
     }
-    let loads = frame.loads;
+    let loads = outline.loads;
     let argument = Argument::Address(address as u16);
     give(load_entries, loads.count, port, argument)
 }
 
 // Store address on a queue's parts: 40, 22, 23, 24.
-pub fn store_address_in(
-    frame: Frame,
+pub fn store_address_in<'a>(
+    outline: Outline,
+    groups: &'a [u32; 16],
+    load_places: &'a [u16; 32],
+    store_places: &'a [u16; 32],
     load_entries: &[u64],
     store_entries: &mut [u64],
     port: u32,
     address: u32,
 ) -> u8
-    ensures { λ r. ⌜ Moves (queueOf frame (now («load_entries» .entry)) (now («store_entries» .entry)))
+    ensures { λ r. ⌜ (let frame = frameOf outline (now (groups .entry)) (now («load_places» .entry)) (now («store_places» .entry)) in
+        Moves (queueOf frame (now («load_entries» .entry)) (now («store_entries» .entry)))
         (onParts (now («load_entries» .entry)) (now («store_entries» .entry))
         (storeAddress (contentsOf (queueOf frame (now («load_entries» .entry)) (now («store_entries» .entry)))) port address))
-        (answered r (queueOf frame (now («load_entries» .entry)) (now («store_entries» .exit)))) ⌝ }
+        (answered r (queueOf frame (now («load_entries» .entry)) (now («store_entries» .exit))))) ⌝ }
 {
-    if !sound_in(frame, load_entries, store_entries) {
+    if !sound_in(
+        outline,
+        groups,
+        load_places,
+        store_places,
+        load_entries,
+        store_entries,
+    ) {
         return UNSOUND;
     }
-    let named = has_port(
-        frame.table.count,
-        &frame.table.groups,
-        &frame.table.loads,
-        &frame.table.stores,
-        true,
-        port,
-    );
+    let named = has_port(outline.count, groups, load_places, store_places, true, port);
     if !named {
         return NO_PORT;
     }
-    if frame.words as u32 <= address {
+    if outline.words as u32 <= address {
         return BAD_ADDRESS;
     }
-    let stores = frame.stores;
+    let stores = outline.stores;
     let argument = Argument::Address(address as u16);
     give(store_entries, stores.count, port, argument)
 }
 
 // Store data on a queue's parts: 40, 22, 24.
-pub fn store_data_in(
-    frame: Frame,
+pub fn store_data_in<'a>(
+    outline: Outline,
+    groups: &'a [u32; 16],
+    load_places: &'a [u16; 32],
+    store_places: &'a [u16; 32],
     load_entries: &[u64],
     store_entries: &mut [u64],
     port: u32,
     word: u32,
 ) -> u8
-    ensures { λ r. ⌜ Moves (queueOf frame (now («load_entries» .entry)) (now («store_entries» .entry)))
+    ensures { λ r. ⌜ (let frame = frameOf outline (now (groups .entry)) (now («load_places» .entry)) (now («store_places» .entry)) in
+        Moves (queueOf frame (now («load_entries» .entry)) (now («store_entries» .entry)))
         (onParts (now («load_entries» .entry)) (now («store_entries» .entry))
         (storeData (contentsOf (queueOf frame (now («load_entries» .entry)) (now («store_entries» .entry)))) port word))
-        (answered r (queueOf frame (now («load_entries» .entry)) (now («store_entries» .exit)))) ⌝ }
+        (answered r (queueOf frame (now («load_entries» .entry)) (now («store_entries» .exit))))) ⌝ }
 {
-    if !sound_in(frame, load_entries, store_entries) {
+    if !sound_in(
+        outline,
+        groups,
+        load_places,
+        store_places,
+        load_entries,
+        store_entries,
+    ) {
         return UNSOUND;
     }
-    let named = has_port(
-        frame.table.count,
-        &frame.table.groups,
-        &frame.table.loads,
-        &frame.table.stores,
-        true,
-        port,
-    );
+    let named = has_port(outline.count, groups, load_places, store_places, true, port);
     if !named {
         return NO_PORT;
     }
-    let stores = frame.stores;
+    let stores = outline.stores;
     let argument = Argument::Word(word);
     give(store_entries, stores.count, port, argument)
 }
@@ -183,7 +203,17 @@ impl Queue {
         let frame = self.frame;
         let mut load_entries = self.load_entries;
         let store_entries = self.store_entries;
-        let answer = load_address_in(frame, &mut load_entries, &store_entries, port, address);
+        let outline = outline_of(frame);
+        let answer = load_address_in(
+            outline,
+            &frame.table.groups,
+            &frame.table.loads,
+            &frame.table.stores,
+            &mut load_entries,
+            &store_entries,
+            port,
+            address,
+        );
         let queue = Queue {
             frame,
             load_entries,
@@ -203,7 +233,17 @@ impl Queue {
         let frame = self.frame;
         let load_entries = self.load_entries;
         let mut store_entries = self.store_entries;
-        let answer = store_address_in(frame, &load_entries, &mut store_entries, port, address);
+        let outline = outline_of(frame);
+        let answer = store_address_in(
+            outline,
+            &frame.table.groups,
+            &frame.table.loads,
+            &frame.table.stores,
+            &load_entries,
+            &mut store_entries,
+            port,
+            address,
+        );
         let queue = Queue {
             frame,
             load_entries,
@@ -223,7 +263,17 @@ impl Queue {
         let frame = self.frame;
         let load_entries = self.load_entries;
         let mut store_entries = self.store_entries;
-        let answer = store_data_in(frame, &load_entries, &mut store_entries, port, word);
+        let outline = outline_of(frame);
+        let answer = store_data_in(
+            outline,
+            &frame.table.groups,
+            &frame.table.loads,
+            &frame.table.stores,
+            &load_entries,
+            &mut store_entries,
+            port,
+            word,
+        );
         let queue = Queue {
             frame,
             load_entries,

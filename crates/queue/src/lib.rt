@@ -1,6 +1,6 @@
 // The group-allocated load-store queue: its record, and every call on it.
 // A call is handed the queue by value and gives back the queue that follows. The calls named `.._in` do the work: they are handed
-// the frame, and both sides' entries are lent to them as runs of numbers, so that nothing of these is copied.
+// an outline, and the table's arrays and both sides' entries are lent to them, so that nothing of these is copied.
 use table::Table;
 
 pub mod activation;
@@ -45,6 +45,14 @@ pub struct Side {
 #[repr(C)]
 pub struct Frame {
     pub table: Table,
+    pub words: u16,
+    pub loads: Side,
+    pub stores: Side,
+}
+
+// All of a frame but its table's arrays: the number of groups, the memory length, and both sides.
+pub struct Outline {
+    pub count: u8,
     pub words: u16,
     pub loads: Side,
     pub stores: Side,

@@ -4,19 +4,21 @@ ghost use mathlib.Core.Bool.{true};
 ghost use mathlib.Core.List.{_++_};
 ghost use Prim.Native.Nat.{_≤_, _<_};
 ghost use lib.ListN.{length, drop};
+ghost use Rattle.table.specs.declared.Table.{Table};
 ghost use Rattle.queue.specs.Contents.{loadOf, contentsOf};
 ghost use Rattle.queue.specs.Sound.{sound};
 ghost use Rattle.queue.specs.Ready.{servable, writable, readyLoads, readyStores};
 ghost use Rattle.queue.specs.ReadyOutcome.{Readies, Fronts};
 ghost use denote.Ref.{ptr};
-ghost use Rattle.queue.specs.Parts.{queueOf, onParts, readiedOf};
-ghost use Rattle.queue.specs.Internal.{storesIn, Whole};
+ghost use Rattle.queue.specs.Parts.{frameOf, queueOf, onParts, readiedOf};
+ghost use Rattle.queue.specs.Internal.{storesIn, frameWith, Checked};
 ghost use Rattle.queue.specs.InternalReady.{loadReady, listed, Noted, Lists, HandedOut};
 use crate::Entry;
-use crate::Frame;
+use crate::Outline;
 use crate::Queue;
 use crate::Readied;
 use crate::ReadySerials;
+use crate::answering::outline_of;
 use crate::entries::unpack;
 use crate::refusal::UNSOUND;
 use crate::serial::oldest_serial;
@@ -79,13 +81,14 @@ fn put_serials(serials: Serials, out: &mut [u32])
     }
 }
 
-// The serials of the loads that would be served now.
-fn servable_loads(frame: Frame, load_entries: &[u64], store_entries: &[u64]) -> Serials
-    requires { ⌜ (sound (contentsOf (queueOf frame (now «load_entries») (now «store_entries»))) ≡ true)
-        × Whole (now «load_entries») × Whole (now «store_entries») ⌝ }
-    ensures { λ r. ⌜ Lists (servable (contentsOf (queueOf frame (now («load_entries» .entry)) (now («store_entries» .entry))))) r ⌝ }
+// The serials of the loads that would be served now. It does not read the table, so it speaks of every table that the queue is sound with.
+fn servable_loads(outline: Outline, load_entries: &[u64], store_entries: &[u64]) -> Serials
+    requires { ⌜ Checked outline (now «load_entries») (now «store_entries») ⌝ }
+    ensures { λ r. ⌜ ((table : Table) → let frame = frameWith table outline in
+        sound (contentsOf (queueOf frame (now («load_entries» .entry)) (now («store_entries» .entry)))) ≡ true →
+        Lists (servable (contentsOf (queueOf frame (now («load_entries» .entry)) (now («store_entries» .entry))))) r) ⌝ }
 {
-    let loads = frame.loads;
+    let loads = outline.loads;
     let count = loads.count as usize;
     let mut found = Serials {
         count: 0,
@@ -103,13 +106,14 @@ fn servable_loads(frame: Frame, load_entries: &[u64], store_entries: &[u64]) -> 
     found
 }
 
-// The serials of the stores that would be written now.
-fn writable_stores(frame: Frame, load_entries: &[u64], store_entries: &[u64]) -> Serials
-    requires { ⌜ (sound (contentsOf (queueOf frame (now «load_entries») (now «store_entries»))) ≡ true)
-        × Whole (now «load_entries») × Whole (now «store_entries») ⌝ }
-    ensures { λ r. ⌜ Lists (writable (contentsOf (queueOf frame (now («load_entries» .entry)) (now («store_entries» .entry))))) r ⌝ }
+// The serials of the stores that would be written now, likewise.
+fn writable_stores(outline: Outline, load_entries: &[u64], store_entries: &[u64]) -> Serials
+    requires { ⌜ Checked outline (now «load_entries») (now «store_entries») ⌝ }
+    ensures { λ r. ⌜ ((table : Table) → let frame = frameWith table outline in
+        sound (contentsOf (queueOf frame (now («load_entries» .entry)) (now («store_entries» .entry)))) ≡ true →
+        Lists (writable (contentsOf (queueOf frame (now («load_entries» .entry)) (now («store_entries» .entry))))) r) ⌝ }
 {
-    let stores = frame.stores;
+    let stores = outline.stores;
     let count = stores.count as usize;
     let mut found = Serials {
         count: 0,
@@ -149,46 +153,68 @@ fn hand_out(found: Serials, out: &mut [u32]) -> ReadyCount
 }
 
 // Ready loads on a queue's parts: 40, 10.
-pub fn ready_loads_in(
-    frame: Frame,
+pub fn ready_loads_in<'a>(
+    outline: Outline,
+    groups: &'a [u32; 16],
+    load_places: &'a [u16; 32],
+    store_places: &'a [u16; 32],
     load_entries: &[u64],
     store_entries: &[u64],
     out: &mut [u32],
 ) -> ReadyCount
-    ensures { λ r. ⌜ Readies (queueOf frame (now («load_entries» .entry)) (now («store_entries» .entry))) (now (out .entry))
+    ensures { λ r. ⌜ (let frame = frameOf outline (now (groups .entry)) (now («load_places» .entry)) (now («store_places» .entry)) in
+        Readies (queueOf frame (now («load_entries» .entry)) (now («store_entries» .entry))) (now (out .entry))
         (onParts (now («load_entries» .entry)) (now («store_entries» .entry))
         (readyLoads (contentsOf (queueOf frame (now («load_entries» .entry)) (now («store_entries» .entry)))) (now (out .entry))))
-        (readiedOf r (queueOf frame (now («load_entries» .entry)) (now («store_entries» .entry)))) (now (out .exit)) ⌝ }
+        (readiedOf r (queueOf frame (now («load_entries» .entry)) (now («store_entries» .entry)))) (now (out .exit))) ⌝ }
 {
-    if !sound_in(frame, load_entries, store_entries) {
+    if !sound_in(
+        outline,
+        groups,
+        load_places,
+        store_places,
+        load_entries,
+        store_entries,
+    ) {
         return ReadyCount {
             answer: UNSOUND,
             count: 0,
         };
     }
-    let found = servable_loads(frame, load_entries, store_entries);
+    let found = servable_loads(outline, load_entries, store_entries);
     hand_out(found, out)
 }
 
 // Ready stores on a queue's parts: 40, 10.
-pub fn ready_stores_in(
-    frame: Frame,
+pub fn ready_stores_in<'a>(
+    outline: Outline,
+    groups: &'a [u32; 16],
+    load_places: &'a [u16; 32],
+    store_places: &'a [u16; 32],
     load_entries: &[u64],
     store_entries: &[u64],
     out: &mut [u32],
 ) -> ReadyCount
-    ensures { λ r. ⌜ Readies (queueOf frame (now («load_entries» .entry)) (now («store_entries» .entry))) (now (out .entry))
+    ensures { λ r. ⌜ (let frame = frameOf outline (now (groups .entry)) (now («load_places» .entry)) (now («store_places» .entry)) in
+        Readies (queueOf frame (now («load_entries» .entry)) (now («store_entries» .entry))) (now (out .entry))
         (onParts (now («load_entries» .entry)) (now («store_entries» .entry))
         (readyStores (contentsOf (queueOf frame (now («load_entries» .entry)) (now («store_entries» .entry)))) (now (out .entry))))
-        (readiedOf r (queueOf frame (now («load_entries» .entry)) (now («store_entries» .entry)))) (now (out .exit)) ⌝ }
+        (readiedOf r (queueOf frame (now («load_entries» .entry)) (now («store_entries» .entry)))) (now (out .exit))) ⌝ }
 {
-    if !sound_in(frame, load_entries, store_entries) {
+    if !sound_in(
+        outline,
+        groups,
+        load_places,
+        store_places,
+        load_entries,
+        store_entries,
+    ) {
         return ReadyCount {
             answer: UNSOUND,
             count: 0,
         };
     }
-    let found = writable_stores(frame, load_entries, store_entries);
+    let found = writable_stores(outline, load_entries, store_entries);
     hand_out(found, out)
 }
 
@@ -200,7 +226,16 @@ impl Queue {
         let frame = self.frame;
         let load_entries = self.load_entries;
         let store_entries = self.store_entries;
-        let ready = ready_loads_in(frame, &load_entries, &store_entries, out);
+        let outline = outline_of(frame);
+        let ready = ready_loads_in(
+            outline,
+            &frame.table.groups,
+            &frame.table.loads,
+            &frame.table.stores,
+            &load_entries,
+            &store_entries,
+            out,
+        );
         Readied {
             answer: ready.answer,
             count: ready.count,
@@ -215,7 +250,16 @@ impl Queue {
         let frame = self.frame;
         let load_entries = self.load_entries;
         let store_entries = self.store_entries;
-        let ready = ready_stores_in(frame, &load_entries, &store_entries, out);
+        let outline = outline_of(frame);
+        let ready = ready_stores_in(
+            outline,
+            &frame.table.groups,
+            &frame.table.loads,
+            &frame.table.stores,
+            &load_entries,
+            &store_entries,
+            out,
+        );
         Readied {
             answer: ready.answer,
             count: ready.count,

@@ -2,23 +2,23 @@
 // with no such store it gets the memory word".
 ghost use mathlib.Core.Path.{_≡_};
 ghost use Prim.Native.Nat.{_≤_, _<_};
-ghost use mathlib.Core.Bool.{true};
 ghost use lib.ListN.{length};
+ghost use Rattle.table.specs.declared.Table.{Table};
 ghost use Rattle.queue.specs.Contents.{storeOf, contentsOf};
-ghost use Rattle.queue.specs.Sound.{sound};
 ghost use Rattle.queue.specs.Serve.{supplies, serve};
 ghost use Rattle.queue.specs.Outcome.{Serves};
 ghost use Rattle.queue.specs.ServeLent.{withCounts};
-ghost use Rattle.queue.specs.Parts.{queueOf, countedOf, onParts};
-ghost use Rattle.queue.specs.Internal.{storesIn, Whole};
+ghost use Rattle.queue.specs.Parts.{frameOf, queueOf, countedOf, onParts};
+ghost use Rattle.queue.specs.Internal.{storesIn, frameWith, Checked};
 ghost use Rattle.queue.specs.InternalServe.{wordFrom, supplyFrom, unserved, servedAs, Filled, serveAt};
 use crate::Counted;
 use crate::Counts;
 use crate::Entry;
-use crate::Frame;
 use crate::Outcome;
+use crate::Outline;
 use crate::Queue;
 use crate::Value;
+use crate::answering::outline_of;
 use crate::arguments::Argument;
 use crate::arguments::with_argument;
 use crate::counting::counted;
@@ -131,22 +131,22 @@ fn served(
     }
 }
 
-// Serve the load at a place: 25, 26, 27, 28, 29.
+// Serve the load at a place: 25, 26, 27, 28, 29. It does not read the table, so it speaks of every table.
 fn serve_at(
-    frame: Frame,
+    outline: Outline,
     load_entries: &mut [u64],
     store_entries: &[u64],
     memory: &[u32],
     counts: Counts,
     place: u32,
 ) -> Service
-    requires { ⌜ (sound (contentsOf (queueOf frame (now «load_entries») (now «store_entries»))) ≡ true) × (length (now memory) ≡ frame .words)
-        × Whole (now «load_entries») × Whole (now «store_entries») ⌝ }
-    ensures { λ r. ⌜ Serves (queueOf frame (now («load_entries» .entry)) (now («store_entries» .entry))) counts
+    requires { ⌜ Checked outline (now «load_entries») (now «store_entries») × (length (now memory) ≡ outline .words) ⌝ }
+    ensures { λ r. ⌜ ((table : Table) → let frame = frameWith table outline in
+        Serves (queueOf frame (now («load_entries» .entry)) (now («store_entries» .entry))) counts
         (serveAt (contentsOf (queueOf frame (now («load_entries» .entry)) (now («store_entries» .entry)))) (now (memory .entry)) place)
-        (countedOf r (queueOf frame (now («load_entries» .exit)) (now («store_entries» .entry)))) ⌝ }
+        (countedOf r (queueOf frame (now («load_entries» .exit)) (now («store_entries» .entry))))) ⌝ }
 {
-    let loads = frame.loads;
+    let loads = outline.loads;
     if loads.count as u32 <= place {
         return unserved(NO_SERIAL, counts);
     }
@@ -173,28 +173,39 @@ fn serve_at(
 }
 
 // Serve on a queue's parts: 40, 30, and then as `serve_at`.
-pub fn serve_in(
-    frame: Frame,
+pub fn serve_in<'a>(
+    outline: Outline,
+    groups: &'a [u32; 16],
+    load_places: &'a [u16; 32],
+    store_places: &'a [u16; 32],
     load_entries: &mut [u64],
     store_entries: &[u64],
     memory: &[u32],
     counts: Counts,
     serial: u32,
 ) -> Service
-    ensures { λ r. ⌜ Serves (queueOf frame (now («load_entries» .entry)) (now («store_entries» .entry))) counts
+    ensures { λ r. ⌜ (let frame = frameOf outline (now (groups .entry)) (now («load_places» .entry)) (now («store_places» .entry)) in
+        Serves (queueOf frame (now («load_entries» .entry)) (now («store_entries» .entry))) counts
         (onParts (now («load_entries» .entry)) (now («store_entries» .entry))
         (serve (contentsOf (queueOf frame (now («load_entries» .entry)) (now («store_entries» .entry)))) (now (memory .entry)) serial))
-        (countedOf r (queueOf frame (now («load_entries» .exit)) (now («store_entries» .entry)))) ⌝ }
+        (countedOf r (queueOf frame (now («load_entries» .exit)) (now («store_entries» .entry))))) ⌝ }
 {
-    if !sound_in(frame, load_entries, store_entries) {
+    if !sound_in(
+        outline,
+        groups,
+        load_places,
+        store_places,
+        load_entries,
+        store_entries,
+    ) {
         return unserved(UNSOUND, counts);
     }
-    if memory.len() != frame.words as usize {
+    if memory.len() != outline.words as usize {
         return unserved(WRONG_MEMORY, counts);
     }
-    let loads = frame.loads;
+    let loads = outline.loads;
     let place = place_of(loads.next, loads.count, serial);
-    serve_at(frame, load_entries, store_entries, memory, counts, place)
+    serve_at(outline, load_entries, store_entries, memory, counts, place)
 }
 
 impl Queue {
@@ -205,8 +216,12 @@ impl Queue {
         let frame = self.frame;
         let mut load_entries = self.load_entries;
         let store_entries = self.store_entries;
+        let outline = outline_of(frame);
         let service = serve_in(
-            frame,
+            outline,
+            &frame.table.groups,
+            &frame.table.loads,
+            &frame.table.stores,
             &mut load_entries,
             &store_entries,
             memory,

@@ -7,12 +7,13 @@ ghost use lib.ListN.{length};
 ghost use Rattle.table.specs.Basics.{all};
 ghost use Rattle.queue.specs.Contents.{contentsOf};
 ghost use Rattle.queue.specs.Sound.{depthRight, memoryRight, sound};
-ghost use Rattle.queue.specs.Parts.{queueOf, whole};
+ghost use Rattle.queue.specs.Parts.{frameOf, queueOf, whole};
 ghost use Rattle.queue.specs.Internal.{entriesIn, entryRight};
 use crate::Entry;
-use crate::Frame;
+use crate::Outline;
 use crate::Queue;
 use crate::Side;
+use crate::answering::outline_of;
 use crate::entries::unpack;
 use table::check::fault_in;
 
@@ -78,9 +79,16 @@ fn side_right(side: Side) -> bool
 
 // Are these the parts of a sound queue? A run that has not just 64 numbers is no side's places. The cheap tests come first: the
 // loops are safe only once the lengths and the counts are known, and the table takes longest.
-pub fn sound_in(frame: Frame, load_entries: &[u64], store_entries: &[u64]) -> bool
-    ensures { λ r. ⌜ r ≡ whole (now («load_entries» .entry)) (now («store_entries» .entry))
-        && sound (contentsOf (queueOf frame (now («load_entries» .entry)) (now («store_entries» .entry)))) ⌝ }
+pub fn sound_in<'a>(
+    outline: Outline,
+    groups: &'a [u32; 16],
+    load_places: &'a [u16; 32],
+    store_places: &'a [u16; 32],
+    load_entries: &[u64],
+    store_entries: &[u64],
+) -> bool
+    ensures { λ r. ⌜ (let frame = frameOf outline (now (groups .entry)) (now («load_places» .entry)) (now («store_places» .entry)) in r ≡ whole (now («load_entries» .entry)) (now («store_entries» .entry))
+        && sound (contentsOf (queueOf frame (now («load_entries» .entry)) (now («store_entries» .entry))))) ⌝ }
 {
     if load_entries.len() != 64 {
         return false;
@@ -88,29 +96,24 @@ pub fn sound_in(frame: Frame, load_entries: &[u64], store_entries: &[u64]) -> bo
     if store_entries.len() != 64 {
         return false;
     }
-    let loads = frame.loads;
-    let stores = frame.stores;
+    let loads = outline.loads;
+    let stores = outline.stores;
     if !side_right(loads) {
         return false;
     }
     if !side_right(stores) {
         return false;
     }
-    if !memory_right(frame.words as u32) {
+    if !memory_right(outline.words as u32) {
         return false;
     }
-    if !entries_right(load_entries, loads.count, frame.words, stores.count) {
+    if !entries_right(load_entries, loads.count, outline.words, stores.count) {
         return false;
     }
-    if !entries_right(store_entries, stores.count, frame.words, loads.count) {
+    if !entries_right(store_entries, stores.count, outline.words, loads.count) {
         return false;
     }
-    let fault = fault_in(
-        frame.table.count,
-        &frame.table.groups,
-        &frame.table.loads,
-        &frame.table.stores,
-    );
+    let fault = fault_in(outline.count, groups, load_places, store_places);
     fault == 0
 }
 
@@ -122,6 +125,14 @@ impl Queue {
         let frame = self.frame;
         let load_entries = self.load_entries;
         let store_entries = self.store_entries;
-        sound_in(frame, &load_entries, &store_entries)
+        let outline = outline_of(frame);
+        sound_in(
+            outline,
+            &frame.table.groups,
+            &frame.table.loads,
+            &frame.table.stores,
+            &load_entries,
+            &store_entries,
+        )
     }
 }

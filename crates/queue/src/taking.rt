@@ -3,13 +3,14 @@
 ghost use Rattle.queue.specs.Contents.{contentsOf};
 ghost use Rattle.queue.specs.Take.{take};
 ghost use Rattle.queue.specs.Outcome.{Takes};
-ghost use Rattle.queue.specs.Parts.{queueOf, outcomeOf, onParts};
-use crate::Frame;
+ghost use Rattle.queue.specs.Parts.{frameOf, queueOf, outcomeOf, onParts};
 use crate::Outcome;
+use crate::Outline;
 use crate::Queue;
 use crate::Value;
 use crate::answering::Step;
 use crate::answering::frame_after;
+use crate::answering::outline_of;
 use crate::answering::refused;
 use crate::entries::Mark;
 use crate::entries::oldest_without;
@@ -24,38 +25,54 @@ use crate::sound::sound_in;
 use crate::writing::settle;
 
 // Take on a queue's parts: 40, 22, 33, 34.
-pub fn take_in(frame: Frame, load_entries: &mut [u64], store_entries: &mut [u64], port: u32) -> Step
-    ensures { λ r. ⌜ Takes (queueOf frame (now («load_entries» .entry)) (now («store_entries» .entry)))
+pub fn take_in<'a>(
+    outline: Outline,
+    groups: &'a [u32; 16],
+    load_places: &'a [u16; 32],
+    store_places: &'a [u16; 32],
+    load_entries: &mut [u64],
+    store_entries: &mut [u64],
+    port: u32,
+) -> Step
+    ensures { λ r. ⌜ (let frame = frameOf outline (now (groups .entry)) (now («load_places» .entry)) (now («store_places» .entry)) in
+        Takes (queueOf frame (now («load_entries» .entry)) (now («store_entries» .entry)))
         (onParts (now («load_entries» .entry)) (now («store_entries» .entry))
         (take (contentsOf (queueOf frame (now («load_entries» .entry)) (now («store_entries» .entry)))) port))
-        (outcomeOf frame r (now («load_entries» .exit)) (now («store_entries» .exit))) ⌝ }
+        (outcomeOf frame r (now («load_entries» .exit)) (now («store_entries» .exit)))) ⌝ }
 {
-    if !sound_in(frame, load_entries, store_entries) {
-        return refused(UNSOUND, frame);
+    if !sound_in(
+        outline,
+        groups,
+        load_places,
+        store_places,
+        load_entries,
+        store_entries,
+    ) {
+        return refused(UNSOUND, outline);
     }
     let named = has_port(
-        frame.table.count,
-        &frame.table.groups,
-        &frame.table.loads,
-        &frame.table.stores,
+        outline.count,
+        groups,
+        load_places,
+        store_places,
         false,
         port,
     );
     if !named {
-        return refused(NO_PORT, frame);
+        return refused(NO_PORT, outline);
     }
-    let loads = frame.loads;
+    let loads = outline.loads;
     let at = oldest_without(load_entries, loads.count, port, Mark::Finished);
     if loads.count as usize <= at {
-        return refused(NONE_UNTAKEN, frame);
+        return refused(NONE_UNTAKEN, outline);
     }
     let mut load = unpack(load_entries[at]);
     if !load.filled {
-        return refused(NOT_SERVED, frame);
+        return refused(NOT_SERVED, outline);
     }
     load.finished = true;
     load_entries[at] = pack(load);
-    let left = settle(frame, load_entries, store_entries);
+    let left = settle(outline, load_entries, store_entries);
     let loads_left = left.loads;
     let stores_left = left.stores;
     Step {
@@ -74,7 +91,16 @@ impl Queue {
         let frame = self.frame;
         let mut load_entries = self.load_entries;
         let mut store_entries = self.store_entries;
-        let step = take_in(frame, &mut load_entries, &mut store_entries, port);
+        let outline = outline_of(frame);
+        let step = take_in(
+            outline,
+            &frame.table.groups,
+            &frame.table.loads,
+            &frame.table.stores,
+            &mut load_entries,
+            &mut store_entries,
+            port,
+        );
         let value = step.value;
         let after = frame_after(frame, step);
         let queue = Queue {

@@ -1,28 +1,28 @@
 // Writing stores, and how finished entries leave: "a written store puts its data in memory"; "after each write or take,
 // finished entries (stores written, loads taken) leave each side from its oldest end until an unfinished one is oldest".
 ghost use mathlib.Core.Path.{_≡_};
-ghost use mathlib.Core.Bool.{true};
 ghost use Prim.Native.Nat.{_+_, _≤_, _<_, _-_};
 ghost use lib.ListN.{length, getD};
 ghost use Rattle.table.specs.Basics.{all};
+ghost use Rattle.table.specs.declared.Table.{Table};
 ghost use Rattle.queue.specs.Entry.{entryOf};
 ghost use Rattle.queue.specs.Contents.{contentsOf};
 ghost use Rattle.queue.specs.Write.{leaving, settle, write};
-ghost use Rattle.queue.specs.Sound.{sound};
 ghost use Rattle.queue.specs.Ruled.{number};
 ghost use Rattle.queue.specs.Outcome.{Writes};
-ghost use Rattle.queue.specs.Parts.{queueOf, outcomeOf, onParts};
-ghost use Rattle.queue.specs.Internal.{entriesIn, finished, Whole};
+ghost use Rattle.queue.specs.Parts.{frameOf, queueOf, outcomeOf, onParts};
+ghost use Rattle.queue.specs.Internal.{entriesIn, finished, frameWith, Checked};
 ghost use Rattle.queue.specs.InternalWrite.{givesWay, Shifted, shorter, withSides, mayWriteAt, writeAt};
 use crate::Entry;
-use crate::Frame;
 use crate::Outcome;
+use crate::Outline;
 use crate::Queue;
 use crate::Side;
 use crate::Value;
 use crate::answering::Sides;
 use crate::answering::Step;
 use crate::answering::frame_after;
+use crate::answering::outline_of;
 use crate::answering::refused;
 use crate::entries::Mark;
 use crate::entries::has;
@@ -151,13 +151,14 @@ fn shorter(side: Side, gone: u8) -> Side
 }
 
 // Finished entries leave; one that stays forgets those of the other kind that left.
-pub(crate) fn settle(frame: Frame, load_entries: &mut [u64], store_entries: &mut [u64]) -> Sides
-    requires { ⌜ (frame .loads .count ≤ length (now «load_entries»)) × (frame .stores .count ≤ length (now «store_entries»)) ⌝ }
-    ensures { λ r. ⌜ contentsOf (queueOf (withSides frame r) (now («load_entries» .exit)) (now («store_entries» .exit)))
-        ≡ settle (contentsOf (queueOf frame (now («load_entries» .entry)) (now («store_entries» .entry)))) ⌝ }
+pub(crate) fn settle(outline: Outline, load_entries: &mut [u64], store_entries: &mut [u64]) -> Sides
+    requires { ⌜ (outline .loads .count ≤ length (now «load_entries»)) × (outline .stores .count ≤ length (now «store_entries»)) ⌝ }
+    ensures { λ r. ⌜ ((table : Table) → let frame = frameWith table outline in
+        contentsOf (queueOf (withSides frame r) (now («load_entries» .exit)) (now («store_entries» .exit)))
+        ≡ settle (contentsOf (queueOf frame (now («load_entries» .entry)) (now («store_entries» .entry))))) ⌝ }
 {
-    let loads = frame.loads;
-    let stores = frame.stores;
+    let loads = outline.loads;
+    let stores = outline.stores;
     let loads_gone = finished(load_entries, loads.count);
     let stores_gone = finished(store_entries, stores.count);
     let loads_left = shorter(loads, loads_gone);
@@ -170,34 +171,34 @@ pub(crate) fn settle(frame: Frame, load_entries: &mut [u64], store_entries: &mut
     }
 }
 
-// Write the store at a place: 25, 26, 27, 29, 31, 32.
+// Write the store at a place: 25, 26, 27, 29, 31, 32. It does not read the table, so it speaks of every table.
 fn write_at(
-    frame: Frame,
+    outline: Outline,
     load_entries: &mut [u64],
     store_entries: &mut [u64],
     memory: &mut [u32],
     place: u32,
 ) -> Step
-    requires { ⌜ (sound (contentsOf (queueOf frame (now «load_entries») (now «store_entries»))) ≡ true) × (length (now memory) ≡ frame .words)
-        × Whole (now «load_entries») × Whole (now «store_entries») ⌝ }
-    ensures { λ r. ⌜ Writes (queueOf frame (now («load_entries» .entry)) (now («store_entries» .entry))) (now (memory .entry))
+    requires { ⌜ Checked outline (now «load_entries») (now «store_entries») × (length (now memory) ≡ outline .words) ⌝ }
+    ensures { λ r. ⌜ ((table : Table) → let frame = frameWith table outline in
+        Writes (queueOf frame (now («load_entries» .entry)) (now («store_entries» .entry))) (now (memory .entry))
         (writeAt (contentsOf (queueOf frame (now («load_entries» .entry)) (now («store_entries» .entry)))) (now (memory .entry)) place)
-        (outcomeOf frame r (now («load_entries» .exit)) (now («store_entries» .exit))) (now (memory .exit)) ⌝ }
+        (outcomeOf frame r (now («load_entries» .exit)) (now («store_entries» .exit))) (now (memory .exit))) ⌝ }
 {
-    let stores = frame.stores;
+    let stores = outline.stores;
     if stores.count as u32 <= place {
-        return refused(NO_SERIAL, frame);
+        return refused(NO_SERIAL, outline);
     }
     let at = place as usize;
     let answer = write_fault(load_entries, store_entries, at);
     if answer != 0 {
-        return refused(answer, frame);
+        return refused(answer, outline);
     }
     let mut store = unpack(store_entries[at]);
     memory[store.address as usize] = store.word;
     store.finished = true;
     store_entries[at] = pack(store);
-    let left = settle(frame, load_entries, store_entries);
+    let left = settle(outline, load_entries, store_entries);
     let loads_left = left.loads;
     let stores_left = left.stores;
     Step {
@@ -209,27 +210,38 @@ fn write_at(
 }
 
 // Write on a queue's parts: 40, 30, and then as `write_at`.
-pub fn write_in(
-    frame: Frame,
+pub fn write_in<'a>(
+    outline: Outline,
+    groups: &'a [u32; 16],
+    load_places: &'a [u16; 32],
+    store_places: &'a [u16; 32],
     load_entries: &mut [u64],
     store_entries: &mut [u64],
     memory: &mut [u32],
     serial: u32,
 ) -> Step
-    ensures { λ r. ⌜ Writes (queueOf frame (now («load_entries» .entry)) (now («store_entries» .entry))) (now (memory .entry))
+    ensures { λ r. ⌜ (let frame = frameOf outline (now (groups .entry)) (now («load_places» .entry)) (now («store_places» .entry)) in
+        Writes (queueOf frame (now («load_entries» .entry)) (now («store_entries» .entry))) (now (memory .entry))
         (onParts (now («load_entries» .entry)) (now («store_entries» .entry))
         (write (contentsOf (queueOf frame (now («load_entries» .entry)) (now («store_entries» .entry)))) (now (memory .entry)) serial))
-        (outcomeOf frame r (now («load_entries» .exit)) (now («store_entries» .exit))) (now (memory .exit)) ⌝ }
+        (outcomeOf frame r (now («load_entries» .exit)) (now («store_entries» .exit))) (now (memory .exit))) ⌝ }
 {
-    if !sound_in(frame, load_entries, store_entries) {
-        return refused(UNSOUND, frame);
+    if !sound_in(
+        outline,
+        groups,
+        load_places,
+        store_places,
+        load_entries,
+        store_entries,
+    ) {
+        return refused(UNSOUND, outline);
     }
-    if memory.len() != frame.words as usize {
-        return refused(WRONG_MEMORY, frame);
+    if memory.len() != outline.words as usize {
+        return refused(WRONG_MEMORY, outline);
     }
-    let stores = frame.stores;
+    let stores = outline.stores;
     let place = place_of(stores.next, stores.count, serial);
-    write_at(frame, load_entries, store_entries, memory, place)
+    write_at(outline, load_entries, store_entries, memory, place)
 }
 
 impl Queue {
@@ -240,7 +252,17 @@ impl Queue {
         let frame = self.frame;
         let mut load_entries = self.load_entries;
         let mut store_entries = self.store_entries;
-        let step = write_in(frame, &mut load_entries, &mut store_entries, memory, serial);
+        let outline = outline_of(frame);
+        let step = write_in(
+            outline,
+            &frame.table.groups,
+            &frame.table.loads,
+            &frame.table.stores,
+            &mut load_entries,
+            &mut store_entries,
+            memory,
+            serial,
+        );
         let value = step.value;
         let after = frame_after(frame, step);
         let queue = Queue {

@@ -3,12 +3,12 @@ ghost use mathlib.Core.Path.{_≡_};
 ghost use Prim.Native.Nat.{_<_};
 ghost use lib.ListN.{length};
 ghost use Rattle.queue.specs.Records.{valueIn};
-ghost use Rattle.queue.specs.Parts.{queueOf, whole};
+ghost use Rattle.queue.specs.Parts.{frameOf, queueOf, whole};
 ghost use mathlib.Core.Bool.{true};
 ghost use Rattle.replay.specs.Playing.{givenIn, wordIn};
 ghost use Rattle.replay.specs.Internal.{Plays, playedOf, Put};
 use queue::Counts;
-use queue::Frame;
+use queue::Outline;
 use queue::Side;
 use queue::Value;
 use queue::activation::activate_in;
@@ -47,11 +47,11 @@ fn stepped(step: Step, counts: Counts) -> Played
 }
 
 // An event that moves neither side.
-fn unmoved(answer: u8, value: Value, frame: Frame, counts: Counts) -> Played
-    ensures { λ r. ⌜ r ≡ record { answer = answer; value = value; loads = frame .loads; stores = frame .stores; counts = counts } ⌝ }
+fn unmoved(answer: u8, value: Value, outline: Outline, counts: Counts) -> Played
+    ensures { λ r. ⌜ r ≡ record { answer = answer; value = value; loads = outline .loads; stores = outline .stores; counts = counts } ⌝ }
 {
-    let loads = frame.loads;
-    let stores = frame.stores;
+    let loads = outline.loads;
+    let stores = outline.stores;
     Played {
         answer,
         value,
@@ -62,8 +62,11 @@ fn unmoved(answer: u8, value: Value, frame: Frame, counts: Counts) -> Played
 }
 
 // Plays one event on a queue's parts, with the memory and the counts that the last one left.
-pub(crate) fn play_event(
-    frame: Frame,
+pub(crate) fn play_event<'a>(
+    outline: Outline,
+    groups: &'a [u32; 16],
+    load_places: &'a [u16; 32],
+    store_places: &'a [u16; 32],
     loads: &mut [u64],
     stores: &mut [u64],
     memory: &mut [u32],
@@ -71,31 +74,103 @@ pub(crate) fn play_event(
     event: Event,
 ) -> Played
     requires { ⌜ whole (now loads) (now stores) ≡ true ⌝ }
-    ensures { λ r. ⌜ Plays (queueOf frame (now (loads .entry)) (now (stores .entry))) counts (now (memory .entry)) event
-        (playedOf frame r (now (loads .exit)) (now (stores .exit))) (now (memory .exit)) ⌝ }
+    ensures { λ r. ⌜ (let frame = frameOf outline (now (groups .entry)) (now («load_places» .entry)) (now («store_places» .entry)) in
+        Plays (queueOf frame (now (loads .entry)) (now (stores .entry))) counts (now (memory .entry)) event
+        (playedOf frame r (now (loads .exit)) (now (stores .exit))) (now (memory .exit))) ⌝ }
 {
     match event {
-        Event::Activate { group } => stepped(activate_in(frame, loads, stores, group), counts),
+        Event::Activate { group } => stepped(
+            activate_in(
+                outline,
+                groups,
+                load_places,
+                store_places,
+                loads,
+                stores,
+                group,
+            ),
+            counts,
+        ),
         Event::LoadAddress { port, address } => {
-            let answer = load_address_in(frame, loads, stores, port, address);
-            unmoved(answer, Value::Nothing, frame, counts)
+            let answer = load_address_in(
+                outline,
+                groups,
+                load_places,
+                store_places,
+                loads,
+                stores,
+                port,
+                address,
+            );
+            unmoved(answer, Value::Nothing, outline, counts)
         }
         Event::StoreAddress { port, address } => {
-            let answer = store_address_in(frame, loads, stores, port, address);
-            unmoved(answer, Value::Nothing, frame, counts)
+            let answer = store_address_in(
+                outline,
+                groups,
+                load_places,
+                store_places,
+                loads,
+                stores,
+                port,
+                address,
+            );
+            unmoved(answer, Value::Nothing, outline, counts)
         }
         Event::StoreData { port, word } => {
-            let answer = store_data_in(frame, loads, stores, port, word);
-            unmoved(answer, Value::Nothing, frame, counts)
+            let answer = store_data_in(
+                outline,
+                groups,
+                load_places,
+                store_places,
+                loads,
+                stores,
+                port,
+                word,
+            );
+            unmoved(answer, Value::Nothing, outline, counts)
         }
         Event::Serve { serial } => {
-            let service = serve_in(frame, loads, stores, memory, counts, serial);
+            let service = serve_in(
+                outline,
+                groups,
+                load_places,
+                store_places,
+                loads,
+                stores,
+                memory,
+                counts,
+                serial,
+            );
             let value = service.value;
             let after = service.counts;
-            unmoved(service.answer, value, frame, after)
+            unmoved(service.answer, value, outline, after)
         }
-        Event::Write { serial } => stepped(write_in(frame, loads, stores, memory, serial), counts),
-        Event::Take { port } => stepped(take_in(frame, loads, stores, port), counts),
+        Event::Write { serial } => stepped(
+            write_in(
+                outline,
+                groups,
+                load_places,
+                store_places,
+                loads,
+                stores,
+                memory,
+                serial,
+            ),
+            counts,
+        ),
+        Event::Take { port } => stepped(
+            take_in(
+                outline,
+                groups,
+                load_places,
+                store_places,
+                loads,
+                stores,
+                port,
+            ),
+            counts,
+        ),
     }
 }
 

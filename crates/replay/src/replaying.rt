@@ -13,6 +13,7 @@ use crate::playing::put;
 use crate::preparing::prepare;
 use queue::Counts;
 use queue::Queue;
+use queue::answering::outline_of;
 use queue::refusal::WRONG_MEMORY;
 use table::EventRead;
 use table::Table;
@@ -57,7 +58,8 @@ fn play_all(
         (record { answers = now (answers .entry); given = now (given .entry); words = now (words .entry) }) r (now (memory .exit))
         (record { answers = now (answers .exit); given = now (given .exit); words = now (words .exit) }) ⌝ }
 {
-    let mut frame = queue.frame;
+    let frame = queue.frame;
+    let mut outline = outline_of(frame);
     let mut loads = queue.load_entries;
     let mut stores = queue.store_entries;
     let mut place = from;
@@ -67,13 +69,23 @@ fn play_all(
         let EventRead::Found(event, next) = read else {
             return played(i, counts);
         };
-        let step = play_event(frame, &mut loads, &mut stores, memory, counts, event);
+        let step = play_event(
+            outline,
+            &frame.table.groups,
+            &frame.table.loads,
+            &frame.table.stores,
+            &mut loads,
+            &mut stores,
+            memory,
+            counts,
+            event,
+        );
         let value = step.value;
         put(step.answer, value, i, answers, given, words);
         let loads_left = step.loads;
         let stores_left = step.stores;
-        frame.loads = loads_left;
-        frame.stores = stores_left;
+        outline.loads = loads_left;
+        outline.stores = stores_left;
         counts = step.counts;
         place = next;
         i += 1;

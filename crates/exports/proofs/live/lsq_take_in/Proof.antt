@@ -10,16 +10,18 @@ use Rattle.exports.proofs.live.lsq_take_in.Tie as tie
 returns : tie.Need-returns
 returns c =
     let k = c .before .before .before .before .before in
-    let a = k .before .before .before .before .before .args in
-    let q = queueOf (a .frame) (a .loads .now) (a .stores .now) in
-    let left = outcomeOf (a .frame) (k .take-in .result) (k .take-in .last .1 .0) (k .take-in .last .1 .1 .0) in
+    let o = k .before .before .before .before .before .before .before in
+    let a = o .before .before .before .args in
+    let q = queueOf (a .t1) (a .loads .now) (a .stores .now) in
+    let left = outcomeOf (a .t1) (k .take-in .result) (k .take-in .last .1 .1 .1 .1 .0) (k .take-in .last .1 .1 .1 .1 .1 .0) in
     let rule = onParts (a .loads .now) (a .stores .now) (take (contentsOf q) (a .port)) in
-    rw (c .live-step .ensures) (takes-tell q left rule (k .take-in .ensures))
+    rw (c .live-step .ensures) (takes-tell q left rule (rw (o .outline-of .ensures) at (k .take-in .ensures)))
 
 pub lsq-take-in-spec : {M : Type 1} → statement M
 lsq-take-in-spec =
     tie.close
     (tie.spec
+    (λ c κs. search needs)
     (λ c κs. search needs)
     (λ c κs. search needs)
     (λ c. search needs)

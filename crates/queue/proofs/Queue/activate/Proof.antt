@@ -22,12 +22,14 @@ activate-in-requires c κs = search needs
 returns : tie.Need-returns
 returns c =
     let k = c .before .before .before in
-    rw (c .frame-after .ensures) (rw (own (k .before .before .before .before .before .before)) at (k .activate-in .ensures))
+    let o = k .before .before .before .before .before .before .before in
+    rw (c .frame-after .ensures) (rw (own (o .before .before .before .before), o .outline-of .ensures) at (k .activate-in .ensures))
 
 pub activate-spec : {M : Type 1} → statement M
 activate-spec =
     tie.close
     (tie.spec
+    (λ c κs. search needs)
     slice-aggregate-activate-in
     slice-aggregate-activate-in-2
     activate-in-requires (λ c κs. search needs)

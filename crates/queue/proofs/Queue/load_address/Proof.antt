@@ -22,12 +22,14 @@ load-address-in-requires c κs = search needs
 returns : tie.Need-returns
 returns c =
     let k = c .before in
-    rw (own (k .before .before .before .before .before .before)) at (k .load-address-in .ensures)
+    let o = k .before .before .before .before .before .before .before in
+    rw (own (o .before .before .before .before), o .outline-of .ensures) at (k .load-address-in .ensures)
 
 pub load-address-spec : {M : Type 1} → statement M
 load-address-spec =
     tie.close
     (tie.spec
+    (λ c κs. search needs)
     slice-aggregate-load-address-in
     slice-aggregate-load-address-in-2
     load-address-in-requires

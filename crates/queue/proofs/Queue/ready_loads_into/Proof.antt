@@ -25,12 +25,14 @@ same-length c = search needs
 returns : tie.Need-returns
 returns c =
     let k = c .before .before in
-    rw (own (k .before .before .before .before .before .before .before .before)) at (k .ready-loads-in .ensures)
+    let o = k .before .before .before .before .before .before .before .before in
+    rw (own (o .before .before .before .before .before), o .outline-of .ensures) at (k .ready-loads-in .ensures)
 
 pub ready-loads-into-spec : {M : Type 1} → statement M
 ready-loads-into-spec =
     tie.close
     (tie.spec
+    (λ c κs. search needs)
     slice-aggregate-ready-loads-in
     slice-aggregate-ready-loads-in-2
     ready-loads-in-requires

@@ -25,12 +25,14 @@ same-length c = search needs
 returns : tie.Need-returns
 returns c =
     let k = c .before .before in
-    rw (own (k .before .before .before .before .before .before .before .before)) at (k .ready-stores-in .ensures)
+    let o = k .before .before .before .before .before .before .before .before in
+    rw (own (o .before .before .before .before .before), o .outline-of .ensures) at (k .ready-stores-in .ensures)
 
 pub ready-stores-into-spec : {M : Type 1} → statement M
 ready-stores-into-spec =
     tie.close
     (tie.spec
+    (λ c κs. search needs)
     slice-aggregate-ready-stores-in
     slice-aggregate-ready-stores-in-2
     ready-stores-in-requires

@@ -22,9 +22,10 @@ serve-in-requires c κs = search needs
 returns : tie.Need-returns
 returns c =
     let k = c .before .before in
-    rw (own (k .before .before .before .before .before .before .before)) at (k .serve-in .ensures)
+    let o = k .before .before .before .before .before .before .before in
+    rw (own (o .before .before .before .before .before), o .outline-of .ensures) at (k .serve-in .ensures)
 
 pub serve-counted-spec : {M : Type 1} → statement M
 serve-counted-spec =
     tie.close
-    (tie.spec slice-aggregate-serve-in slice-aggregate-serve-in-2 serve-in-requires returns)
+    (tie.spec (λ c κs. search needs) slice-aggregate-serve-in slice-aggregate-serve-in-2 serve-in-requires returns)

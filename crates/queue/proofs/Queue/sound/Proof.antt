@@ -20,9 +20,11 @@ sound-in-requires : tie.Need-sound-in-requires
 sound-in-requires c κs = search needs
 
 returns : tie.Need-returns
-returns c = rw (own (c .before .before .before .before .before .before)) at (c .sound-in .ensures)
+returns c =
+    let o = c .before .before .before .before .before .before .before in
+    rw (own (o .before .before .before .before), o .outline-of .ensures) at (c .sound-in .ensures)
 
 pub sound-spec : {M : Type 1} → statement M
 sound-spec =
     tie.close
-    (tie.spec slice-aggregate-sound-in slice-aggregate-sound-in-2 sound-in-requires returns)
+    (tie.spec (λ c κs. search needs) slice-aggregate-sound-in slice-aggregate-sound-in-2 sound-in-requires returns)

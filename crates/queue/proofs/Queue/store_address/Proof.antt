@@ -22,12 +22,14 @@ store-address-in-requires c κs = search needs
 returns : tie.Need-returns
 returns c =
     let k = c .before in
-    rw (own (k .before .before .before .before .before .before)) at (k .store-address-in .ensures)
+    let o = k .before .before .before .before .before .before .before in
+    rw (own (o .before .before .before .before), o .outline-of .ensures) at (k .store-address-in .ensures)
 
 pub store-address-spec : {M : Type 1} → statement M
 store-address-spec =
     tie.close
     (tie.spec
+    (λ c κs. search needs)
     slice-aggregate-store-address-in
     slice-aggregate-store-address-in-2
     store-address-in-requires

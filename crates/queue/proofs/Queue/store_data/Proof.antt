@@ -22,12 +22,14 @@ store-data-in-requires c κs = search needs
 returns : tie.Need-returns
 returns c =
     let k = c .before in
-    rw (own (k .before .before .before .before .before .before)) at (k .store-data-in .ensures)
+    let o = k .before .before .before .before .before .before .before in
+    rw (own (o .before .before .before .before), o .outline-of .ensures) at (k .store-data-in .ensures)
 
 pub store-data-spec : {M : Type 1} → statement M
 store-data-spec =
     tie.close
     (tie.spec
+    (λ c κs. search needs)
     slice-aggregate-store-data-in
     slice-aggregate-store-data-in-2
     store-data-in-requires

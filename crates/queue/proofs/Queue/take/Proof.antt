@@ -22,8 +22,9 @@ take-in-requires c κs = search needs
 returns : tie.Need-returns
 returns c =
     let k = c .before .before .before in
-    rw (c .frame-after .ensures) (rw (own (k .before .before .before .before .before .before)) at (k .take-in .ensures))
+    let o = k .before .before .before .before .before .before .before in
+    rw (c .frame-after .ensures) (rw (own (o .before .before .before .before), o .outline-of .ensures) at (k .take-in .ensures))
 
 pub take-spec : {M : Type 1} → statement M
 take-spec =
-    tie.close (tie.spec slice-aggregate-take-in slice-aggregate-take-in-2 take-in-requires (λ c κs. search needs) returns)
+    tie.close (tie.spec (λ c κs. search needs) slice-aggregate-take-in slice-aggregate-take-in-2 take-in-requires (λ c κs. search needs) returns)

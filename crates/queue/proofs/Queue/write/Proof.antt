@@ -25,12 +25,14 @@ same-length c = search needs
 returns : tie.Need-returns
 returns c =
     let k = c .before .before .before .before .before in
-    rw (c .frame-after .ensures) (rw (own (k .before .before .before .before .before .before .before .before)) at (k .write-in .ensures))
+    let o = k .before .before .before .before .before .before .before .before in
+    rw (c .frame-after .ensures) (rw (own (o .before .before .before .before .before), o .outline-of .ensures) at (k .write-in .ensures))
 
 pub write-spec : {M : Type 1} → statement M
 write-spec =
     tie.close
     (tie.spec
+    (λ c κs. search needs)
     slice-aggregate-write-in
     slice-aggregate-write-in-2
     write-in-requires (λ c κs. search needs)

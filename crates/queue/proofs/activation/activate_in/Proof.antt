@@ -2,13 +2,14 @@
 use Prim.Native.Nat.{_<_}
 use mathlib.Core.Path.{_≡_, refl, sym, ap, _∙_}
 use mathlib.Core.Bool.{true}
-use Rattle.queue.specs.Parts.{queueOf, outcomeOf}
+use Rattle.queue.specs.Parts.{frameOf, queueOf, outcomeOf}
 use Rattle.queue.proofs.PartsLaws.{Fit, fit, unfit}
 use borrow.Author.Needs.{needs}
 use borrow.Author.Tests.{not-true, not-false}
 use Rattle.table.specs.Group.{GroupPairs, pairsOf}
 use Rattle.table.proofs.CheckLaws.{group-inside}
 use Rattle.table.proofs.OrderOffsets.{GroupRight}
+use Rattle.queue.specs.declared.Frame.{Frame}
 use Rattle.queue.specs.declared.Queue.{Queue}
 use Rattle.queue.specs.declared.Outcome.{Outcome}
 use Rattle.queue.specs.declared.Value.the-variants.{Nothing}
@@ -27,12 +28,16 @@ use Rattle.queue.proofs.activation.activate_in.Tie as tie
 abbrev start : tie.After-sound-in → tie.Start
 start c = c .before .before .before .before .before
 
+-- the frame and the queue that were handed over in parts
+abbrev frame : tie.Start → Frame
+frame s = let a = s .args in frameOf (a .outline) (a .groups .now) (a .load-places .now) (a .store-places .now)
+
 abbrev queueIn : tie.Start → Queue
-queueIn s = queueOf (s .args .frame) (s .args .load-entries .now) (s .args .store-entries .now)
+queueIn s = queueOf (frame s) (s .args .load-entries .now) (s .args .store-entries .now)
 
 -- what is handed back where the entries are as they were
 abbrev unchanged : tie.Start → Step → Outcome
-unchanged s t = outcomeOf (s .args .frame) t (s .args .load-entries .now) (s .args .store-entries .now)
+unchanged s t = outcomeOf (frame s) t (s .args .load-entries .now) (s .args .store-entries .now)
 
 abbrev queue : tie.After-sound-in → Queue
 queue c = queueIn (start c)
@@ -43,23 +48,23 @@ good c = fit (queue (c .before)) (c .before .sound-in .ensures) (c .if1 .left)
 
 -- where a group was chosen: the sound queue
 abbrev checked : tie.After-group-at → tie.Else1
-checked g = g .before .before .before .before .before
+checked g = g .before .before .before
 
 abbrev begun : tie.After-group-at → tie.Start
 begun g = start (checked g .before)
 
 -- the group as it is meant
 abbrev meant : tie.After-group-at → GroupPairs
-meant g = pairsOf (begun g .args .frame .table .loads) (begun g .args .frame .table .stores) (g .group-at .result)
+meant g = pairsOf (frame (begun g) .table .loads) (frame (begun g) .table .stores) (g .group-at .result)
 
-below : (g : tie.After-group-at) → begun g .args .group < begun g .args .frame .table .count
-below g = g .before .before .before .if2 .left
+below : (g : tie.After-group-at) → begun g .args .group < frame (begun g) .table .count
+below g = g .before .if2 .left
 
 good-group : (g : tie.After-group-at) → GroupRight (meant g)
 good-group g =
     let s = begun g in
     let t = table-right (queueIn s) (good (checked g) .right) in
-    group-right (s .args .frame .table) (groups-few (s .args .frame .table) t) (s .args .group) (below g) (g .group-at .ensures) t
+    group-right (frame s .table) (groups-few (frame s .table) t) (s .args .group) (below g) (g .group-at .ensures) t
 
 rule : (g : tie.After-group-at) → let s = begun g in
     activate (contentsOf (queueIn s)) (s .args .group) ≡ need (room (contentsOf (queueIn s)) (meant g)) noPlace (accept (withGroup (contentsOf (queueIn s)) (meant g)))
@@ -75,7 +80,7 @@ place : (e : tie.Else3) → room (contentsOf (queueIn (begun (chosen (e .before)
 place e = has-place (e .before) ∙ not-false _ (e .if3 .left)
 
 fits : (e : tie.Else3) → let g = chosen (e .before) in let s = begun g in
-    PairsFit (s .args .frame .loads .count) (s .args .frame .table .loads) (g .group-at .result .loads) × PairsFit (s .args .frame .stores .count) (s .args .frame .table .stores) (g .group-at .result .stores)
+    PairsFit (frame s .loads .count) (frame s .table .loads) (g .group-at .result .loads) × PairsFit (frame s .stores .count) (frame s .table .stores) (g .group-at .result .stores)
 fits e =
     let g = chosen (e .before) in
     group-fits (queueIn (begun g)) (g .group-at .result) (group-inside _ _ (g .group-at .ensures)) (good (checked g) .right) (good-group g) (place e)
@@ -121,29 +126,29 @@ returns-3 c =
 
 append-requires : tie.Need-append-requires
 append-requires c κs =
-    let e = c .before .before .before .before .before in
+    let e = c .before .before .before in
     let g = chosen (e .before) in
     let s = begun g in
     (fits e .0, stores-few (queueIn s) (good (checked g) .right), good (checked g) .loads-whole)
 
 append-requires-2 : tie.Need-append-requires-2
 append-requires-2 c κs =
-    let e = c .before .before .before .before .before .before .before .before .before .before .before in
+    let e = c .before .before .before .before .before .before .before in
     let g = chosen (e .before) in
     let s = begun g in
     (fits e .1, loads-few (queueIn s) (good (checked g) .right), good (checked g) .stores-whole)
 
 longer-requires : tie.Need-longer-requires
-longer-requires c κs = fits (c .before .before .before .before .before .before .before .before .before .before .before .before .before .before) .0 .room
+longer-requires c κs = fits (c .before .before .before .before .before .before .before .before .before .before) .0 .room
 
 longer-requires-2 : tie.Need-longer-requires-2
-longer-requires-2 c κs = fits (c .before .before .before .before .before .before .before .before .before .before .before .before .before .before .before) .1 .room
+longer-requires-2 c κs = fits (c .before .before .before .before .before .before .before .before .before .before .before) .1 .room
 
 returns-4 : tie.Need-returns-4
 returns-4 c =
     let b = c .before .before .before .before in
-    let a = b .before .before .before .before .before .before in
-    let e = a .before .before .before .before .before .before in
+    let a = b .before .before .before .before in
+    let e = a .before .before .before .before in
     let g = chosen (e .before) in
     let s = begun g in
     rw (good (checked g) .full, rule g, place e)

@@ -10,7 +10,7 @@ use Rattle.queue.specs.declared.Queue.{Queue}
 use Rattle.queue.specs.declared.arguments.Argument.the-variants.{Address}
 use Rattle.queue.specs.Contents.{contentsOf}
 use Rattle.queue.specs.Arguments.{loadAddress, isLoadPort, loadLacksAddress, loadWithAddress}
-use Rattle.queue.specs.Parts.{queueOf}
+use Rattle.queue.specs.Parts.{frameOf, queueOf}
 use Rattle.queue.proofs.EntryLaws.{load-lacks-address}
 use Rattle.queue.proofs.SoundLaws.{table-right, words-most}
 use Rattle.queue.proofs.ArgumentLaws.{load-address-record, load-given}
@@ -26,7 +26,7 @@ start c = c .before .before .before .before
 abbrev queue : tie.After-sound-in → Queue
 queue c =
     let a = start c .args in
-    queueOf (a .t1) (a .load-entries .now) (a .store-entries .now)
+    queueOf (frameOf (a .outline) (a .groups .now) (a .load-places .now) (a .store-places .now)) (a .load-entries .now) (a .store-entries .now)
 
 -- the runs are whole and the queue is sound
 good : (c : tie.Else1) → Fit (queue (c .before))
@@ -34,12 +34,12 @@ good c = fit (queue (c .before)) (c .before .sound-in .ensures) (c .if1 .left)
 
 -- where the port was looked up
 abbrev sure : tie.After-has-port → tie.Else1
-sure c = c .before .before .before .before .before
+sure c = c .before
 
 port : (c : tie.Else2) → let p = sure (c .before) .before in any (isLoadPort (start p .args .port)) (groupsOf (queue p .frame .table)) ≡ true
 port c = sym (c .before .has-port .ensures) ∙ not-false _ (c .if2 .left)
 
-below : (c : tie.Else3) → let p = sure (c .before .before) .before in ltb (start p .args .address) (queue p .frame .words) ≡ true
+below : (c : tie.Else3) → let p = sure (c .before .before .before) .before in ltb (start p .args .address) (queue p .frame .words) ≡ true
 below c = lt-ltb _ _ (c .if3 .left)
 
 sound-in-requires : tie.Need-sound-in-requires
@@ -55,9 +55,7 @@ returns c =
     rw (unfit q (loadAddress (contentsOf q) (start s .args .port) (start s .args .address)) (c .before .sound-in .ensures) (c .if1 .taken) (λ e. rw (load-address-record q (start s .args .port) (start s .args .address), e)))
 
 has-port-requires : tie.Need-has-port-requires
-has-port-requires c κs =
-    let e = c .before .before .before .before in
-    groups-few (queue (e .before) .frame .table) (table-right (queue (e .before)) (good e .right))
+has-port-requires c κs = groups-few (queue (c .before) .frame .table) (table-right (queue (c .before)) (good c .right))
 
 same-length-2 : tie.Need-same-length-2
 same-length-2 c = search needs
@@ -77,17 +75,17 @@ same-length-3 c = search needs
 
 returns-3 : tie.Need-returns-3
 returns-3 c =
-    let p = c .before in
+    let p = c .before .before in
     let e = sure (p .before) in
     let s = e .before in
     rw (good e .full, load-address-record (queue s) (start s .args .port) (start s .args .address), good e .right, port p, le-ltb _ _ (c .if3 .taken))
 
-cast-t19 : tie.Need-cast-t19
-cast-t19 c = search needs
+cast-t17 : tie.Need-cast-t17
+cast-t17 c = search needs
 
 give-requires : tie.Need-give-requires
 give-requires c κs =
-    let e = sure (c .before .before .before .before) in
+    let e = sure (c .before .before .before .before .before) in
     good e .loads-room
 
 same-length-4 : tie.Need-same-length-4
@@ -97,7 +95,7 @@ returns-4 : tie.Need-returns-4
 returns-4 c =
     let g = c .before .before in
     let b = g .before .before .before in
-    let p = b .before in
+    let p = b .before .before in
     let e = sure (p .before) in
     let s = e .before in
     let q = queue s in
@@ -119,7 +117,7 @@ load-address-in-spec =
     cast-if3
     same-length-3
     returns-3
-    cast-t19
+    cast-t17
     give-requires
     same-length-4
     returns-4)

@@ -8,7 +8,7 @@ use Rattle.queue.specs.declared.Queue.{Queue}
 use Rattle.queue.specs.declared.arguments.Argument.the-variants.{Word}
 use Rattle.queue.specs.Contents.{contentsOf}
 use Rattle.queue.specs.Arguments.{storeData, isStorePort, storeLacksWord, storeWithWord}
-use Rattle.queue.specs.Parts.{queueOf}
+use Rattle.queue.specs.Parts.{frameOf, queueOf}
 use Rattle.queue.proofs.EntryLaws.{store-lacks-word}
 use Rattle.queue.proofs.SoundLaws.{table-right}
 use Rattle.queue.proofs.ArgumentLaws.{store-data-record, store-given}
@@ -24,7 +24,7 @@ start c = c .before .before .before .before
 abbrev queue : tie.After-sound-in → Queue
 queue c =
     let a = start c .args in
-    queueOf (a .t1) (a .load-entries .now) (a .store-entries .now)
+    queueOf (frameOf (a .outline) (a .groups .now) (a .load-places .now) (a .store-places .now)) (a .load-entries .now) (a .store-entries .now)
 
 -- the runs are whole and the queue is sound
 good : (c : tie.Else1) → Fit (queue (c .before))
@@ -32,7 +32,7 @@ good c = fit (queue (c .before)) (c .before .sound-in .ensures) (c .if1 .left)
 
 -- where the port was looked up
 abbrev sure : tie.After-has-port → tie.Else1
-sure c = c .before .before .before .before .before
+sure c = c .before
 
 port : (c : tie.Else2) → let p = sure (c .before) .before in any (isStorePort (start p .args .port)) (groupsOf (queue p .frame .table)) ≡ true
 port c = sym (c .before .has-port .ensures) ∙ not-false _ (c .if2 .left)
@@ -50,9 +50,7 @@ returns c =
     rw (unfit q (storeData (contentsOf q) (start s .args .port) (start s .args .word)) (c .before .sound-in .ensures) (c .if1 .taken) (λ e. rw (store-data-record q (start s .args .port) (start s .args .word), e)))
 
 has-port-requires : tie.Need-has-port-requires
-has-port-requires c κs =
-    let e = c .before .before .before .before in
-    groups-few (queue (e .before) .frame .table) (table-right (queue (e .before)) (good e .right))
+has-port-requires c κs = groups-few (queue (c .before) .frame .table) (table-right (queue (c .before)) (good c .right))
 
 same-length-2 : tie.Need-same-length-2
 same-length-2 c = search needs

@@ -2,7 +2,7 @@ use mathlib.Core.Path.{refl}
 use Rattle.queue.specs.declared.Queue.{Queue}
 use Rattle.queue.specs.Contents.{contentsOf}
 use Rattle.queue.specs.Ready.{readyLoads}
-use Rattle.queue.specs.Parts.{queueOf}
+use Rattle.queue.specs.Parts.{frameOf, queueOf}
 use Rattle.queue.proofs.ReadyLaws.{ready-loads-unsound, ready-loads-sound, handed}
 use Rattle.queue.proofs.PartsLaws.{Fit, fit, unfit}
 use borrow.Author.Needs.{needs}
@@ -13,7 +13,7 @@ abbrev start : tie.After-sound-in → tie.Start
 start c = c .before .before .before .before
 
 abbrev queue : tie.After-sound-in → Queue
-queue c = let a = start c .args in queueOf (a .frame) (a .load-entries .now) (a .store-entries .now)
+queue c = let a = start c .args in queueOf (frameOf (a .outline) (a .groups .now) (a .load-places .now) (a .store-places .now)) (a .load-entries .now) (a .store-entries .now)
 
 -- the runs are whole and the queue is sound
 good : (c : tie.Else1) → Fit (queue (c .before))
@@ -31,10 +31,10 @@ returns c =
     (record { outcome = refl; run-is = refl })
 
 servable-loads-requires : tie.Need-servable-loads-requires
-servable-loads-requires c κs = (good c .right, good c .loads-whole, good c .stores-whole)
+servable-loads-requires c κs = record { table = queue (c .before) .frame .table; right = good c .right; loads-whole = good c .loads-whole; stores-whole = good c .stores-whole }
 
 hand-out-requires : tie.Need-hand-out-requires
-hand-out-requires c κs = c .before .servable-loads .ensures .few
+hand-out-requires c κs = let e = c .before .before in c .before .servable-loads .ensures (queue (e .before) .frame .table) (good e .right) .few
 
 same-length : tie.Need-same-length
 same-length c = search needs
@@ -46,7 +46,7 @@ returns-2 c =
     let e = f .before in
     let q = queue (e .before) in
     rw (good e .full, ready-loads-sound (contentsOf q) (start (e .before) .args .out .now) (good e .right))
-    (handed q (f .servable-loads .ensures) (h .hand-out .ensures))
+    (handed q (f .servable-loads .ensures (q .frame .table) (good e .right)) (h .hand-out .ensures))
 
 pub ready-loads-in-spec : {M : Type 1} → statement M
 ready-loads-in-spec = tie.close (tie.spec sound-in-requires returns servable-loads-requires hand-out-requires same-length returns-2)

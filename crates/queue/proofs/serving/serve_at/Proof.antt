@@ -6,54 +6,59 @@ use mathlib.Core.Bool.{true}
 use lib.ListN.{length}
 use borrow.Author.Tests.{not-true, not-false}
 use borrow.Author.Needs.{needs}
+use Rattle.table.specs.declared.Table.{Table}
 use Rattle.queue.specs.declared.Entry.{Entry}
 use Rattle.queue.specs.declared.Queue.{Queue}
 use Rattle.queue.specs.declared.serving.Service.{Service}
 use Rattle.queue.specs.Contents.{contentsOf}
 use Rattle.queue.specs.Parts.{queueOf, countedOf}
+use Rattle.queue.specs.Internal.{frameWith}
 use Rattle.queue.specs.InternalServe.{serveAt}
 use Rattle.queue.proofs.SoundLaws.{loads-few, stores-few, load-before, load-address}
 use Rattle.queue.proofs.ServeLaws.{bySupply, serve-none, serve-done, serve-no-address, serve-supplied, served-well}
 use Rattle.queue.proofs.serving.serve_at.Statement.{statement}
 use Rattle.queue.proofs.serving.serve_at.Tie as tie
 
--- the queue that was handed over in parts
+-- the queue of these parts with a table, and with the one that it was checked with
+abbrev queueWith : Table → tie.Start → Queue
+queueWith t s = queueOf (frameWith t (s .args .outline)) (s .args .load-entries .now) (s .args .store-entries .now)
+
 abbrev queueIn : tie.Start → Queue
-queueIn s = queueOf (s .args .frame) (s .args .load-entries .now) (s .args .store-entries .now)
+queueIn s = queueWith (s .pre .0 .table) s
 
 abbrev start : tie.Else1 → tie.Start
 start c = c .before .before .before .before .before .before
 
-few : (s : tie.Start) → s .args .frame .loads .count ≤ 64
-few s = loads-few (queueIn s) (s .pre .0)
+few : (s : tie.Start) → s .args .outline .loads .count ≤ 64
+few s = loads-few (queueIn s) (s .pre .0 .right)
 
-room : (s : tie.Start) → s .args .frame .loads .count ≤ length (s .args .load-entries .now)
-room s = omega (arith, few s, s .pre .2)
+room : (s : tie.Start) → s .args .outline .loads .count ≤ length (s .args .load-entries .now)
+room s = omega (arith, few s, s .pre .0 .loads-whole)
 
 abbrev held : tie.After-unpack → tie.Else1
 held c = c .before .before
 
 -- the load at the place remembers no more stores than are held, and its address is one of the memory
-before-few : (c : tie.After-unpack) → c .unpack .result .before ≤ start (held c) .args .frame .stores .count
+before-few : (c : tie.After-unpack) → c .unpack .result .before ≤ start (held c) .args .outline .stores .count
 before-few c =
     let s = start (held c) in
-    subst (λ (e : Entry). e .before ≤ s .args .frame .stores .count) (sym (c .unpack .ensures)) (load-before (queueIn s) (s .pre .0) (s .args .place) (held c .if1 .left))
+    subst (λ (e : Entry). e .before ≤ s .args .outline .stores .count) (sym (c .unpack .ensures)) (load-before (queueIn s) (s .pre .0 .right) (s .args .place) (held c .if1 .left))
 
 in-memory : (c : tie.After-unpack) → c .unpack .result .addressed ≡ true → c .unpack .result .address < length (start (held c) .args .memory .now)
 in-memory c a =
     let s = start (held c) in
     rw (s .pre .1)
-    (subst (λ (e : Entry). e .addressed ≡ true → e .address < s .args .frame .words) (sym (c .unpack .ensures)) (load-address (queueIn s) (s .pre .0) (s .args .place) (held c .if1 .left)) a)
+    (subst (λ (e : Entry). e .addressed ≡ true → e .address < s .args .outline .words) (sym (c .unpack .ensures)) (load-address (queueIn s) (s .pre .0 .right) (s .args .place) (held c .if1 .left)) a)
 
-supplied : (c : tie.After-supply-for) → let u = c .before .before .before .before .before in let s = start (held u) in
-    serveAt (contentsOf (queueIn s)) (s .args .memory .now) (s .args .place) ≡ bySupply (contentsOf (queueIn s)) (s .args .memory .now) (s .args .place) (u .unpack .result .address) (c .supply-for .result)
-supplied c =
+supplied : (c : tie.After-supply-for) (t : Table) → let u = c .before .before .before .before .before in let s = start (held u) in
+    serveAt (contentsOf (queueWith t s)) (s .args .memory .now) (s .args .place) ≡ bySupply (contentsOf (queueWith t s)) (s .args .memory .now) (s .args .place) (u .unpack .result .address) (c .supply-for .result)
+supplied c t =
     let e3 = c .before .before in
     let e2 = e3 .before .before in
     let u = e2 .before in
     let s = start (held u) in
-    serve-supplied (queueIn s) (s .args .memory .now) (s .args .place) (held u .if1 .left) (u .unpack .result) (sym (u .unpack .ensures)) (e2 .if2 .left) (not-false (u .unpack .result .addressed) (e3 .if3 .left)) (before-few u)
-    ∙ ap (bySupply (contentsOf (queueIn s)) (s .args .memory .now) (s .args .place) (u .unpack .result .address)) (sym (c .supply-for .ensures))
+    serve-supplied (queueWith t s) (s .args .memory .now) (s .args .place) (held u .if1 .left) (u .unpack .result) (sym (u .unpack .ensures)) (e2 .if2 .left) (not-false (u .unpack .result .addressed) (e3 .if3 .left)) (before-few u)
+    ∙ ap (bySupply (contentsOf (queueWith t s)) (s .args .memory .now) (s .args .place) (u .unpack .result .address)) (sym (c .supply-for .ensures))
 
 cast-if1 : tie.Need-cast-if1
 cast-if1 c = search needs
@@ -62,9 +67,9 @@ unserved-requires : tie.Need-unserved-requires
 unserved-requires c κs = search needs
 
 returns : tie.Need-returns
-returns c =
+returns c t =
     let s = c .before .before .before .before .before .before .before in
-    rw (serve-none (queueIn s) (s .args .memory .now) (s .args .place) (c .before .if1 .taken)) (ap (λ (r : Service). countedOf r (queueIn s)) (c .unserved .ensures))
+    rw (serve-none (queueWith t s) (s .args .memory .now) (s .args .place) (c .before .if1 .taken)) (ap (λ (r : Service). countedOf r (queueWith t s)) (c .unserved .ensures))
 
 mul-unpack : tie.Need-mul-unpack
 mul-unpack c = search needs
@@ -79,20 +84,20 @@ unserved-requires-2 : tie.Need-unserved-requires-2
 unserved-requires-2 c κs = search needs
 
 returns-2 : tie.Need-returns-2
-returns-2 c =
+returns-2 c t =
     let u = c .before .before in
     let s = start (held u) in
-    rw (serve-done (queueIn s) (s .args .memory .now) (s .args .place) (held u .if1 .left) (u .unpack .result) (sym (u .unpack .ensures)) (c .before .if2 .taken)) (ap (λ (r : Service). countedOf r (queueIn s)) (c .unserved2 .ensures))
+    rw (serve-done (queueWith t s) (s .args .memory .now) (s .args .place) (held u .if1 .left) (u .unpack .result) (sym (u .unpack .ensures)) (c .before .if2 .taken)) (ap (λ (r : Service). countedOf r (queueWith t s)) (c .unserved2 .ensures))
 
 unserved-requires-3 : tie.Need-unserved-requires-3
 unserved-requires-3 c κs = search needs
 
 returns-3 : tie.Need-returns-3
-returns-3 c =
+returns-3 c t =
     let e2 = c .before .before .before in
     let u = e2 .before in
     let s = start (held u) in
-    rw (serve-no-address (queueIn s) (s .args .memory .now) (s .args .place) (held u .if1 .left) (u .unpack .result) (sym (u .unpack .ensures)) (e2 .if2 .left) (not-true (u .unpack .result .addressed) (c .before .if3 .taken))) (ap (λ (r : Service). countedOf r (queueIn s)) (c .unserved3 .ensures))
+    rw (serve-no-address (queueWith t s) (s .args .memory .now) (s .args .place) (held u .if1 .left) (u .unpack .result) (sym (u .unpack .ensures)) (e2 .if2 .left) (not-true (u .unpack .result .addressed) (c .before .if3 .taken))) (ap (λ (r : Service). countedOf r (queueWith t s)) (c .unserved3 .ensures))
 
 cast-supply-for : tie.Need-cast-supply-for
 cast-supply-for c = search needs
@@ -101,7 +106,7 @@ supply-for-requires : tie.Need-supply-for-requires
 supply-for-requires c κs =
     let u = c .before .before .before .before in
     let s = start (held u) in
-    le-trans (before-few u) (omega (arith, stores-few (queueIn s) (s .pre .0), s .pre .3))
+    le-trans (before-few u) (omega (arith, stores-few (queueIn s) (s .pre .0 .right), s .pre .0 .stores-whole))
 
 enum-told : tie.Need-enum-told
 enum-told c = search needs
@@ -144,34 +149,34 @@ served-requires-2 c κs =
     le-trans (held u .if1 .left) (room (start (held u)))
 
 returns-4 : tie.Need-returns-4
-returns-4 c =
+returns-4 c t =
     let m = c .before .before .before in
     let s = start (held (m .before .before .before .before .before)) in
-    rw (supplied m, c .before .enum-told .given .1) (ap (λ (r : Service). countedOf r (queueIn s)) (c .unserved4 .ensures))
+    rw (supplied m t, c .before .enum-told .given .1) (ap (λ (r : Service). countedOf r (queueWith t s)) (c .unserved4 .ensures))
 
 returns-5 : tie.Need-returns-5
-returns-5 c =
+returns-5 c t =
     let g = c .before .before in
     let m = g .before .before .before .before .before .before in
     let u = m .before .before .before .before .before in
     let s = start (held u) in
-    rw (supplied m, g .before .before .before .before .enum-told2 .given .1)
-    (served-well (queueIn s) (s .args .counts) (s .args .place) _ _ (s .pre .2) (few s) (held u .if1 .left) (g .served .ensures .0) (g .served .ensures .1))
+    rw (supplied m t, g .before .before .before .before .enum-told2 .given .1)
+    (served-well (queueWith t s) (s .args .counts) (s .args .place) _ _ (s .pre .0 .loads-whole) (few s) (held u .if1 .left) (g .served .ensures .0) (g .served .ensures .1))
 
 returns-6 : tie.Need-returns-6
-returns-6 c =
+returns-6 c t =
     let m = c .before .before .before in
     let s = start (held (m .before .before .before .before .before)) in
-    rw (supplied m, c .before .enum-told3 .given .1) (ap (λ (r : Service). countedOf r (queueIn s)) (c .unserved5 .ensures))
+    rw (supplied m t, c .before .enum-told3 .given .1) (ap (λ (r : Service). countedOf r (queueWith t s)) (c .unserved5 .ensures))
 
 returns-7 : tie.Need-returns-7
-returns-7 c =
+returns-7 c t =
     let g = c .before .before in
     let m = g .before .before .before .before .before in
     let u = m .before .before .before .before .before in
     let s = start (held u) in
-    rw (supplied m, g .before .before .before .word .given .1)
-    (served-well (queueIn s) (s .args .counts) (s .args .place) _ _ (s .pre .2) (few s) (held u .if1 .left) (g .served2 .ensures .0) (g .served2 .ensures .1))
+    rw (supplied m t, g .before .before .before .word .given .1)
+    (served-well (queueWith t s) (s .args .counts) (s .args .place) _ _ (s .pre .0 .loads-whole) (few s) (held u .if1 .left) (g .served2 .ensures .0) (g .served2 .ensures .1))
 
 same-length : tie.Need-same-length
 same-length c = search needs

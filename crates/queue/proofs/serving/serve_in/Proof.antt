@@ -1,7 +1,8 @@
 use mathlib.Core.Path.{ap}
-use Rattle.queue.specs.Parts.{queueOf, countedOf}
+use Rattle.queue.specs.Parts.{frameOf, queueOf, countedOf}
 use Rattle.queue.proofs.PartsLaws.{Fit, fit, unfit}
 use borrow.Author.Needs.{needs}
+use Rattle.queue.specs.declared.Frame.{Frame}
 use Rattle.queue.specs.declared.Queue.{Queue}
 use Rattle.queue.specs.declared.serving.Service.{Service}
 use Rattle.queue.specs.Contents.{contentsOf}
@@ -10,9 +11,12 @@ use Rattle.queue.proofs.ServeLaws.{serve-unsound, serve-memory, serve-p
 use Rattle.queue.proofs.serving.serve_in.Statement.{statement}
 use Rattle.queue.proofs.serving.serve_in.Tie as tie
 
--- the queue that was handed over in parts
+-- the frame and the queue that were handed over in parts
+abbrev frame : tie.Start → Frame
+frame s = let a = s .args in frameOf (a .outline) (a .groups .now) (a .load-places .now) (a .store-places .now)
+
 abbrev queueIn : tie.Start → Queue
-queueIn s = queueOf (s .args .frame) (s .args .load-entries .now) (s .args .store-entries .now)
+queueIn s = queueOf (frame s) (s .args .load-entries .now) (s .args .store-entries .now)
 
 abbrev start : tie.After-sound-in → tie.Start
 start c = c .before .before .before .before .before
@@ -56,7 +60,7 @@ serve-at-requires : tie.Need-serve-at-requires
 serve-at-requires c κs =
     let e2 = c .before .before .before in
     let e = e2 .before .before in
-    (good e .right, e2 .if2 .left, good e .loads-whole, good e .stores-whole)
+    (record { table = frame (start (e .before)) .table; right = good e .right; loads-whole = good e .loads-whole; stores-whole = good e .stores-whole }, e2 .if2 .left)
 
 returns-3 : tie.Need-returns-3
 returns-3 c =
@@ -65,7 +69,7 @@ returns-3 c =
     let e2 = p .before .before in
     let e = e2 .before .before in
     let s = start (e .before) in
-    rw (good e .full, serve-place (queueIn s) (s .args .memory .now) (s .args .serial) (good e .right) (e2 .if2 .left), ← p .place-of .ensures) (g .serve-at .ensures)
+    rw (good e .full, serve-place (queueIn s) (s .args .memory .now) (s .args .serial) (good e .right) (e2 .if2 .left), ← p .place-of .ensures) (g .serve-at .ensures (frame s .table))
 
 same-length : tie.Need-same-length
 same-length c = search needs

@@ -8,7 +8,7 @@ use borrow.Author.Tests.{not-true, not-false}
 use Rattle.table.specs.Basics.{all}
 use Rattle.queue.specs.declared.Queue.{Queue}
 use Rattle.queue.specs.Sound.{depthRight, memoryRight}
-use Rattle.queue.specs.Parts.{queueOf, whole}
+use Rattle.queue.specs.Parts.{frameOf, queueOf, whole}
 use Rattle.queue.specs.Internal.{entriesIn, entryRight}
 use Rattle.queue.proofs.SoundLaws.{sound-sides, side-few}
 use Rattle.queue.proofs.PartsLaws.{both-whole, loads-not-whole, stores-not-whole}
@@ -21,7 +21,7 @@ use Rattle.queue.proofs.sound.sound_in.Tie as tie
 abbrev queue : tie.After-side-right → Queue
 queue c =
     let a = c .before .before .before .before .before .before .before .args in
-    queueOf (a .t1) (a .load-entries .now) (a .store-entries .now)
+    queueOf (frameOf (a .outline) (a .groups .now) (a .load-places .now) (a .store-places .now)) (a .load-entries .now) (a .store-entries .now)
 
 -- the queue where each test was left behind
 abbrev at1 : tie.Else3 → Queue
@@ -31,7 +31,7 @@ abbrev at2 : tie.Else4 → Queue
 at2 c = at1 (c .before .before)
 
 abbrev at3 : tie.Else5 → Queue
-at3 c = at2 (c .before .before)
+at3 c = at2 (c .before .before .before)
 
 abbrev at4 : tie.Else6 → Queue
 at4 c = at3 (c .before .before)
@@ -92,30 +92,30 @@ memory-right-requires c κs = search needs
 
 returns-5 : tie.Need-returns-5
 returns-5 c =
-    let p = c .before .before in
+    let p = c .before .before .before in
     rw (full (p .before .before .before .before .before .before), sound-sides (at2 p), load-side (p .before .before), store-side p, sym (c .before .memory-right .ensures) ∙ not-true _ (c .if5 .taken))
 
 entries-right-requires : tie.Need-entries-right-requires
 entries-right-requires c κs =
-    let o = c .before .before .before .before in
+    let o = c .before .before .before .before .before in
     omega (arith, side-few (at1 o .frame .loads .depth) (at1 o .frame .loads .count) (load-side o), o .before .before .before .before .before .if1 .left)
 
 returns-6 : tie.Need-returns-6
 returns-6 c =
     let p = c .before .before in
-    let o = p .before .before in
+    let o = p .before .before .before in
     rw (full (o .before .before .before .before .before .before), sound-sides (at3 p), load-side (o .before .before), store-side o, memory p, sym (c .before .entries-right .ensures) ∙ not-true _ (c .if6 .taken))
 
 entries-right-requires-2 : tie.Need-entries-right-requires-2
 entries-right-requires-2 c κs =
-    let o = c .before .before .before .before in
+    let o = c .before .before .before .before .before in
     omega (arith, side-few (at2 o .frame .stores .depth) (at2 o .frame .stores .count) (store-side o), o .before .before .before .before .before .before .if2 .left)
 
 returns-7 : tie.Need-returns-7
 returns-7 c =
     let r = c .before .before in
     let p = r .before .before in
-    let o = p .before .before in
+    let o = p .before .before .before in
     rw (full (o .before .before .before .before .before .before), sound-sides (at4 r), load-side (o .before .before), store-side o, memory p, loads r, sym (c .before .entries-right2 .ensures) ∙ not-true _ (c .if7 .taken))
 
 fault-in-requires : tie.Need-fault-in-requires
@@ -123,10 +123,10 @@ fault-in-requires c κs = search needs
 
 returns-8 : tie.Need-returns-8
 returns-8 c =
-    let z = c .before .before .before .before .before in
+    let z = c .before in
     let r = z .before .before in
     let p = r .before .before in
-    let o = p .before .before in
+    let o = p .before .before .before in
     rw (full (o .before .before .before .before .before .before), sound-sides (at5 z), load-side (o .before .before), store-side o, memory p, loads r, stores z, c .fault-in .ensures)
 
 pub sound-in-spec : {M : Type 1} → statement M

@@ -13,7 +13,7 @@ use Rattle.queue.specs.Contents.{loadOf, loadIn, contentsOf, firstPlace}
 use Rattle.queue.specs.Arguments.{isLoadPort}
 use Rattle.queue.specs.Write.{settle}
 use Rattle.queue.specs.Take.{untaken, loadTaken, take}
-use Rattle.queue.specs.Parts.{queueOf}
+use Rattle.queue.specs.Parts.{frameOf, queueOf}
 use Rattle.queue.specs.Internal.{loadsIn, lacks}
 use Rattle.queue.proofs.EntryLaws.{done-number, load-untaken, side-place-same}
 use Rattle.queue.proofs.ContentsLaws.{load-anew}
@@ -31,7 +31,7 @@ start c = c .before .before .before .before .before
 abbrev queue : tie.After-sound-in → Queue
 queue c =
     let a = start c .args in
-    queueOf (a .t1) (a .load-entries .now) (a .store-entries .now)
+    queueOf (frameOf (a .outline) (a .groups .now) (a .load-places .now) (a .store-places .now)) (a .load-entries .now) (a .store-entries .now)
 
 -- the runs are whole and the queue is sound
 good : (c : tie.Else1) → Fit (queue (c .before))
@@ -39,7 +39,7 @@ good c = fit (queue (c .before)) (c .before .sound-in .ensures) (c .if1 .left)
 
 -- where the port was looked up, and where its oldest untaken load was
 abbrev sure : tie.After-has-port → tie.Else1
-sure c = c .before .before .before .before .before
+sure c = c .before
 
 abbrev known : tie.After-oldest-without → tie.Else2
 known c = c .before .before .before
@@ -89,9 +89,7 @@ returns c =
     rw (unfit q (take (contentsOf q) (start s .args .port)) (c .before .before .sound-in .ensures) (c .before .if1 .taken) (take-unsound q (start s .args .port)), c .refused .ensures)
 
 has-port-requires : tie.Need-has-port-requires
-has-port-requires c κs =
-    let e = c .before .before .before .before in
-    groups-few (queue (e .before) .frame .table) (table-right (queue (e .before)) (good e .right))
+has-port-requires c κs = groups-few (queue (c .before) .frame .table) (table-right (queue (c .before)) (good c .right))
 
 refused-requires-2 : tie.Need-refused-requires-2
 refused-requires-2 c κs = search needs
@@ -204,7 +202,7 @@ returns-5 c =
     (record {
       answer = refl;
       gives = refl;
-      holds = t .settle .ensures ∙ ap settle (load-anew q loadTaken (o .oldest-without .result) (w .pack .result) (good e .loads-room) (i .if3 .left) (taken w));
+      holds = t .settle .ensures (q .frame .table) ∙ ap settle (load-anew q loadTaken (o .oldest-without .result) (w .pack .result) (good e .loads-room) (i .if3 .left) (taken w));
     })
 
 pub take-in-spec : {M : Type 1} → statement M

@@ -2,7 +2,7 @@ use Prim.Native.Nat.{_≤_}
 use native.Mathlib.Omega.{arith}
 use borrow.Author.Needs.{needs}
 use Rattle.queue.specs.Entry.{entryOf}
-use Rattle.queue.specs.Internal.{finished}
+use Rattle.queue.specs.Internal.{finished, frameWith}
 use Rattle.queue.proofs.SettleLaws.{side-leaving, settle-sides}
 use Rattle.queue.proofs.writing.settle.Statement.{statement}
 use Rattle.queue.proofs.writing.settle.Tie as tie
@@ -11,15 +11,15 @@ abbrev start : tie.After-finished → tie.Start
 start f = f .before .before .before .before .before .before
 
 -- no more leave than are held
-loads-most : (f : tie.After-finished) → f .finished .result ≤ start f .args .frame .loads .count
+loads-most : (f : tie.After-finished) → f .finished .result ≤ start f .args .outline .loads .count
 loads-most f =
     let s = start f in
-    omega (arith, f .finished .ensures, side-leaving finished entryOf 0 (s .args .frame .loads .count) (s .args .load-entries .now))
+    omega (arith, f .finished .ensures, side-leaving finished entryOf 0 (s .args .outline .loads .count) (s .args .load-entries .now))
 
-stores-most : (f : tie.After-finished2) → f .finished2 .result ≤ start (f .before .before) .args .frame .stores .count
+stores-most : (f : tie.After-finished2) → f .finished2 .result ≤ start (f .before .before) .args .outline .stores .count
 stores-most f =
     let s = start (f .before .before) in
-    omega (arith, f .finished2 .ensures, side-leaving finished entryOf 0 (s .args .frame .stores .count) (s .args .store-entries .now))
+    omega (arith, f .finished2 .ensures, side-leaving finished entryOf 0 (s .args .outline .stores .count) (s .args .store-entries .now))
 
 finished-requires : tie.Need-finished-requires
 finished-requires c κs = search needs
@@ -50,7 +50,7 @@ same-length-2 : tie.Need-same-length-2
 same-length-2 c = search needs
 
 returns : tie.Need-returns
-returns c =
+returns c t =
     let d = c .before .before in
     let a = d .before .before .before .before in
     let b = a .before .before in
@@ -58,7 +58,7 @@ returns c =
     let s = b .shorter2 .ensures in
     let f = b .before .before in
     rw (l, s)
-    (settle-sides (start (f .before .before) .args .frame) (f .before .before .finished .ensures) (f .finished2 .ensures) (rw l at (a .shift .ensures)) (rw s at (d .shift2 .ensures)))
+    (settle-sides (frameWith t (start (f .before .before) .args .outline)) (f .before .before .finished .ensures) (f .finished2 .ensures) (rw l at (a .shift .ensures)) (rw s at (d .shift2 .ensures)))
 
 pub settle-spec : {M : Type 1} → statement M
 settle-spec =

@@ -5,6 +5,7 @@ use native.Mathlib.Omega.{arith}
 use mathlib.Core.Path.{_≡_, refl, sym, ap, _∙_}
 use lib.ListN.{length, getD, length-set}
 use borrow.Author.Needs.{needs}
+use Rattle.table.specs.declared.Table.{Table}
 use Rattle.queue.specs.declared.Entry.{Entry}
 use Rattle.queue.specs.declared.Queue.{Queue}
 use Rattle.queue.specs.declared.Outcome.{Outcome}
@@ -15,7 +16,7 @@ use Rattle.queue.specs.Ruled.{accept, andThen}
 use Rattle.queue.specs.Contents.{storeOf, storeIn, contentsOf}
 use Rattle.queue.specs.Write.{storeDone, settle}
 use Rattle.queue.specs.Parts.{queueOf, outcomeOf}
-use Rattle.queue.specs.Internal.{loadsIn, storesIn}
+use Rattle.queue.specs.Internal.{loadsIn, storesIn, frameWith}
 use Rattle.queue.specs.InternalWrite.{mayWriteAt, writtenWith, writeAt}
 use Rattle.queue.proofs.ContentsLaws.{store-anew}
 use Rattle.queue.proofs.EntryLaws.{done, done-number}
@@ -27,34 +28,38 @@ use Rattle.queue.proofs.writing.write_at.Tie as tie
 abbrev start : tie.Else1 → tie.Start
 start e = e .before .before .before .before .before .before
 
--- the queue, and the store at the place
+-- the queue of these parts with a table, and with the one that it was checked with
+abbrev queueWith : Table → tie.Start → Queue
+queueWith t s = queueOf (frameWith t (s .args .outline)) (s .args .load-entries .now) (s .args .store-entries .now)
+
 abbrev queue : tie.Start → Queue
-queue s = queueOf (s .args .frame) (s .args .load-entries .now) (s .args .store-entries .now)
+queue s = queueWith (s .pre .0 .table) s
 
 -- what is handed back where the entries are as they were
-abbrev unchanged : tie.Start → Step → Outcome
-unchanged s t = outcomeOf (s .args .frame) t (s .args .load-entries .now) (s .args .store-entries .now)
+abbrev unchanged : Table → tie.Start → Step → Outcome
+unchanged t s step = outcomeOf (frameWith t (s .args .outline)) step (s .args .load-entries .now) (s .args .store-entries .now)
 
+-- the store at the place
 abbrev store : tie.Start → Entry
 store s = entryOf (getD (s .args .store-entries .now) (s .args .place) 0)
 
-stores-room : (s : tie.Start) → s .args .frame .stores .count ≤ length (s .args .store-entries .now)
-stores-room s = omega (arith, stores-few (queue s) (s .pre .0), s .pre .3)
+stores-room : (s : tie.Start) → s .args .outline .stores .count ≤ length (s .args .store-entries .now)
+stores-room s = omega (arith, stores-few (queue s) (s .pre .0 .right), s .pre .0 .stores-whole)
 
-before-few : (e : tie.Else1) → store (start e) .before ≤ start e .args .frame .loads .count
-before-few e = let s = start e in store-before (queue s) (s .pre .0) (s .args .place) (e .if1 .left)
+before-few : (e : tie.Else1) → store (start e) .before ≤ start e .args .outline .loads .count
+before-few e = let s = start e in store-before (queue s) (s .pre .0 .right) (s .args .place) (e .if1 .left)
 
 placed : (e : tie.Else1) → start e .args .place < length (start e .args .store-entries .now)
 placed e = le-trans (e .if1 .left) (stores-room (start e))
 
-loads-room : (s : tie.Start) → s .args .frame .loads .count ≤ length (s .args .load-entries .now)
-loads-room s = omega (arith, loads-few (queue s) (s .pre .0), s .pre .2)
+loads-room : (s : tie.Start) → s .args .outline .loads .count ≤ length (s .args .load-entries .now)
+loads-room s = omega (arith, loads-few (queue s) (s .pre .0 .right), s .pre .0 .loads-whole)
 
 -- what the rule says, once the place is one of the queue
-held : (e : tie.Else1) → let s = start e in
-    writeAt (contentsOf (queue s)) (s .args .memory .now) (s .args .place)
-    ≡ andThen (mayWriteAt (s .args .load-entries .now) (s .args .store-entries .now) (s .args .place)) λ p. accept (writtenWith (contentsOf (queue s)) (s .args .memory .now) (s .args .place) p)
-held e = let s = start e in write-held (queue s) (s .args .memory .now) (s .args .place) (e .if1 .left) (before-few e)
+held : (e : tie.Else1) (t : Table) → let s = start e in
+    writeAt (contentsOf (queueWith t s)) (s .args .memory .now) (s .args .place)
+    ≡ andThen (mayWriteAt (s .args .load-entries .now) (s .args .store-entries .now) (s .args .place)) λ p. accept (writtenWith (contentsOf (queueWith t s)) (s .args .memory .now) (s .args .place) p)
+held e t = let s = start e in write-held (queueWith t s) (s .args .memory .now) (s .args .place) (e .if1 .left) (before-few e)
 
 -- what is put where
 puts : (c : tie.Else2) → let s = start (c .before .before .before .before) in
@@ -78,10 +83,10 @@ refused-requires : tie.Need-refused-requires
 refused-requires c κs = search needs
 
 returns : tie.Need-returns
-returns c =
+returns c table =
     let s = c .before .before .before .before .before .before .before in
-    rw (write-none (queue s) (s .args .memory .now) (s .args .place) (c .before .if1 .taken))
-    (record { outcome = ap (unchanged s) (c .refused .ensures); memory-is = refl })
+    rw (write-none (queueWith table s) (s .args .memory .now) (s .args .place) (c .before .if1 .taken))
+    (record { outcome = ap (unchanged table s) (c .refused .ensures); memory-is = refl })
 
 write-fault-requires : tie.Need-write-fault-requires
 write-fault-requires c κs =
@@ -93,12 +98,12 @@ refused-requires-2 : tie.Need-refused-requires-2
 refused-requires-2 c κs = search needs
 
 returns-2 : tie.Need-returns-2
-returns-2 c =
+returns-2 c table =
     let w = c .before .before in
     let e1 = w .before .before .before in
     let s = start e1 in
-    rw (held e1, refused-number (mayWriteAt (s .args .load-entries .now) (s .args .store-entries .now) (s .args .place)) (λ z. c .before .if2 .taken (w .write-fault .ensures ∙ z)), ← w .write-fault .ensures)
-    (record { outcome = ap (unchanged s) (c .refused2 .ensures); memory-is = refl })
+    rw (held e1 table, refused-number (mayWriteAt (s .args .load-entries .now) (s .args .store-entries .now) (s .args .place)) (λ z. c .before .if2 .taken (w .write-fault .ensures ∙ z)), ← w .write-fault .ensures)
+    (record { outcome = ap (unchanged table s) (c .refused2 .ensures); memory-is = refl })
 
 mul-unpack : tie.Need-mul-unpack
 mul-unpack c = search needs
@@ -120,7 +125,7 @@ slice-write-memory c =
     let e2 = c .before .before .before in
     let e1 = e2 .before .before .before .before in
     let s = start e1 in
-    rw (s .pre .1, c .before .unpack .ensures) (store-address (queue s) (s .pre .0) (s .args .place) (e1 .if1 .left) (puts e2 .addressed))
+    rw (s .pre .1, c .before .unpack .ensures) (store-address (queue s) (s .pre .0 .right) (s .args .place) (e1 .if1 .left) (puts e2 .addressed))
 
 pack-requires : tie.Need-pack-requires
 pack-requires c κs = search needs
@@ -147,16 +152,16 @@ same-length : tie.Need-same-length
 same-length c = search needs
 
 returns-3 : tie.Need-returns-3
-returns-3 c =
+returns-3 c table =
     let t = c .before .before .before .before .before .before in
     let p = t .before .before .before in
     let u = p .before .before in
     let e2 = u .before .before in
     let e1 = e2 .before .before .before .before in
     let s = start e1 in
-    rw (held e1, puts e2 .put)
+    rw (held e1 table, puts e2 .put)
     (record {
-      outcome = record { answer = refl {a = 0}; gives = refl {a = Nothing}; holds = t .settle .ensures ∙ ap settle (store-anew (queue s) storeDone (s .args .place) (p .pack .result) (stores-room s) (e1 .if1 .left) (put p)) };
+      outcome = record { answer = refl {a = 0}; gives = refl {a = Nothing}; holds = t .settle .ensures table ∙ ap settle (store-anew (queueWith table s) storeDone (s .args .place) (p .pack .result) (stores-room s) (e1 .if1 .left) (put p)) };
       memory-is = rw (u .unpack .ensures);
     })
 

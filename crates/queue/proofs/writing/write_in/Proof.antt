@@ -1,7 +1,8 @@
 use mathlib.Core.Path.{refl, ap}
-use Rattle.queue.specs.Parts.{queueOf, outcomeOf}
+use Rattle.queue.specs.Parts.{frameOf, queueOf, outcomeOf}
 use Rattle.queue.proofs.PartsLaws.{Fit, fit, unfit}
 use borrow.Author.Needs.{needs}
+use Rattle.queue.specs.declared.Frame.{Frame}
 use Rattle.queue.specs.declared.Queue.{Queue}
 use Rattle.queue.specs.declared.Outcome.{Outcome}
 use Rattle.queue.specs.declared.answering.Step.{Step}
@@ -14,12 +15,16 @@ use Rattle.queue.proofs.writing.write_in.Tie as tie
 abbrev start : tie.After-sound-in → tie.Start
 start c = c .before .before .before .before .before .before
 
+-- the frame and the queue that were handed over in parts
+abbrev frame : tie.Start → Frame
+frame s = let a = s .args in frameOf (a .outline) (a .groups .now) (a .load-places .now) (a .store-places .now)
+
 abbrev queueIn : tie.Start → Queue
-queueIn s = queueOf (s .args .frame) (s .args .load-entries .now) (s .args .store-entries .now)
+queueIn s = queueOf (frame s) (s .args .load-entries .now) (s .args .store-entries .now)
 
 -- what is handed back where the entries are as they were
 abbrev unchanged : tie.Start → Step → Outcome
-unchanged s t = outcomeOf (s .args .frame) t (s .args .load-entries .now) (s .args .store-entries .now)
+unchanged s t = outcomeOf (frame s) t (s .args .load-entries .now) (s .args .store-entries .now)
 
 abbrev queue : tie.After-sound-in → Queue
 queue c = queueIn (start c)
@@ -61,7 +66,7 @@ write-at-requires : tie.Need-write-at-requires
 write-at-requires c κs =
     let e2 = c .before .before .before .before .before in
     let e1 = e2 .before .before in
-    (good e1 .right, e2 .if2 .left, good e1 .loads-whole, good e1 .stores-whole)
+    (record { table = frame (start (e1 .before)) .table; right = good e1 .right; loads-whole = good e1 .loads-whole; stores-whole = good e1 .stores-whole }, e2 .if2 .left)
 
 same-length : tie.Need-same-length
 same-length c = search needs
@@ -73,7 +78,7 @@ returns-3 c =
     let e2 = p .before .before in
     let e1 = e2 .before .before in
     let s = start (e1 .before) in
-    rw (good e1 .full, write-place (queueIn s) (s .args .memory .now) (s .args .serial) (good e1 .right) (e2 .if2 .left), ← p .place-of .ensures) (w .write-at .ensures)
+    rw (good e1 .full, write-place (queueIn s) (s .args .memory .now) (s .args .serial) (good e1 .right) (e2 .if2 .left), ← p .place-of .ensures) (w .write-at .ensures (frame s .table))
 
 same-length-2 : tie.Need-same-length-2
 same-length-2 c = search needs

@@ -16,6 +16,7 @@ use crate::Queue;
 use crate::Side;
 use crate::Value;
 use crate::answering::Step;
+use crate::answering::accepted;
 use crate::answering::frame_after;
 use crate::answering::outline_of;
 use crate::answering::refused;
@@ -140,12 +141,7 @@ pub fn activate_in<'a>(
     );
     let more_loads = longer(loads, new_loads.count);
     let more_stores = longer(stores, new_stores.count);
-    Step {
-        answer: 0,
-        value: Value::Nothing,
-        loads: more_loads,
-        stores: more_stores,
-    }
+    accepted(Value::Nothing, more_loads, more_stores)
 }
 
 impl Queue {

@@ -37,6 +37,18 @@ pub(crate) fn refused(answer: u8, outline: Outline) -> Step
     }
 }
 
+// An accepted call: its value, and the sides that it left.
+pub(crate) fn accepted(value: Value, loads: Side, stores: Side) -> Step
+    ensures { λ r. ⌜ r ≡ record { answer = 0; value = value; loads = loads; stores = stores } ⌝ }
+{
+    Step {
+        answer: 0,
+        value,
+        loads,
+        stores,
+    }
+}
+
 // A frame's outline.
 pub fn outline_of(frame: Frame) -> Outline
     ensures { λ r. ⌜ r ≡ outlineOf frame ⌝ }

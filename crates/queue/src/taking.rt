@@ -9,6 +9,7 @@ use crate::Outline;
 use crate::Queue;
 use crate::Value;
 use crate::answering::Step;
+use crate::answering::accepted;
 use crate::answering::frame_after;
 use crate::answering::outline_of;
 use crate::answering::refused;
@@ -75,12 +76,7 @@ pub fn take_in<'a>(
     let left = settle(outline, load_entries, store_entries);
     let loads_left = left.loads;
     let stores_left = left.stores;
-    Step {
-        answer: 0,
-        value: Value::Word(load.word),
-        loads: loads_left,
-        stores: stores_left,
-    }
+    accepted(Value::Word(load.word), loads_left, stores_left)
 }
 
 impl Queue {

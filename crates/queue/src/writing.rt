@@ -21,6 +21,7 @@ use crate::Side;
 use crate::Value;
 use crate::answering::Sides;
 use crate::answering::Step;
+use crate::answering::accepted;
 use crate::answering::frame_after;
 use crate::answering::outline_of;
 use crate::answering::refused;
@@ -201,12 +202,7 @@ fn write_at(
     let left = settle(outline, load_entries, store_entries);
     let loads_left = left.loads;
     let stores_left = left.stores;
-    Step {
-        answer: 0,
-        value: Value::Nothing,
-        loads: loads_left,
-        stores: stores_left,
-    }
+    accepted(Value::Nothing, loads_left, stores_left)
 }
 
 // Write on a queue's parts: 40, 30, and then as `write_at`.

@@ -146,16 +146,17 @@ longer-requires-2 c κs = fits (c .before .before .before .before .before .befor
 
 returns-4 : tie.Need-returns-4
 returns-4 c =
-    let b = c .before .before .before .before in
+    let d = c .before in
+    let b = d .before .before .before .before in
     let a = b .before .before .before .before in
     let e = a .before .before .before .before in
     let g = chosen (e .before) in
     let s = begun g in
-    rw (good (checked g) .full, rule g, place e)
+    rw (good (checked g) .full, rule g, place e, c .accepted .ensures)
     (record {
       answer = refl {a = 0};
       gives = refl {a = Nothing};
-      holds = rw (c .before .longer .ensures, c .longer2 .ensures)
+      holds = rw (d .before .longer .ensures, d .longer2 .ensures)
           (appended-both (queueIn s) (g .group-at .result) (a .append .ensures) (b .append2 .ensures) ∙ with-group-is (contentsOf (queueIn s)) (meant g) (good-group g));
     })
 
@@ -206,7 +207,7 @@ activate-in-spec =
     append-requires
     append-requires-2
     longer-requires
-    longer-requires-2
+    longer-requires-2 (λ c κs. search needs)
     same-length-7
     same-length-8
     returns-4)

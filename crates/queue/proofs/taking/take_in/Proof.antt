@@ -179,17 +179,17 @@ settle-requires c κs =
 
 same-length-9 : tie.Need-same-length-9
 same-length-9 c =
-    let t = c .before .before .before .before .before .before in
+    let t = c .before .before .before .before .before .before .before in
     let w = t .before .before .before in
     let o = w .before .before .before .before .before .before .before in
-    c .before .before .before .before .before .load-entries .given ∙ length-set (queue (sure (known o .before) .before) .«load_entries») (o .oldest-without .result) (w .pack .result)
+    c .before .before .before .before .before .before .load-entries .given ∙ length-set (queue (sure (known o .before) .before) .«load_entries») (o .oldest-without .result) (w .pack .result)
 
 same-length-10 : tie.Need-same-length-10
 same-length-10 c = search needs
 
 returns-5 : tie.Need-returns-5
 returns-5 c =
-    let t = c .before .before .before .before .before .before in
+    let t = c .before .before .before .before .before .before .before in
     let w = t .before .before .before in
     let u = w .before .before .before in
     let i = u .before .before in
@@ -198,7 +198,7 @@ returns-5 c =
     let e = sure (p .before) in
     let s = e .before in
     let q = queue s in
-    rw (good e .full, take-served q (start s .args .port) (good e .right) (port p) (o .oldest-without .result) (place o) (i .if3 .left) (u .unpack .result) (sym (u .unpack .ensures)) (not-false (u .unpack .result .filled) (w .before .if4 .left)))
+    rw (good e .full, take-served q (start s .args .port) (good e .right) (port p) (o .oldest-without .result) (place o) (i .if3 .left) (u .unpack .result) (sym (u .unpack .ensures)) (not-false (u .unpack .result .filled) (w .before .if4 .left)), c .accepted .ensures)
     (record {
       answer = refl;
       gives = refl;
@@ -235,7 +235,7 @@ take-in-spec =
     pack-requires
     mul-load-entries
     slice-write-load-entries
-    settle-requires
+    settle-requires (λ c κs. search needs)
     same-length-9
     same-length-10
     returns-5)

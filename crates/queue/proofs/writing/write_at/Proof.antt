@@ -144,22 +144,22 @@ settle-requires c κs =
 
 same-length-4 : tie.Need-same-length-4
 same-length-4 c =
-    let p = c .before .before .before .before .before .before .before .before .before in
+    let p = c .before .before .before .before .before .before .before .before .before .before in
     let s = start (p .before .before .before .before .before .before .before .before) in
-    c .before .before .before .store-entries .given ∙ length-set (s .args .store-entries .now) (s .args .place) (p .pack .result)
+    c .before .before .before .before .store-entries .given ∙ length-set (s .args .store-entries .now) (s .args .place) (p .pack .result)
 
 same-length : tie.Need-same-length
 same-length c = search needs
 
 returns-3 : tie.Need-returns-3
 returns-3 c table =
-    let t = c .before .before .before .before .before .before in
+    let t = c .before .before .before .before .before .before .before in
     let p = t .before .before .before in
     let u = p .before .before in
     let e2 = u .before .before in
     let e1 = e2 .before .before .before .before in
     let s = start e1 in
-    rw (held e1 table, puts e2 .put)
+    rw (held e1 table, puts e2 .put, c .accepted .ensures)
     (record {
       outcome = record { answer = refl {a = 0}; gives = refl {a = Nothing}; holds = t .settle .ensures table ∙ ap settle (store-anew (queueWith table s) storeDone (s .args .place) (p .pack .result) (stores-room s) (e1 .if1 .left) (put p)) };
       memory-is = rw (u .unpack .ensures);
@@ -195,7 +195,7 @@ write-at-spec =
     pack-requires
     mul-store-entries
     slice-write-store-entries
-    settle-requires
+    settle-requires (λ c κs. search needs)
     same-length-3
     same-length-4
     same-length-5

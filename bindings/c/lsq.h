@@ -1,8 +1,11 @@
-/* The group-allocated load-store queue: the functions of libexports.a, which
- * `rt staticlib exports` writes to target/staticlib/, and a live queue on top.
+/* The group-allocated load-store queue: the functions of two libraries, which
+ * `rt staticlib exports` and `rt staticlib live` write to target/staticlib/, and
+ * a live queue on top. libexports.a has the replays, the text and the share;
+ * liblive.a the calls on a queue, and tables, numbers and events as bytes. A
+ * program links those that it calls.
  *
  * What is proved, and what is not. Every function that is declared here and
- * not defined is one of the library's: its whole outcome, for whatever it is
+ * not defined is one of the libraries': its whole outcome, for whatever it is
  * handed, is stated and proved. The `static inline` functions at the end, on an
  * lsq_queue, are plain C over those and are not proved; each is a few lines.
  *

@@ -1,4 +1,3 @@
 -- Laws that the functions' proofs cite.
 pub mod PreparedLaws
 pub mod ReplayLaws
-pub mod LiveLaws

@@ -1,7 +1,5 @@
--- What callers from C and Rust are promised: tables, traces and replays as bytes and numbers, and live calls on a queue's parts.
+-- What callers from C and Rust are promised: tables, traces and replays as bytes and numbers.
 pub mod Prepared
 pub mod Replay
 pub mod Text
-pub mod Live
-pub mod Bytes
 pub mod Internal

@@ -2,20 +2,8 @@
 use Prim.Native.Nat.{ℕ}
 use mathlib.Core.List.{List}
 use lib.ListN.{length}
-use Rattle.table.specs.Number.{Got, got, bad}
-use Rattle.table.specs.Group.{GroupPairs}
-use Rattle.table.specs.TableBytes.{readTable}
 use Rattle.queue.specs.Ruled.{Ruled, refuse, accept, andThen}
-use Rattle.replay.specs.Replay.{Start, prepare}
-
--- what was read, or the refusal
-abbrev pub ruled : {A : Type 0} → Got A → Ruled A
-ruled (got a rest) = accept a
-ruled (bad n) = refuse n
-
--- the groups of a table's bytes, or the table's refusal
-abbrev pub tableIn : List ℕ → Ruled (List GroupPairs)
-tableIn table = ruled (readTable table)
+use Rattle.replay.specs.Replay.{Start, tableIn, prepare}
 
 -- a table and a trace made ready: the table's refusal; then that of the leading numbers, of opening, or of an event
 abbrev pub prepared : List ℕ → List ℕ → Ruled Start

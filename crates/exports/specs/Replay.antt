@@ -6,9 +6,8 @@ use lib.ListN.{length, getD}
 use Rattle.table.specs.Refusal.{tooShort}
 use Rattle.queue.specs.declared.Counts.{Counts}
 use Rattle.queue.specs.Ruled.{Ruled, refuse, accept, need, andThen}
-use Rattle.replay.specs.Replay.{Replay, Buffers, replay}
+use Rattle.replay.specs.Replay.{Replay, Buffers, tableIn, replay}
 use Rattle.replay.specs.Outcome.{over, logIn}
-use Rattle.exports.specs.Prepared.{tableIn}
 
 -- all that is lent: the memory, the counts as a run of numbers, and the buffers for answers and values
 pub record Lent : Type 0 where

@@ -20,9 +20,6 @@ use table::Written;
 use table::read::read_table;
 use table::refusal::TOO_SHORT;
 
-pub mod bytes;
-pub mod live;
-
 // Reads the table and makes the trace ready.
 fn make_ready(table: &[u8], trace: &[u8]) -> Prepared
     ensures { λ r. ⌜ Tells (prepared (now (table .entry)) (now (trace .entry))) r ⌝ }

@@ -4,7 +4,7 @@ use Prim.Native.Nat.{ℕ, _+_}
 use native.Mathlib.Nat.{zero-add, add-zero, add-suc, suc-add}
 use native.Mathlib.Numerals.{add-one}
 use mathlib.Core.Path.{_≡_, refl, sym, _∙_}
-use mathlib.Core.Bool.{Bool, true, false, _&&_}
+use mathlib.Core.Bool.{Bool, true, false}
 use mathlib.Core.List.{List, [], _∷_}
 use lib.ListN.{drop}
 use Rattle.table.specs.Basics.{any, all}
@@ -28,32 +28,6 @@ module _ {B : Type 0} {p : B → Bool} {l : List B} {i : ℕ} (w : AllYet p l i)
 
   pub all-end : drop i l ≡ [] → true ≡ all p l
   all-end e = rw (w .is, e)
-
--- ---- the same for a walk that goes on to the end and keeps what it has found
-pub record AllKept {B : Type 0} (p : B → Bool) (l : List B) (i : ℕ) (right : Bool) : Type 0 where
-  pub is : all p l ≡ (right && all p (drop i l))
-
-pub kept-none : {B : Type 0} {p : B → Bool} {l : List B} → AllKept p l 0 true
-kept-none = record { is = refl }
-
-never : (b : Bool) → (b && false) ≡ false
-never true = refl
-never false = refl
-
-always : (b : Bool) → b ≡ (b && true)
-always true = refl
-always false = refl
-
-module _ {B : Type 0} {p : B → Bool} {l : List B} {i : ℕ} {right : Bool} (w : AllKept p l i right) where
-  module _ {x : B} (here : drop i l ≡ x ∷ drop (i + 1) l) where
-    pub kept-on : p x ≡ true → AllKept p l (i + 1) right
-    kept-on e = record { is = w .is ∙ rw (here, e) }
-
-    pub kept-off : p x ≡ false → AllKept p l (i + 1) false
-    kept-off e = record { is = w .is ∙ rw (here, e) (never right) }
-
-  pub kept-end : drop i l ≡ [] → right ≡ all p l
-  kept-end e = rw (w .is, e) (always right)
 
 -- ---- no entry passes
 pub record NoneYet {B : Type 0} (p : B → Bool) (l : List B) (i : ℕ) : Type 0 where

@@ -50,25 +50,21 @@ fn entry_right(entry: Entry, words: u16, others: u8) -> bool
     true
 }
 
-// Is every entry held right? Each is looked at, with no way out of the loop on the way: so two can be looked at at a time,
-// and nearly every record is right.
+// Is every entry held right?
 fn entries_right(entries: &[u64], held: u8, words: u16, others: u8) -> bool
     requires { ⌜ held ≤ length (now entries) ⌝ }
     ensures { λ r. ⌜ r ≡ all (entryRight words others) (entriesIn held (now (entries .entry))) ⌝ }
 {
     let count = held as usize;
-    let mut right = true;
     let mut i: usize = 0;
     while i < count {
         let entry = unpack(entries[i]);
-        if entry_right(entry, words, others) {
-            i += 1;
-        } else {
-            right = false;
-            i += 1;
+        if !entry_right(entry, words, others) {
+            return false;
         }
+        i += 1;
     }
-    right
+    true
 }
 
 // A depth within its limits, and no more entries than it.

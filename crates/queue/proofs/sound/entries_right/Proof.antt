@@ -1,22 +1,22 @@
--- What the walk has found so far, with what is still ahead, is whether every entry is right.
 use Prim.Native.Nat.{_+_, _≤_, _-_}
 use mathlib.Core.Path.{_≡_, sym, _∙_}
 use mathlib.Core.List.{_∷_}
 use native.Mathlib.Omega.{arith}
 use lib.ListN.{drop}
 use borrow.Author.Needs.{needs}
+use borrow.Author.Tests.{not-true, not-false}
 use Rattle.queue.specs.Entry.{entryOf}
 use Rattle.queue.specs.Internal.{entryRight, entriesIn}
 use Rattle.queue.proofs.ContentsLaws.{side-here, side-end}
-use Rattle.queue.proofs.WalkLaws.{AllKept, kept-none, kept-on, kept-off, kept-end}
+use Rattle.queue.proofs.WalkLaws.{AllYet, all-none, all-on, all-stop, all-end}
 use Rattle.queue.proofs.sound.entries_right.Statement.{statement}
 use Rattle.queue.proofs.sound.entries_right.Tie as tie
 
 abbrev Inv-loop : tie.InvT-loop
-Inv-loop entries held words others count right₀ i₀ right i = (i ≤ held) × AllKept (entryRight words others) (entriesIn held entries) i right
+Inv-loop entries held words others count i₀ i = (i ≤ held) × AllYet (entryRight words others) (entriesIn held entries) i
 
 abbrev μ-loop : tie.MeasureT-loop
-μ-loop entries held words others count right₀ i₀ right i = count - i
+μ-loop entries held words others count i₀ i = count - i
 
 here : (c : tie.After-entry-right Inv-loop μ-loop) → let l = c .before .before .before in let s = l .before .before .before in
     drop (l .before .loop .i) (entriesIn (s .args .held) (s .args .entries .now)) ≡ c .before .unpack .result ∷ drop (l .before .loop .i + 1) (entriesIn (s .args .held) (s .args .entries .now))
@@ -25,16 +25,37 @@ here c =
     let s = l .before .before .before in
     rw (c .before .unpack .ensures) (side-here entryOf 0 (s .args .held) (s .args .entries .now) (l .before .loop .i) (l .loop-test .taken))
 
-loop-again : tie.Need-loop-again Inv-loop μ-loop
-loop-again c = (omega arith, kept-on (c .before .before .before .before .before .loop .inv .1) (here (c .before)) (sym (c .before .entry-right .ensures) ∙ c .if1 .taken))
+loop-holds : tie.Need-loop-holds Inv-loop μ-loop
+loop-holds c = (search needs, all-none)
 
-loop-again-2 : tie.Need-loop-again-2 Inv-loop μ-loop
-loop-again-2 c = (omega arith, kept-off (c .before .before .before .before .before .loop .inv .1) (here (c .before)) (sym (c .before .entry-right .ensures) ∙ c .if1 .left))
+mul-unpack : tie.Need-mul-unpack Inv-loop μ-loop
+mul-unpack c = omega arith
+
+shared-slice-read-unpack : tie.Need-shared-slice-read-unpack Inv-loop μ-loop
+shared-slice-read-unpack c = omega arith
+
+unpack-requires : tie.Need-unpack-requires Inv-loop μ-loop
+unpack-requires c κs = search needs
+
+entry-right-requires : tie.Need-entry-right-requires Inv-loop μ-loop
+entry-right-requires c κs = search needs
 
 returns : tie.Need-returns Inv-loop μ-loop
-returns c =
+returns c = all-stop (c .before .before .before .before .before .loop .inv .1) (here (c .before)) (sym (c .before .entry-right .ensures) ∙ not-true _ (c .if1 .taken))
+
+add-i : tie.Need-add-i Inv-loop μ-loop
+add-i c = omega arith
+
+loop-less : tie.Need-loop-less Inv-loop μ-loop
+loop-less c = omega arith
+
+loop-again : tie.Need-loop-again Inv-loop μ-loop
+loop-again c = (omega arith, all-on (c .before .before .before .before .before .loop .inv .1) (here (c .before)) (sym (c .before .entry-right .ensures) ∙ not-false _ (c .if1 .left)))
+
+returns-2 : tie.Need-returns-2 Inv-loop μ-loop
+returns-2 c =
     let s = c .before .before .before in
-    kept-end (c .before .loop .inv .1) (side-end entryOf 0 (s .args .held) (s .args .entries .now) (c .before .loop .i) (c .loop-test .left))
+    all-end (c .before .loop .inv .1) (side-end entryOf 0 (s .args .held) (s .args .entries .now) (c .before .loop .i) (c .loop-test .left))
 
 pub entries-right-spec : {M : Type 1} → statement M
 entries-right-spec =
@@ -42,15 +63,13 @@ entries-right-spec =
     (tie.spec
     Inv-loop
     μ-loop
-    (λ c. (search needs, kept-none))
-    (λ c. omega arith)
-    (λ c. omega arith)
-    (λ c κs. search needs)
-    (λ c κs. search needs)
-    (λ c. omega arith)
-    (λ c. omega arith)
+    loop-holds
+    mul-unpack
+    shared-slice-read-unpack
+    unpack-requires
+    entry-right-requires
+    returns
+    add-i
+    loop-less
     loop-again
-    (λ c. omega arith)
-    (λ c. omega arith)
-    loop-again-2
-    returns)
+    returns-2)

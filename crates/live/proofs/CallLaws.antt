@@ -1,0 +1,62 @@
+-- What a call on a queue's parts gives, told as numbers.
+use Prim.Native.Nat.{ℕ}
+use mathlib.Core.Path.{_≡_, refl, ap, _∙_}
+use mathlib.Core.List.{List, []}
+use Rattle.table.specs.declared.Table.{Table}
+use Rattle.table.specs.Refusal.{badGroupCount}
+use Rattle.table.specs.Table.{groupsOf, tableFault}
+use Rattle.table.specs.TableBytes.{pack}
+use Rattle.queue.specs.declared.opening.OpenedFrame.{OpenedFrame}
+use Rattle.queue.specs.NoQueue.{noFrame}
+use Rattle.queue.specs.Open.{openQueue}
+use Rattle.queue.specs.Parts.{OpensFrame}
+use Rattle.queue.specs.declared.Queue.{Queue}
+use Rattle.queue.specs.declared.Frame.{Frame}
+use Rattle.queue.specs.declared.Counts.{Counts}
+use Rattle.queue.specs.declared.Outcome.{Outcome}
+use Rattle.queue.specs.declared.Counted.{Counted}
+use Rattle.queue.specs.declared.Value.{Value}
+use Rattle.queue.specs.Ruled.{Ruled, refuse, accept, andThen}
+use Rattle.queue.specs.Contents.{Contents}
+use Rattle.queue.specs.Serve.{Served}
+use Rattle.queue.specs.Write.{Written}
+use Rattle.queue.specs.Take.{Taken}
+use Rattle.queue.specs.Records.{valueIn}
+use Rattle.queue.specs.Outcome.{Accepted, Moves, Takes, Writes, Serves}
+use Rattle.replay.specs.Playing.{givenIn, wordIn, afterServe}
+use Rattle.live.specs.Calls as Live
+use Rattle.live.specs.Calls.{Gives, Told, Tells, moved, took, written, served, memoryAfter, toldOf, toldServed}
+
+accepted-tells : {v : Value} {q : Contents} {o : Outcome} → Accepted v q o → Live.Accepted (record { value = valueIn v; queue = q }) (toldOf o)
+accepted-tells a = record { answer = a .answer; given = ap (λ (x : Value). givenIn (valueIn x)) (a .gives); value = ap (λ (x : Value). wordIn (valueIn x)) (a .gives); holds = a .holds }
+
+module _ (q : Queue) (o : Outcome) where
+  pub moves-tell : (rule : Ruled Contents) → Moves q rule o → Tells q (andThen rule moved) (toldOf o)
+  moves-tell (refuse n) e = ap toldOf e
+  moves-tell (accept c) a = accepted-tells a
+
+  pub takes-tell : (rule : Ruled Taken) → Takes q rule o → Tells q (andThen rule took) (toldOf o)
+  takes-tell (refuse n) e = ap toldOf e
+  takes-tell (accept t) a = accepted-tells a
+
+  pub writes-tell : (lent left : List ℕ) (rule : Ruled Written) → Writes q lent rule o left → Tells q (andThen rule written) (toldOf o) × (left ≡ memoryAfter lent rule)
+  writes-tell lent left (refuse n) u = (ap toldOf (u .outcome), u .memory-is)
+  writes-tell lent left (accept w) a = (accepted-tells (a .outcome), a .memory-is)
+
+pub serves-tell : (q : Queue) (c : Counts) (o : Counted) (rule : Ruled Served) → Serves q c rule o → Tells q (andThen rule served) (toldServed o) × (o .counts ≡ afterServe c rule)
+serves-tell q c o (refuse n) e = (ap toldServed e, ap (λ (x : Counted). x .counts) e)
+serves-tell q c o (accept s) a = (
+  record { answer = a .answer; given = ap (λ (x : Value). givenIn (valueIn x)) (a .gives); value = ap (λ (x : Value). wordIn (valueIn x)) (a .gives); holds = a .holds },
+  a .counts,
+)
+
+-- ---- opening
+-- the table of no groups opens nothing
+no-table-opens : (a b c d : ℕ) → openQueue (groupsOf (pack [])) a b c d ≡ refuse badGroupCount
+unfolding openQueue tableFault
+no-table-opens a b c d = refl
+
+pub no-table-no-frame : (fresh : Frame) (a b c d : ℕ) (o : OpenedFrame) (t : Table) → t ≡ pack [] → OpensFrame fresh (openQueue (groupsOf t) a b c d) o → o .frame ≡ noFrame
+no-table-no-frame fresh a b c d o t e w =
+    let is : openQueue (groupsOf t) a b c d ≡ refuse badGroupCount = ap (λ (x : Table). openQueue (groupsOf x) a b c d) e ∙ no-table-opens a b c d in
+    ap (λ (x : OpenedFrame). x .frame) (rw is at w)

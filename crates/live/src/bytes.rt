@@ -1,0 +1,88 @@
+// For C and Rust: a table read into its record, and tables, events and numbers written to lent buffers.
+ghost use mathlib.Core.Path.{_≡_};
+ghost use Rattle.table.specs.Number.{numberBytes, wrote};
+ghost use Rattle.table.specs.Table.{groupsOf};
+ghost use Rattle.table.specs.TableBytes.{readTable, tableAnswer, wroteTable};
+ghost use Rattle.table.specs.Event.{wroteEventOf};
+ghost use Rattle.live.specs.Bytes.{bytesWritten, tableFound};
+use table::Table;
+use table::Written;
+use table::number::write_number;
+use table::read::read_table;
+use table::trace::write_event_of;
+use table::write::write_table;
+
+// What writing hands back: 0 and how many bytes were written, or the refusal and 0.
+#[repr(C)]
+pub struct BytesWritten {
+    pub answer: u32,
+    pub count: u64,
+}
+
+// What reading a table hands back: 0 and the table, or the refusal and the table of no groups, which means nothing.
+#[repr(C)]
+pub struct TableFound {
+    pub answer: u32,
+    pub table: Table,
+}
+
+// The numbers of a writer's answer.
+fn bytes_written(written: Written) -> BytesWritten
+    ensures { λ r. ⌜ r ≡ bytesWritten written ⌝ }
+{
+    match written {
+        Written::Bytes(n) => BytesWritten {
+            answer: 0,
+            count: n as u64,
+        },
+        Written::Unwritten(number) => BytesWritten {
+            answer: number as u32,
+            count: 0,
+        },
+    }
+}
+
+// Reads a table: 1 to 9.
+#[no_mangle]
+pub extern "C" fn lsq_read_table(bytes: &[u8]) -> TableFound
+    ensures { λ r. ⌜ r ≡ tableFound (tableAnswer (readTable (now (bytes .entry)))) ⌝ }
+{
+    let read = read_table(bytes);
+    let table = read.table;
+    TableFound {
+        answer: read.answer as u32,
+        table,
+    }
+}
+
+// Writes a table at the front of a buffer: 4, 5, 8, 6, 7, then 10.
+#[no_mangle]
+pub extern "C" fn lsq_write_table(table: Table, out: &mut [u8]) -> BytesWritten
+    ensures { λ r. ⌜ (r ≡ bytesWritten (wroteTable (groupsOf table) (now (out .entry)) .answer)) × (now (out .exit) ≡ wroteTable (groupsOf table) (now (out .entry)) .buffer) ⌝ }
+{
+    let written = write_table(table, out);
+    bytes_written(written)
+}
+
+// Writes an event, by its kind and its numbers, at the front of a buffer: 35, then 10.
+#[no_mangle]
+pub extern "C" fn lsq_write_event(
+    kind: u32,
+    first: u32,
+    second: u32,
+    out: &mut [u8],
+) -> BytesWritten
+    ensures { λ r. ⌜ (r ≡ bytesWritten (wroteEventOf kind first second (now (out .entry)) .answer)) × (now (out .exit) ≡ wroteEventOf kind first second (now (out .entry)) .buffer) ⌝ }
+{
+    let written = write_event_of(kind, first, second, out);
+    bytes_written(written)
+}
+
+// Writes a number at the front of a buffer, in the fewest bytes: 10.
+#[no_mangle]
+pub extern "C" fn lsq_write_number(value: u32, out: &mut [u8]) -> BytesWritten
+    ensures { λ r. ⌜ (r ≡ bytesWritten (wrote (numberBytes value) (now (out .entry)) .answer)) × (now (out .exit) ≡ wrote (numberBytes value) (now (out .entry)) .buffer) ⌝ }
+{
+    let written = write_number(value, out);
+    bytes_written(written)
+}

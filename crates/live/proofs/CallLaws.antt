@@ -24,11 +24,17 @@ use Rattle.queue.specs.Take.{Taken}
 use Rattle.queue.specs.Records.{valueIn}
 use Rattle.queue.specs.Outcome.{Accepted, Moves, Takes, Writes, Serves}
 use Rattle.replay.specs.Playing.{givenIn, wordIn, afterServe}
+use Rattle.live.specs.Internal.{toldOf, toldServed}
 use Rattle.live.specs.Calls as Live
-use Rattle.live.specs.Calls.{Gives, Told, Tells, moved, took, written, served, memoryAfter, toldOf, toldServed}
+use Rattle.live.specs.Calls.{Tells, moved, took, written, served, memoryAfter}
 
 accepted-tells : {v : Value} {q : Contents} {o : Outcome} → Accepted v q o → Live.Accepted (record { value = valueIn v; queue = q }) (toldOf o)
-accepted-tells a = record { answer = a .answer; given = ap (λ (x : Value). givenIn (valueIn x)) (a .gives); value = ap (λ (x : Value). wordIn (valueIn x)) (a .gives); holds = a .holds }
+accepted-tells a = record {
+  answer = a .answer;
+  given = ap (λ (x : Value). givenIn (valueIn x)) (a .gives);
+  value = ap (λ (x : Value). wordIn (valueIn x)) (a .gives);
+  holds = a .holds;
+}
 
 module _ (q : Queue) (o : Outcome) where
   pub moves-tell : (rule : Ruled Contents) → Moves q rule o → Tells q (andThen rule moved) (toldOf o)
@@ -39,11 +45,13 @@ module _ (q : Queue) (o : Outcome) where
   takes-tell (refuse n) e = ap toldOf e
   takes-tell (accept t) a = accepted-tells a
 
-  pub writes-tell : (lent left : List ℕ) (rule : Ruled Written) → Writes q lent rule o left → Tells q (andThen rule written) (toldOf o) × (left ≡ memoryAfter lent rule)
+  pub writes-tell : (lent left : List ℕ) (rule : Ruled Written) → Writes q lent rule o left
+      → Tells q (andThen rule written) (toldOf o) × (left ≡ memoryAfter lent rule)
   writes-tell lent left (refuse n) u = (ap toldOf (u .outcome), u .memory-is)
   writes-tell lent left (accept w) a = (accepted-tells (a .outcome), a .memory-is)
 
-pub serves-tell : (q : Queue) (c : Counts) (o : Counted) (rule : Ruled Served) → Serves q c rule o → Tells q (andThen rule served) (toldServed o) × (o .counts ≡ afterServe c rule)
+pub serves-tell : (q : Queue) (c : Counts) (o : Counted) (rule : Ruled Served) → Serves q c rule o
+    → Tells q (andThen rule served) (toldServed o) × (o .counts ≡ afterServe c rule)
 serves-tell q c o (refuse n) e = (ap toldServed e, ap (λ (x : Counted). x .counts) e)
 serves-tell q c o (accept s) a = (
   record { answer = a .answer; given = ap (λ (x : Value). givenIn (valueIn x)) (a .gives); value = ap (λ (x : Value). wordIn (valueIn x)) (a .gives); holds = a .holds },
@@ -56,7 +64,8 @@ no-table-opens : (a b c d : ℕ) → openQueue (groupsOf (pack [])) a b c d ≡ 
 unfolding openQueue tableFault
 no-table-opens a b c d = refl
 
-pub no-table-no-frame : (fresh : Frame) (a b c d : ℕ) (o : OpenedFrame) (t : Table) → t ≡ pack [] → OpensFrame fresh (openQueue (groupsOf t) a b c d) o → o .frame ≡ noFrame
+pub no-table-no-frame : (fresh : Frame) (a b c d : ℕ) (o : OpenedFrame) (t : Table) → t ≡ pack []
+    → OpensFrame fresh (openQueue (groupsOf t) a b c d) o → o .frame ≡ noFrame
 no-table-no-frame fresh a b c d o t e w =
     let is : openQueue (groupsOf t) a b c d ≡ refuse badGroupCount = ap (λ (x : Table). openQueue (groupsOf x) a b c d) e ∙ no-table-opens a b c d in
     ap (λ (x : OpenedFrame). x .frame) (rw is at w)

@@ -9,19 +9,13 @@ use Rattle.table.specs.TableBytes.{pack}
 use Rattle.queue.specs.declared.Queue.{Queue}
 use Rattle.queue.specs.declared.Frame.{Frame}
 use Rattle.queue.specs.declared.Counts.{Counts}
-use Rattle.queue.specs.declared.Outcome.{Outcome}
-use Rattle.queue.specs.declared.Counted.{Counted}
 use Rattle.queue.specs.declared.Readied.{Readied}
-use Rattle.queue.specs.declared.answering.Step.{Step}
-use Rattle.queue.specs.declared.serving.Service.{Service}
-use Rattle.queue.specs.declared.opening.OpenedFrame.{OpenedFrame}
 use Rattle.queue.specs.Ruled.{Ruled, refuse, accept, andThen}
 use Rattle.queue.specs.Contents.{Contents, contentsOf}
 use Rattle.queue.specs.Open.{openQueue}
 use Rattle.queue.specs.Serve.{Served}
 use Rattle.queue.specs.Write.{Written}
 use Rattle.queue.specs.Take.{Taken}
-use Rattle.queue.specs.Records.{valueIn}
 use Rattle.queue.specs.NoQueue.{freshFrame}
 use Rattle.queue.specs.Parts.{queueOf, OpensFrame}
 use Rattle.replay.specs.Playing.{givenIn, wordIn}
@@ -42,7 +36,9 @@ packedIn (accept gs) = pack gs
 
 abbrev pub LiveOpens : List ℕ → ℕ → ℕ → ℕ → ℕ → LiveOpened → Type 0
 LiveOpens table loadDepth storeDepth first words r =
-    OpensFrame (freshFrame (packedIn (tableIn table)) loadDepth storeDepth first words) (openBytes table loadDepth storeDepth first words) (record { answer = r .answer; frame = r .frame })
+    OpensFrame (freshFrame (packedIn (tableIn table)) loadDepth storeDepth first words)
+    (openBytes table loadDepth storeDepth first words)
+    (record { answer = r .answer; frame = r .frame })
 
 -- What a live call tells: its answer, 1 or 0 as it gave a value or none, the value or 0, and the queue that its parts are left as.
 pub record Told : Type 0 where
@@ -97,16 +93,3 @@ memoryAfter lent (accept w) = w .memory
 
 abbrev pub readiedOf : LiveReady → Queue → Readied
 readiedOf r q = record { answer = r .answer; count = r .count; queue = q }
-
--- ---- how the numbers for C come of what the queue's calls give
-abbrev pub liveStep : Step → LiveStep
-liveStep s = record { answer = s .answer; given = givenIn (valueIn (s .value)); value = wordIn (valueIn (s .value)); loads = s .loads; stores = s .stores }
-
-abbrev pub liveService : Service → LiveService
-liveService s = record { answer = s .answer; given = givenIn (valueIn (s .value)); value = wordIn (valueIn (s .value)); counts = s .counts }
-
-abbrev pub toldOf : Outcome → Told
-toldOf o = record { answer = o .answer; given = givenIn (valueIn (o .value)); value = wordIn (valueIn (o .value)); queue = o .queue }
-
-abbrev pub toldServed : Counted → Told
-toldServed o = record { answer = o .answer; given = givenIn (valueIn (o .value)); value = wordIn (valueIn (o .value)); queue = o .queue }

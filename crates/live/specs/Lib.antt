@@ -1,3 +1,4 @@
 -- What callers from C and Rust are promised of live calls on a queue's parts, and of tables, events and numbers as bytes.
 pub mod Calls
 pub mod Bytes
+pub mod Internal

@@ -58,7 +58,8 @@ pub extern "C" fn lsq_read_table(bytes: &[u8]) -> TableFound
 // Writes a table at the front of a buffer: 4, 5, 8, 6, 7, then 10.
 #[no_mangle]
 pub extern "C" fn lsq_write_table(table: Table, out: &mut [u8]) -> BytesWritten
-    ensures { λ r. ⌜ (r ≡ bytesWritten (wroteTable (groupsOf table) (now (out .entry)) .answer)) × (now (out .exit) ≡ wroteTable (groupsOf table) (now (out .entry)) .buffer) ⌝ }
+    ensures { λ r. ⌜ (let done = wroteTable (groupsOf table) (now (out .entry)) in
+        (r ≡ bytesWritten (done .answer)) × (now (out .exit) ≡ done .buffer)) ⌝ }
 {
     let written = write_table(table, out);
     bytes_written(written)
@@ -72,7 +73,8 @@ pub extern "C" fn lsq_write_event(
     second: u32,
     out: &mut [u8],
 ) -> BytesWritten
-    ensures { λ r. ⌜ (r ≡ bytesWritten (wroteEventOf kind first second (now (out .entry)) .answer)) × (now (out .exit) ≡ wroteEventOf kind first second (now (out .entry)) .buffer) ⌝ }
+    ensures { λ r. ⌜ (let done = wroteEventOf kind first second (now (out .entry)) in
+        (r ≡ bytesWritten (done .answer)) × (now (out .exit) ≡ done .buffer)) ⌝ }
 {
     let written = write_event_of(kind, first, second, out);
     bytes_written(written)
@@ -81,7 +83,8 @@ pub extern "C" fn lsq_write_event(
 // Writes a number at the front of a buffer, in the fewest bytes: 10.
 #[no_mangle]
 pub extern "C" fn lsq_write_number(value: u32, out: &mut [u8]) -> BytesWritten
-    ensures { λ r. ⌜ (r ≡ bytesWritten (wrote (numberBytes value) (now (out .entry)) .answer)) × (now (out .exit) ≡ wrote (numberBytes value) (now (out .entry)) .buffer) ⌝ }
+    ensures { λ r. ⌜ (let done = wrote (numberBytes value) (now (out .entry)) in
+        (r ≡ bytesWritten (done .answer)) × (now (out .exit) ≡ done .buffer)) ⌝ }
 {
     let written = write_number(value, out);
     bytes_written(written)

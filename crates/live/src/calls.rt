@@ -17,7 +17,8 @@ ghost use Rattle.queue.specs.ReadyOutcome.{Readies};
 ghost use Rattle.queue.specs.Parts.{whole, onParts, queueOf, answered};
 ghost use Rattle.queue.specs.Ruled.{andThen};
 ghost use Rattle.replay.specs.Playing.{afterServe};
-ghost use Rattle.live.specs.Calls.{LiveOpens, liveStep, liveService, toldStep, toldService, Tells, moved, took, served, written, memoryAfter, readiedOf};
+ghost use Rattle.live.specs.Calls.{LiveOpens, toldStep, toldService, Tells, moved, took, served, written, memoryAfter, readiedOf};
+ghost use Rattle.live.specs.Internal.{liveStep, liveService};
 use queue::Counts;
 use queue::Frame;
 use queue::Side;
@@ -133,7 +134,8 @@ pub extern "C" fn lsq_open_in(
 // 1 where no call would refuse these parts with 40, else 0.
 #[no_mangle]
 pub extern "C" fn lsq_sound_in(frame: Frame, loads: &[u64], stores: &[u64]) -> u32
-    ensures { λ r. ⌜ r ≡ bit (whole (now (loads .entry)) (now (stores .entry)) && sound (contentsOf (queueOf frame (now (loads .entry)) (now (stores .entry))))) ⌝ }
+    ensures { λ r. ⌜ (let q = queueOf frame (now (loads .entry)) (now (stores .entry)) in
+        r ≡ bit (whole (now (loads .entry)) (now (stores .entry)) && sound (contentsOf q))) ⌝ }
 {
     let outline = outline_of(frame);
     let right = sound_in(
@@ -155,9 +157,9 @@ pub extern "C" fn lsq_activate_in(
     stores: &mut [u64],
     group: u32,
 ) -> LiveStep
-    ensures { λ r. ⌜ Tells (queueOf frame (now (loads .entry)) (now (stores .entry)))
-        (andThen (onParts (now (loads .entry)) (now (stores .entry)) (activate (contentsOf (queueOf frame (now (loads .entry)) (now (stores .entry)))) group)) moved)
-        (toldStep frame r (now (loads .exit)) (now (stores .exit))) ⌝ }
+    ensures { λ r. ⌜ (let q = queueOf frame (now (loads .entry)) (now (stores .entry)) in
+        let rule = onParts (now (loads .entry)) (now (stores .entry)) (activate (contentsOf q) group) in
+        Tells q (andThen rule moved) (toldStep frame r (now (loads .exit)) (now (stores .exit)))) ⌝ }
 {
     let outline = outline_of(frame);
     let step = activate_in(
@@ -181,9 +183,9 @@ pub extern "C" fn lsq_load_address_in(
     port: u32,
     address: u32,
 ) -> u32
-    ensures { λ r. ⌜ Moves (queueOf frame (now (loads .entry)) (now (stores .entry)))
-        (onParts (now (loads .entry)) (now (stores .entry)) (loadAddress (contentsOf (queueOf frame (now (loads .entry)) (now (stores .entry)))) port address))
-        (answered r (queueOf frame (now (loads .exit)) (now (stores .entry)))) ⌝ }
+    ensures { λ r. ⌜ (let q = queueOf frame (now (loads .entry)) (now (stores .entry)) in
+        let rule = onParts (now (loads .entry)) (now (stores .entry)) (loadAddress (contentsOf q) port address) in
+        Moves q rule (answered r (queueOf frame (now (loads .exit)) (now (stores .entry))))) ⌝ }
 {
     let outline = outline_of(frame);
     let answer = load_address_in(
@@ -208,9 +210,9 @@ pub extern "C" fn lsq_store_address_in(
     port: u32,
     address: u32,
 ) -> u32
-    ensures { λ r. ⌜ Moves (queueOf frame (now (loads .entry)) (now (stores .entry)))
-        (onParts (now (loads .entry)) (now (stores .entry)) (storeAddress (contentsOf (queueOf frame (now (loads .entry)) (now (stores .entry)))) port address))
-        (answered r (queueOf frame (now (loads .entry)) (now (stores .exit)))) ⌝ }
+    ensures { λ r. ⌜ (let q = queueOf frame (now (loads .entry)) (now (stores .entry)) in
+        let rule = onParts (now (loads .entry)) (now (stores .entry)) (storeAddress (contentsOf q) port address) in
+        Moves q rule (answered r (queueOf frame (now (loads .entry)) (now (stores .exit))))) ⌝ }
 {
     let outline = outline_of(frame);
     let answer = store_address_in(
@@ -235,9 +237,9 @@ pub extern "C" fn lsq_store_data_in(
     port: u32,
     word: u32,
 ) -> u32
-    ensures { λ r. ⌜ Moves (queueOf frame (now (loads .entry)) (now (stores .entry)))
-        (onParts (now (loads .entry)) (now (stores .entry)) (storeData (contentsOf (queueOf frame (now (loads .entry)) (now (stores .entry)))) port word))
-        (answered r (queueOf frame (now (loads .entry)) (now (stores .exit)))) ⌝ }
+    ensures { λ r. ⌜ (let q = queueOf frame (now (loads .entry)) (now (stores .entry)) in
+        let rule = onParts (now (loads .entry)) (now (stores .entry)) (storeData (contentsOf q) port word) in
+        Moves q rule (answered r (queueOf frame (now (loads .entry)) (now (stores .exit))))) ⌝ }
 {
     let outline = outline_of(frame);
     let answer = store_data_in(
@@ -263,10 +265,10 @@ pub extern "C" fn lsq_serve_in(
     counts: Counts,
     serial: u32,
 ) -> LiveService
-    ensures { λ r. ⌜ Tells (queueOf frame (now (loads .entry)) (now (stores .entry)))
-        (andThen (onParts (now (loads .entry)) (now (stores .entry)) (serve (contentsOf (queueOf frame (now (loads .entry)) (now (stores .entry)))) (now (memory .entry)) serial)) served)
-        (toldService r (queueOf frame (now (loads .exit)) (now (stores .entry))))
-        × (r .counts ≡ afterServe counts (onParts (now (loads .entry)) (now (stores .entry)) (serve (contentsOf (queueOf frame (now (loads .entry)) (now (stores .entry)))) (now (memory .entry)) serial))) ⌝ }
+    ensures { λ r. ⌜ (let q = queueOf frame (now (loads .entry)) (now (stores .entry)) in
+        let rule = onParts (now (loads .entry)) (now (stores .entry)) (serve (contentsOf q) (now (memory .entry)) serial) in
+        Tells q (andThen rule served) (toldService r (queueOf frame (now (loads .exit)) (now (stores .entry))))
+        × (r .counts ≡ afterServe counts rule)) ⌝ }
 {
     let outline = outline_of(frame);
     let service = serve_in(
@@ -292,10 +294,10 @@ pub extern "C" fn lsq_write_in(
     memory: &mut [u32],
     serial: u32,
 ) -> LiveStep
-    ensures { λ r. ⌜ Tells (queueOf frame (now (loads .entry)) (now (stores .entry)))
-        (andThen (onParts (now (loads .entry)) (now (stores .entry)) (write (contentsOf (queueOf frame (now (loads .entry)) (now (stores .entry)))) (now (memory .entry)) serial)) written)
-        (toldStep frame r (now (loads .exit)) (now (stores .exit)))
-        × (now (memory .exit) ≡ memoryAfter (now (memory .entry)) (onParts (now (loads .entry)) (now (stores .entry)) (write (contentsOf (queueOf frame (now (loads .entry)) (now (stores .entry)))) (now (memory .entry)) serial))) ⌝ }
+    ensures { λ r. ⌜ (let q = queueOf frame (now (loads .entry)) (now (stores .entry)) in
+        let rule = onParts (now (loads .entry)) (now (stores .entry)) (write (contentsOf q) (now (memory .entry)) serial) in
+        Tells q (andThen rule written) (toldStep frame r (now (loads .exit)) (now (stores .exit)))
+        × (now (memory .exit) ≡ memoryAfter (now (memory .entry)) rule)) ⌝ }
 {
     let outline = outline_of(frame);
     let step = write_in(
@@ -319,9 +321,9 @@ pub extern "C" fn lsq_take_in(
     stores: &mut [u64],
     port: u32,
 ) -> LiveStep
-    ensures { λ r. ⌜ Tells (queueOf frame (now (loads .entry)) (now (stores .entry)))
-        (andThen (onParts (now (loads .entry)) (now (stores .entry)) (take (contentsOf (queueOf frame (now (loads .entry)) (now (stores .entry)))) port)) took)
-        (toldStep frame r (now (loads .exit)) (now (stores .exit))) ⌝ }
+    ensures { λ r. ⌜ (let q = queueOf frame (now (loads .entry)) (now (stores .entry)) in
+        let rule = onParts (now (loads .entry)) (now (stores .entry)) (take (contentsOf q) port) in
+        Tells q (andThen rule took) (toldStep frame r (now (loads .exit)) (now (stores .exit)))) ⌝ }
 {
     let outline = outline_of(frame);
     let step = take_in(
@@ -344,9 +346,9 @@ pub extern "C" fn lsq_ready_loads_in(
     stores: &[u64],
     out: &mut [u32],
 ) -> LiveReady
-    ensures { λ r. ⌜ Readies (queueOf frame (now (loads .entry)) (now (stores .entry))) (now (out .entry))
-        (onParts (now (loads .entry)) (now (stores .entry)) (readyLoads (contentsOf (queueOf frame (now (loads .entry)) (now (stores .entry)))) (now (out .entry))))
-        (readiedOf r (queueOf frame (now (loads .entry)) (now (stores .entry)))) (now (out .exit)) ⌝ }
+    ensures { λ r. ⌜ (let q = queueOf frame (now (loads .entry)) (now (stores .entry)) in
+        let rule = onParts (now (loads .entry)) (now (stores .entry)) (readyLoads (contentsOf q) (now (out .entry))) in
+        Readies q (now (out .entry)) rule (readiedOf r q) (now (out .exit))) ⌝ }
 {
     let outline = outline_of(frame);
     let ready = ready_loads_in(
@@ -372,9 +374,9 @@ pub extern "C" fn lsq_ready_stores_in(
     stores: &[u64],
     out: &mut [u32],
 ) -> LiveReady
-    ensures { λ r. ⌜ Readies (queueOf frame (now (loads .entry)) (now (stores .entry))) (now (out .entry))
-        (onParts (now (loads .entry)) (now (stores .entry)) (readyStores (contentsOf (queueOf frame (now (loads .entry)) (now (stores .entry)))) (now (out .entry))))
-        (readiedOf r (queueOf frame (now (loads .entry)) (now (stores .entry)))) (now (out .exit)) ⌝ }
+    ensures { λ r. ⌜ (let q = queueOf frame (now (loads .entry)) (now (stores .entry)) in
+        let rule = onParts (now (loads .entry)) (now (stores .entry)) (readyStores (contentsOf q) (now (out .entry))) in
+        Readies q (now (out .entry)) rule (readiedOf r q) (now (out .exit))) ⌝ }
 {
     let outline = outline_of(frame);
     let ready = ready_stores_in(

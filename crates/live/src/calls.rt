@@ -10,7 +10,7 @@ ghost use Rattle.queue.specs.Activate.{activate};
 ghost use Rattle.queue.specs.Arguments.{loadAddress, storeAddress, storeData};
 ghost use Rattle.queue.specs.Serve.{serve};
 ghost use Rattle.queue.specs.Write.{write};
-ghost use Rattle.queue.specs.Take.{take};
+ghost use Rattle.queue.specs.Take.{takeRule};
 ghost use Rattle.queue.specs.Ready.{readyLoads, readyStores};
 ghost use Rattle.queue.specs.Outcome.{Moves};
 ghost use Rattle.queue.specs.ReadyOutcome.{Readies};
@@ -322,7 +322,7 @@ pub extern "C" fn lsq_take_in(
     port: u32,
 ) -> LiveStep
     ensures { λ r. ⌜ (let q = queueOf frame (now (loads .entry)) (now (stores .entry)) in
-        let rule = onParts (now (loads .entry)) (now (stores .entry)) (take (contentsOf q) port) in
+        let rule = onParts (now (loads .entry)) (now (stores .entry)) (takeRule (contentsOf q) port) in
         Tells q (andThen rule took) (toldStep frame r (now (loads .exit)) (now (stores .exit)))) ⌝ }
 {
     let outline = outline_of(frame);

@@ -10,7 +10,7 @@ use Rattle.queue.specs.Activate.{activate}
 use Rattle.queue.specs.Arguments.{loadAddress, storeAddress, storeData}
 use Rattle.queue.specs.Serve.{serve}
 use Rattle.queue.specs.Write.{write}
-use Rattle.queue.specs.Take.{take}
+use Rattle.queue.specs.Take.{takeRule}
 use Rattle.replay.specs.Events.{eventsUpTo}
 use Rattle.replay.specs.Replay.{prepare}
 use Rattle.printed.specs.Decimal.{digitsUpTo}
@@ -18,5 +18,5 @@ use Rattle.printed.specs.Text.{traceText, text}
 use Rattle.printed.specs.Cases.{AllCasesHold}
 
 pub all-cases-hold : AllCasesHold
-unfolding text traceText digitsUpTo prepare eventsUpTo numberUpTo bytesUpTo pairsFault seeing groupFault groupsFault tableFault readPairs readGroup readGroups readTable readEvent readHeader sound openQueue activate loadAddress storeAddress storeData serve write take
+unfolding text traceText digitsUpTo prepare eventsUpTo numberUpTo bytesUpTo pairsFault seeing groupFault groupsFault tableFault readPairs readGroup readGroups readTable readEvent readHeader sound openQueue activate loadAddress storeAddress storeData serve write takeRule
 all-cases-hold = refl

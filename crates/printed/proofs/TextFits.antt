@@ -6,9 +6,9 @@ use mathlib.Core.List.{List, [], _∷_, _++_}
 use mathlib.Core.Option.{Option, none, some}
 use native.Mathlib.Omega.{arith}
 use lib.Dec.{eqb, leb, ltb}
-use lib.ListN.{length, take, set, drop, replicate, length-append, length-set, length-replicate}
+use lib.ListN.{length, take, set, drop, replicate, length-append, length-set, length-replicate, getElem?}
 use borrow.Author.Tests.{eq-eqb, eqb-true, leb-true, ltb-false}
-use Rattle.table.specs.Basics.{pick, all, nth}
+use Rattle.table.specs.Basics.{pick, allOf}
 use Rattle.table.specs.Refusal.{tooShort}
 use Rattle.table.specs.Number.{Got, got, bad, Wrote}
 use Rattle.table.specs.Group.{GroupPairs}
@@ -59,7 +59,7 @@ have-keeps n (some a) k rest h = h a
 
 write-keeps : (q : Contents) (m : List ℕ) (serial : ℕ) → keeps (length m) (write q m serial) ≡ true
 unfolding write
-write-keeps q m serial = need-keeps _ (sound q) _ _ (need-keeps _ (eqb (length m) (q .memoryLength)) _ _ (have-keeps _ (nth (q .stores) (storePlace q serial)) _ _ λ s. need-keeps _ (not (s .written)) _ _ (have-keeps _ (s .address) _ _ λ a. have-keeps _ (s .word) _ _ λ w. need-keeps _ (all (loadGivesWay a) (take (s .before) (q .loads))) _ _ (need-keeps _ (all (storeGivesWay a) (take (storePlace q serial) (q .stores))) _ _ (eq-eqb (length (set m a w)) (length m) (length-set m a w))))))
+write-keeps q m serial = need-keeps _ (sound q) _ _ (need-keeps _ (eqb (length m) (q .memoryLength)) _ _ (have-keeps _ (getElem? (q .stores) (storePlace q serial)) _ _ λ s. need-keeps _ (not (s .written)) _ _ (have-keeps _ (s .address) _ _ λ a. have-keeps _ (s .word) _ _ λ w. need-keeps _ (allOf (loadGivesWay a) (take (s .before) (q .loads))) _ _ (need-keeps _ (allOf (storeGivesWay a) (take (storePlace q serial) (q .stores))) _ _ (eq-eqb (length (set m a w)) (length m) (length-set m a w))))))
 
 moved-long : (m : Machine) (rule : Ruled Contents) → length (moved m rule .machine .memory) ≡ length (m .memory)
 moved-long m (refuse n) = refl

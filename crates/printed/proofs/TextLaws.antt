@@ -8,7 +8,7 @@ use native.Mathlib.Nat.{zero-add}
 use lib.Dec.{eqb, leb}
 use lib.ListN.{length, take, drop, replicate, length-append, length-map, length-replicate}
 use borrow.Author.Tests.{lt-ltb, le-ltb, lt-leb, le-leb, leb-true}
-use Rattle.table.specs.Basics.{all}
+use Rattle.table.specs.Basics.{allOf}
 use Rattle.table.specs.Refusal.{tooShort}
 use Rattle.table.specs.Number.{got, bad}
 use Rattle.table.specs.Group.{GroupPairs}
@@ -81,7 +81,7 @@ printable-text w = rw (w .is, w .zeros)
 pub opened-words : (gs : List GroupPairs) (loads stores first words : ℕ) {q : Contents} → openQueue gs loads stores first words ≡ accept q → words ≤ 4096
 unfolding openQueue
 opened-words gs loads stores first words h =
-    let last = need (all (groupFits loads stores) gs) groupTooLarge (accept (opened gs loads stores first words)) in
+    let last = need (allOf (groupFits loads stores) gs) groupTooLarge (accept (opened gs loads stores first words)) in
     let third = need (memoryRight words) badMemoryLength last in
     let second = need (depthRight stores) badStoreDepth third in
     let first = need (depthRight loads) badLoadDepth second in

@@ -28,10 +28,10 @@ use Rattle.queue.specs.Parts.{queueOf}
 use Rattle.queue.specs.Internal.{sideOf, entriesIn}
 use Rattle.queue.specs.InternalActivate.{loadAfter, storeAfter, entryAfter, PairsFit, Appended, longer, withPairs}
 use Rattle.queue.proofs.Lists.{and-left, and-right, map-same}
-use Rattle.queue.proofs.ContentsLaws.{nth-past, side-length}
+use Rattle.queue.proofs.ContentsLaws.{getElem?-past, side-length}
 use Rattle.queue.proofs.EntryLaws.{side-holds}
 use Rattle.queue.proofs.SoundLaws.{load-depth-most, store-depth-most, table-right}
-use Rattle.queue.proofs.GroupLaws.{groups-few, group-nth}
+use Rattle.queue.proofs.GroupLaws.{groups-few, group-getElem?}
 
 -- ---- the new entries by their offsets
 new-loads-offsets : (n k : ℕ) (xs : List Access) → newLoads (n + k) xs ≡ map (loadAfter n) (loadPairs k xs)
@@ -126,7 +126,7 @@ module _ (q : Queue) (group : ℕ) (s : sound (contentsOf q) ≡ true) where
   unfolding activate contentsOf
   activate-no-group h =
       let e : length (groupsOf (q .frame .table)) ≤ group = rw (groups-size (q .frame .table)) h in
-      rw (s, nth-past (groupsOf (q .frame .table)) group e)
+      rw (s, getElem?-past (groupsOf (q .frame .table)) group e)
 
   module _ (k : group < q .frame .table .count) {g : Group} (a : g ≡ groupAt (q .frame .table .groups) group) where
     abbrev asked : GroupPairs
@@ -134,4 +134,4 @@ module _ (q : Queue) (group : ℕ) (s : sound (contentsOf q) ≡ true) where
 
     pub activate-group : activate (contentsOf q) group ≡ need (room (contentsOf q) asked) noPlace (accept (withGroup (contentsOf q) asked))
     unfolding activate contentsOf
-    activate-group = rw (s, group-nth (q .frame .table) (groups-few (q .frame .table) (table-right q s)) group k a)
+    activate-group = rw (s, group-getElem? (q .frame .table) (groups-few (q .frame .table) (table-right q s)) group k a)

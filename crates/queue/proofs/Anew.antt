@@ -5,7 +5,7 @@ use mathlib.Core.Path.{_≡_, refl, sym, ap, _∙_}
 use mathlib.Core.Bool.{Bool, true, false}
 use mathlib.Core.List.{List, [], _∷_, _++_, map, map-append, append-nil}
 use lib.ListN.{length, length-map}
-use Rattle.table.specs.Basics.{pick, count, dropWhile}
+use Rattle.table.specs.Basics.{pick, countWhere, afterWhile}
 use Rattle.table.specs.Group.{GroupPairs, Access}
 use Rattle.queue.specs.Contents.{Load, Store, Contents, withLoads, withStores, updateAt}
 use Rattle.queue.specs.Write.{settle, leaving, loadFinished, storeFinished, loadAfterLeaving, storeAfterLeaving}
@@ -13,7 +13,7 @@ use Rattle.queue.specs.Calls.{Argument}
 use Rattle.queue.specs.Call.{Answered}
 use Rattle.queue.specs.Plain.{gather, rowsOf, accesses}
 use Rattle.queue.specs.Demand3.{tell, told, takenAt, serveIn, writeIn}
-use Rattle.queue.proofs.Lists.{all-replace, count-append, length-updateAt, length-dropWhile}
+use Rattle.queue.proofs.Lists.{all-replace, count-append, length-updateAt, length-afterWhile}
 use Rattle.queue.proofs.Log.{Entry, ofLoad, ofStore, loads, stores, ownIn, loads-stores, stores-loads, ownIn-append}
 use Rattle.queue.proofs.Window.{Located, turned, window-leave}
 use Rattle.queue.proofs.MemoryInvariant.{Agree}
@@ -75,8 +75,8 @@ holds-settled {q} {m} {memory} {log} h = record {
   agree = h .agree;
 }
   where
-    shorter : {A : Type 0} (p : A → Bool) (f : A → A) (l : List A) {n : ℕ} → length l ≤ n → length (map f (dropWhile p l)) ≤ n
-    shorter p f l {n} k = rw (length-map (dropWhile p l) f) (let d : length (dropWhile p l) ≤ length l = length-dropWhile p l in omega arith)
+    shorter : {A : Type 0} (p : A → Bool) (f : A → A) (l : List A) {n : ℕ} → length l ≤ n → length (map f (afterWhile p l)) ≤ n
+    shorter p f l {n} k = rw (length-map (afterWhile p l) f) (let d : length (afterWhile p l) ≤ length l = length-afterWhile p l in omega arith)
 
 -- ---- the answers' part
 
@@ -84,10 +84,10 @@ holds-settled {q} {m} {memory} {log} h = record {
 pub row-kept : (cell : Entry → Cell) (e e′ : Entry) → cell e ≡ cell e′ → (post pre : List Entry) (row : List ℕ) → Row cell (pre ++ e ∷ post) row → Row cell (pre ++ e′ ∷ post) (row ++ [])
 row-kept cell e e′ same post pre row h = rw (append-nil row) (row-same cell e e′ same post pre row h)
 
-count-anew : (p : Entry → Bool) (e e′ : Entry) (n : ℕ) → count p (e′ ∷ []) ≡ count p (e ∷ []) + n → (pre post : List Entry) → count p (pre ++ e′ ∷ post) ≡ count p (pre ++ e ∷ post) + n
-count-anew p e e′ n h pre post = rw (count-append p pre (e′ ∷ post), count-append p pre (e ∷ post)) (go (p e) (p e′) (count p post) h)
+count-anew : (p : Entry → Bool) (e e′ : Entry) (n : ℕ) → countWhere p (e′ ∷ []) ≡ countWhere p (e ∷ []) + n → (pre post : List Entry) → countWhere p (pre ++ e′ ∷ post) ≡ countWhere p (pre ++ e ∷ post) + n
+count-anew p e e′ n h pre post = rw (count-append p pre (e′ ∷ post), count-append p pre (e ∷ post)) (go (p e) (p e′) (countWhere p post) h)
   where
-    go : (b b′ : Bool) (c : ℕ) → pick b′ 1 0 ≡ pick b 1 0 + n → count p pre + pick b′ (suc c) c ≡ count p pre + pick b (suc c) c + n
+    go : (b b′ : Bool) (c : ℕ) → pick b′ 1 0 ≡ pick b 1 0 + n → countWhere p pre + pick b′ (suc c) c ≡ countWhere p pre + pick b (suc c) c + n
     go true true c k = omega arith
     go true false c k = omega arith
     go false true c k = omega arith
@@ -97,8 +97,8 @@ module _ (groups : List GroupPairs) (answered : List Answered) (a : Answered) (p
   pub seen-anew : Seen groups answered (pre ++ e ∷ post) → accessOf e′ ≡ accessOf e → accesses groups (tell a ∷ []) ≡ []
       → ((kind : Argument) (port : ℕ) → Row (given kind port) (pre ++ e′ ∷ post) (rowsOf (told answered) kind port ++ rowsOf (tell a ∷ []) kind port))
       → ((port : ℕ) → Row (valueTaken port) (pre ++ e′ ∷ post) (takenAt port answered ++ takenAt port (a ∷ [])))
-      → count served (e′ ∷ []) ≡ count served (e ∷ []) + length (gather serveIn (tell a ∷ []))
-      → count written (e′ ∷ []) ≡ count written (e ∷ []) + length (gather writeIn (tell a ∷ []))
+      → countWhere served (e′ ∷ []) ≡ countWhere served (e ∷ []) + length (gather serveIn (tell a ∷ []))
+      → countWhere written (e′ ∷ []) ≡ countWhere written (e ∷ []) + length (gather writeIn (tell a ∷ []))
       → Seen groups (answered ++ a ∷ []) (pre ++ e′ ∷ post)
   seen-anew s same no-access rows takes serves writes =
       seen-more groups answered a (pre ++ e′ ∷ post) shape rows takes

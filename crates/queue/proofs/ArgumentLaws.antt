@@ -8,7 +8,7 @@ use mathlib.Core.List.{List, [], _∷_}
 use lib.Dec.{ltb}
 use lib.ListN.{length, getD}
 use borrow.Author.Tests.{lt-ltb, le-ltb, ltb-true, ltb-false}
-use Rattle.table.specs.Basics.{pick, any}
+use Rattle.table.specs.Basics.{pick, anyOf}
 use Rattle.table.specs.Table.{groupsOf}
 use Rattle.queue.specs.declared.Entry.{Entry}
 use Rattle.queue.specs.declared.Queue.{Queue}
@@ -28,7 +28,7 @@ use Rattle.queue.proofs.ContentsLaws.{side-length, load-anew, store-ane
 use Rattle.queue.proofs.EntryLaws.{entry-small, entry-number, side-place-same}
 
 -- some element passes where the first that does is a place of the list
-pub any-place : {A : Type 0} (p : A → Bool) (l : List A) → any p l ≡ ltb (firstPlace p l) (length l)
+pub any-place : {A : Type 0} (p : A → Bool) (l : List A) → anyOf p l ≡ ltb (firstPlace p l) (length l)
 any-place p [] = refl
 any-place p (x ∷ l) = go (p x) (any-place p l)
   where
@@ -39,20 +39,20 @@ any-place p (x ∷ l) = go (p x) (any-place p l)
         at true e = let k = ltb-true a b e in e ∙ sym (lt-ltb (suc a) (suc b) (omega arith))
         at false e = let k = ltb-false a b e in e ∙ sym (le-ltb (suc a) (suc b) (omega arith))
 
-    go : (t : Bool) → any p l ≡ ltb (firstPlace p l) (length l) → (t || any p l) ≡ ltb (pick t 0 (suc (firstPlace p l))) (suc (length l))
+    go : (t : Bool) → anyOf p l ≡ ltb (firstPlace p l) (length l) → (t || anyOf p l) ≡ ltb (pick t 0 (suc (firstPlace p l))) (suc (length l))
     go true e = sym (lt-ltb 0 (suc (length l)) (omega arith))
     go false e = e ∙ shift (firstPlace p l) (length l)
 
 module _ (q : Queue) (port x : ℕ) where
-  waiting-load : any (loadLacksAddress port) (loadsIn (q .frame .loads .count) (q .«load_entries»)) ≡ ltb (firstPlace (loadLacksAddress port) (loadsIn (q .frame .loads .count) (q .«load_entries»))) (q .frame .loads .count)
+  waiting-load : anyOf (loadLacksAddress port) (loadsIn (q .frame .loads .count) (q .«load_entries»)) ≡ ltb (firstPlace (loadLacksAddress port) (loadsIn (q .frame .loads .count) (q .«load_entries»))) (q .frame .loads .count)
   waiting-load = any-place (loadLacksAddress port) (loadsIn (q .frame .loads .count) (q .«load_entries»)) ∙ rw (side-length loadIn 0 (q .frame .loads .count) (q .«load_entries»))
 
-  waiting-store : (lacks : Store → Bool) → any lacks (storesIn (q .frame .stores .count) (q .«store_entries»)) ≡ ltb (firstPlace lacks (storesIn (q .frame .stores .count) (q .«store_entries»))) (q .frame .stores .count)
+  waiting-store : (lacks : Store → Bool) → anyOf lacks (storesIn (q .frame .stores .count) (q .«store_entries»)) ≡ ltb (firstPlace lacks (storesIn (q .frame .stores .count) (q .«store_entries»))) (q .frame .stores .count)
   waiting-store lacks = any-place lacks (storesIn (q .frame .stores .count) (q .«store_entries»)) ∙ rw (side-length storeIn 0 (q .frame .stores .count) (q .«store_entries»))
 
   pub load-address-record : loadAddress (contentsOf q) port x ≡
       need (sound (contentsOf q)) unsound
-      (need (any (isLoadPort port) (groupsOf (q .frame .table))) noPort
+      (need (anyOf (isLoadPort port) (groupsOf (q .frame .table))) noPort
       (need (ltb x (q .frame .words)) badAddress
       (need (ltb (firstPlace (loadLacksAddress port) (loadsIn (q .frame .loads .count) (q .«load_entries»))) (q .frame .loads .count)) noneWaits
       (accept (withLoads (contentsOf q) (updateAt (loadWithAddress x) (firstPlace (loadLacksAddress port) (loadsIn (q .frame .loads .count) (q .«load_entries»))) (contentsOf q .loads)))))))
@@ -61,7 +61,7 @@ module _ (q : Queue) (port x : ℕ) where
 
   pub store-address-record : storeAddress (contentsOf q) port x ≡
       need (sound (contentsOf q)) unsound
-      (need (any (isStorePort port) (groupsOf (q .frame .table))) noPort
+      (need (anyOf (isStorePort port) (groupsOf (q .frame .table))) noPort
       (need (ltb x (q .frame .words)) badAddress
       (need (ltb (firstPlace (storeLacksAddress port) (storesIn (q .frame .stores .count) (q .«store_entries»))) (q .frame .stores .count)) noneWaits
       (accept (withStores (contentsOf q) (updateAt (storeWithAddress x) (firstPlace (storeLacksAddress port) (storesIn (q .frame .stores .count) (q .«store_entries»))) (contentsOf q .stores)))))))
@@ -70,7 +70,7 @@ module _ (q : Queue) (port x : ℕ) where
 
   pub store-data-record : storeData (contentsOf q) port x ≡
       need (sound (contentsOf q)) unsound
-      (need (any (isStorePort port) (groupsOf (q .frame .table))) noPort
+      (need (anyOf (isStorePort port) (groupsOf (q .frame .table))) noPort
       (need (ltb (firstPlace (storeLacksWord port) (storesIn (q .frame .stores .count) (q .«store_entries»))) (q .frame .stores .count)) noneWaits
       (accept (withStores (contentsOf q) (updateAt (storeWithWord x) (firstPlace (storeLacksWord port) (storesIn (q .frame .stores .count) (q .«store_entries»))) (contentsOf q .stores))))))
   unfolding storeData contentsOf

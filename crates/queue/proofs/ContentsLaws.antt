@@ -5,9 +5,9 @@ use native.Mathlib.Numerals.{add-one}
 use mathlib.Core.Path.{_≡_, refl, ap, _∙_}
 use mathlib.Core.List.{List, [], _∷_, map}
 use mathlib.Core.Option.{none, some}
-use lib.ListN.{length, getD, take, drop, set, replicate, length-map, length-set, getD-replicate, List·getD-map, drop-of-length-le}
+use lib.ListN.{length, getD, take, drop, set, replicate, length-map, length-set, getD-replicate, List·getD-map, drop-of-length-le, getElem?}
 use lib.Seq.{take-set-lt, drop-cons}
-use Rattle.table.specs.Basics.{held, nth}
+use Rattle.table.specs.Basics.{held}
 use Rattle.table.proofs.CheckLaws.{held-few, held-length}
 use Rattle.queue.specs.declared.Queue.{Queue}
 use Rattle.queue.specs.Contents.{Load, Store, loadIn, storeIn, contentsOf, withLoads, withStores, updateAt, age, oldest, loadPlace, storePlace}
@@ -17,15 +17,15 @@ use Rattle.queue.proofs.Lists.{take-map}
 
 -- ---- a list's places
 module _ {A : Type 0} where
-  pub nth-getD : (l : List A) (i : ℕ) (d : A) → i < length l → nth l i ≡ some (getD l i d)
-  nth-getD [] i d h = absurd (not-suc-le-zero h)
-  nth-getD (x ∷ l) zero d h = refl
-  nth-getD (x ∷ l) (suc i) d h = nth-getD l i d (le-of-suc-le-suc h)
+  pub getElem?-getD : (l : List A) (i : ℕ) (d : A) → i < length l → getElem? l i ≡ some (getD l i d)
+  getElem?-getD [] i d h = absurd (not-suc-le-zero h)
+  getElem?-getD (x ∷ l) zero d h = refl
+  getElem?-getD (x ∷ l) (suc i) d h = getElem?-getD l i d (le-of-suc-le-suc h)
 
-  pub nth-past : (l : List A) (i : ℕ) → length l ≤ i → nth l i ≡ none
-  nth-past [] i h = refl
-  nth-past (x ∷ l) zero h = absurd (not-suc-le-zero h)
-  nth-past (x ∷ l) (suc i) h = nth-past l i (le-of-suc-le-suc h)
+  pub getElem?-past : (l : List A) (i : ℕ) → length l ≤ i → getElem? l i ≡ none
+  getElem?-past [] i h = refl
+  getElem?-past (x ∷ l) zero h = absurd (not-suc-le-zero h)
+  getElem?-past (x ∷ l) (suc i) h = getElem?-past l i (le-of-suc-le-suc h)
 
   -- an element made anew is one put in its place
   pub update-set : (f : A → A) (l : List A) (i : ℕ) (d : A) → updateAt f i l ≡ set l i (f (getD l i d))
@@ -69,8 +69,8 @@ module _ {A B : Type 0} (f : A → B) (blank : A) (n : ℕ) (l : List A) where
   pub side-at : (i : ℕ) → i < n → getD (sideOf f blank n l) i (f blank) ≡ f (getD l i blank)
   side-at i k = List·getD-map f (held blank n l) i blank ∙ rw (held-place blank n l i k)
 
-  pub side-nth : (i : ℕ) → i < n → nth (sideOf f blank n l) i ≡ some (f (getD l i blank))
-  side-nth i k = nth-getD (sideOf f blank n l) i (f blank) (rw side-length k) ∙ rw (side-at i k)
+  pub side-getElem? : (i : ℕ) → i < n → getElem? (sideOf f blank n l) i ≡ some (f (getD l i blank))
+  side-getElem? i k = getElem?-getD (sideOf f blank n l) i (f blank) (rw side-length k) ∙ rw (side-at i k)
 
   -- within the array
   module _ (h : n ≤ length l) where

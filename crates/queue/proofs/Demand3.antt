@@ -6,9 +6,9 @@ use mathlib.Core.Bool.{Bool, true, false, _&&_}
 use mathlib.Core.List.{List, [], _∷_, map}
 use mathlib.Core.Option.{some}
 use lib.Dec.{leb}
-use lib.ListN.{length}
+use lib.ListN.{length, getElem?}
 use borrow.Author.Tests.{leb-true}
-use Rattle.table.specs.Basics.{pick, all, count, nth}
+use Rattle.table.specs.Basics.{pick, allOf, countWhere}
 use Rattle.table.specs.Group.{GroupPairs}
 use Rattle.queue.specs.Write.{storeFinished}
 use Rattle.queue.specs.Call.{Machine, Answered, answers, leaves}
@@ -23,22 +23,22 @@ use Rattle.queue.proofs.Progress.{state-moves}
 
 -- ---- as many writes as stores: every store is written
 
-written-stores : (es : List Entry) → count written es ≤ count isStore (map accessOf es)
+written-stores : (es : List Entry) → countWhere written es ≤ countWhere isStore (map accessOf es)
 written-stores [] = omega arith
 written-stores (ofLoad l ∷ es) = written-stores es
 written-stores (ofStore s ∷ es) = go (s .written) (written-stores es)
   where
-    go : (b : Bool) → count written es ≤ count isStore (map accessOf es) → pick b (suc (count written es)) (count written es) ≤ suc (count isStore (map accessOf es))
+    go : (b : Bool) → countWhere written es ≤ countWhere isStore (map accessOf es) → pick b (suc (countWhere written es)) (countWhere written es) ≤ suc (countWhere isStore (map accessOf es))
     go true h = omega arith
     go false h = omega arith
 
-all-written : (es : List Entry) → count written es ≡ count isStore (map accessOf es) → all storeFinished (ownIn stores es) ≡ true
+all-written : (es : List Entry) → countWhere written es ≡ countWhere isStore (map accessOf es) → allOf storeFinished (ownIn stores es) ≡ true
 all-written [] h = refl
 all-written (ofLoad l ∷ es) h = all-written es h
 all-written (ofStore s ∷ es) h = go (s .written) refl h (written-stores es) (λ k. all-written es k)
   where
-    go : (b : Bool) → s .written ≡ b → pick b (suc (count written es)) (count written es) ≡ suc (count isStore (map accessOf es)) → count written es ≤ count isStore (map accessOf es)
-        → (count written es ≡ count isStore (map accessOf es) → all storeFinished (ownIn stores es) ≡ true) → (s .written) && all storeFinished (ownIn stores es) ≡ true
+    go : (b : Bool) → s .written ≡ b → pick b (suc (countWhere written es)) (countWhere written es) ≡ suc (countWhere isStore (map accessOf es)) → countWhere written es ≤ countWhere isStore (map accessOf es)
+        → (countWhere written es ≡ countWhere isStore (map accessOf es) → allOf storeFinished (ownIn stores es) ≡ true) → (s .written) && allOf storeFinished (ownIn stores es) ≡ true
     go true e k le rec = and-both e (rec (omega arith))
     go false e k le rec = absurd (omega arith)
 
@@ -54,7 +54,7 @@ sequential groups memory answered left st fill = record {
   writes = λ full.
       rw (st .seen .shape) at
       (written-is-plain fill (st .log) 0 (left .memory) memory (rowsOf (told answered)) (st .seen .rows) (st .holds .agree)
-      (all-written (st .log) (st .seen .writes ∙ full ∙ sym (ap (count isStore) (st .seen .shape)))));
+      (all-written (st .log) (st .seen .writes ∙ full ∙ sym (ap (countWhere isStore) (st .seen .shape)))));
   moves = state-moves groups memory answered left st;
 }
 
@@ -81,9 +81,9 @@ pub alike : AlikeLists
 unfolding zeros
 alike groups memory m₁ m₂ o₁ o₂ calls₁ calls₂ same port n v w h₁ h₂ =
     let low : 0 < length memory = leb-true 1 (length memory) (and-left (leb 1 (length memory)) _ (opening-limits o₁ .wordsRight)) in
-    let e₁ : nth (plainLoads groups memory (told (answers m₁ calls₁)) zeros port) n ≡ some v = demand3 groups memory m₁ o₁ calls₁ zeros (λ k. low) .takes port n v h₁ in
-    let e₂ : nth (plainLoads groups memory (told (answers m₂ calls₂)) zeros port) n ≡ some w = demand3 groups memory m₂ o₂ calls₂ zeros (λ k. low) .takes port n w h₂ in
+    let e₁ : getElem? (plainLoads groups memory (told (answers m₁ calls₁)) zeros port) n ≡ some v = demand3 groups memory m₁ o₁ calls₁ zeros (λ k. low) .takes port n v h₁ in
+    let e₂ : getElem? (plainLoads groups memory (told (answers m₂ calls₂)) zeros port) n ≡ some w = demand3 groups memory m₂ o₂ calls₂ zeros (λ k. low) .takes port n w h₂ in
     let e : plainLoads groups memory (told (answers m₁ calls₁)) zeros port ≡ plainLoads groups memory (told (answers m₂ calls₂)) zeros port
     = alike-loads groups memory (told (answers m₁ calls₁)) (told (answers m₂ calls₂)) same zeros port in
-    let both : some v ≡ some w = sym e₁ ∙ ap (λ (l : List ℕ). nth l n) e ∙ e₂ in
+    let both : some v ≡ some w = sym e₁ ∙ ap (λ (l : List ℕ). getElem? l n) e ∙ e₂ in
     cc

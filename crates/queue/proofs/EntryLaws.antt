@@ -7,7 +7,7 @@ use mathlib.Core.List.{List, [], _∷_, map, map-map}
 use mathlib.Core.Option.{none, some}
 use lib.Dec.{eqb, ltb}
 use lib.ListN.{length}
-use Rattle.table.specs.Basics.{pick, held, all, takeWhile}
+use Rattle.table.specs.Basics.{pick, held, allOf, frontWhile}
 use Rattle.queue.specs.declared.Entry.{Entry}
 use Rattle.queue.specs.declared.entries.Mark.the-variants.{Addressed, Filled, Finished}
 use Rattle.queue.specs.Ruled.{isSome}
@@ -223,7 +223,7 @@ module _ (e : Entry) where
 
 -- ---- and so over a whole side: `f` says what an entry holds, `p` tests that, and `q` tests the entry
 module _ {B : Type 0} (f : Entry → B) (p : B → Bool) (q : Entry → Bool) (same : (e : Entry) → p (f e) ≡ q e) where
-  all-through : (l : List ℕ) → all p (map (λ (n : ℕ). f (entryOf n)) l) ≡ all q (map entryOf l)
+  all-through : (l : List ℕ) → allOf p (map (λ (n : ℕ). f (entryOf n)) l) ≡ allOf q (map entryOf l)
   all-through [] = refl
   all-through (x ∷ l) = rw (same (entryOf x), all-through l)
 
@@ -235,12 +235,12 @@ module _ {B : Type 0} (f : Entry → B) (p : B → Bool) (q : Entry → Bool) (s
   leaving-through [] = refl
   leaving-through (x ∷ l) = rw (same (entryOf x)) (go (q (entryOf x)) (leaving-through l))
     where
-      go : (t : Bool) → length (takeWhile p (map (λ (n : ℕ). f (entryOf n)) l)) ≡ length (takeWhile q (map entryOf l))
-          → length (pick t (f (entryOf x) ∷ takeWhile p (map (λ (n : ℕ). f (entryOf n)) l)) []) ≡ length (pick t (entryOf x ∷ takeWhile q (map entryOf l)) [])
+      go : (t : Bool) → length (frontWhile p (map (λ (n : ℕ). f (entryOf n)) l)) ≡ length (frontWhile q (map entryOf l))
+          → length (pick t (f (entryOf x) ∷ frontWhile p (map (λ (n : ℕ). f (entryOf n)) l)) []) ≡ length (pick t (entryOf x ∷ frontWhile q (map entryOf l)) [])
       go true e = ap suc e
       go false e = refl
 
-  pub side-all-same : (n : ℕ) (l : List ℕ) → all p (sideOf (λ (x : ℕ). f (entryOf x)) 0 n l) ≡ all q (entriesIn n l)
+  pub side-all-same : (n : ℕ) (l : List ℕ) → allOf p (sideOf (λ (x : ℕ). f (entryOf x)) 0 n l) ≡ allOf q (entriesIn n l)
   side-all-same n l = all-through (held 0 n l)
 
   pub side-place-same : (n : ℕ) (l : List ℕ) → firstPlace p (sideOf (λ (x : ℕ). f (entryOf x)) 0 n l) ≡ firstPlace q (entriesIn n l)

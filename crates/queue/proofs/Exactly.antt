@@ -8,7 +8,7 @@ use mathlib.Core.List.{List, [], _∷_}
 use lib.Dec.{eqb, leb, ltb}
 use lib.ListN.{length}
 use borrow.Author.Tests.{eqb-true, eqb-false, lt-ltb, le-ltb, ltb-true, ltb-false, leb-true}
-use Rattle.table.specs.Basics.{pick, any, all, filter}
+use Rattle.table.specs.Basics.{pick, anyOf, allOf, keepWhere}
 use Rattle.table.specs.Table.{tableFault}
 use Rattle.queue.specs.Ruled.{number}
 use Rattle.queue.specs.Contents.{Contents, after, age, oldest, loadPlace, storePlace}
@@ -18,7 +18,7 @@ use Rattle.queue.specs.Write.{write}
 use Rattle.queue.specs.Ready.{serials, wouldServe, wouldWrite, servable, writable}
 use Rattle.queue.specs.ReadyExact.{ServableExactly, WritableExactly}
 use Rattle.queue.proofs.Lists.{and-right}
-use Rattle.queue.proofs.ContentsLaws.{nth-past}
+use Rattle.queue.proofs.ContentsLaws.{getElem?-past}
 use Rattle.queue.proofs.SoundLaws.{Parts, parts}
 use Rattle.queue.proofs.Progress.{oldest-small}
 use Rattle.queue.proofs.Refusals.{serve-proper, write-proper}
@@ -28,12 +28,12 @@ use Rattle.queue.proofs.ReadyLaws.{readyIn, writableIn, serve-ready, wo
 age-step : (serial from : ℕ) → serial < 2 ^ 32 → from < 2 ^ 32 → (serial ≡ from → ⊥) → age from serial ≡ age (after from 1) serial + 1
 age-step serial from h k apart = omega arith
 
-any-serial : (serial n from : ℕ) → serial < 2 ^ 32 → from < 2 ^ 32 → n ≤ 2 ^ 32 → any (eqb serial) (serials from n) ≡ ltb (age from serial) n
+any-serial : (serial n from : ℕ) → serial < 2 ^ 32 → from < 2 ^ 32 → n ≤ 2 ^ 32 → anyOf (eqb serial) (serials from n) ≡ ltb (age from serial) n
 any-serial serial zero from h k m = sym (le-ltb (age from serial) 0 (omega arith))
 any-serial serial (suc n) from h k m = go (any-serial serial n (after from 1) h (omega arith) (omega arith)) (eqb serial from) refl
   where
-    go : any (eqb serial) (serials (after from 1) n) ≡ ltb (age (after from 1) serial) n → (t : Bool) → eqb serial from ≡ t
-        → (eqb serial from || any (eqb serial) (serials (after from 1) n)) ≡ ltb (age from serial) (suc n)
+    go : anyOf (eqb serial) (serials (after from 1) n) ≡ ltb (age (after from 1) serial) n → (t : Bool) → eqb serial from ≡ t
+        → (eqb serial from || anyOf (eqb serial) (serials (after from 1) n)) ≡ ltb (age from serial) (suc n)
     go next true e =
         let q : serial ≡ from = eqb-true serial from e in
         rw e (sym (lt-ltb (age from serial) (suc n) (omega arith)))
@@ -51,15 +51,15 @@ any-serial serial (suc n) from h k m = go (any-serial serial n (after from 1) h 
             d ∙ sym (le-ltb (age from serial) (suc n) (omega (arith, one)))
 
 -- ---- a serial is in what passes of a list where it passes and is in the list
-any-filter : (w : ℕ → Bool) (serial : ℕ) (l : List ℕ) → any (eqb serial) (filter w l) ≡ w serial && any (eqb serial) l
-any-filter w serial [] = go (w serial)
+any-keepWhere : (w : ℕ → Bool) (serial : ℕ) (l : List ℕ) → anyOf (eqb serial) (keepWhere w l) ≡ w serial && anyOf (eqb serial) l
+any-keepWhere w serial [] = go (w serial)
   where
     go : (t : Bool) → false ≡ t && false
     go true = refl
     go false = refl
-any-filter w serial (x ∷ xs) = go (any-filter w serial xs) (eqb serial x) (w x) refl refl
+any-keepWhere w serial (x ∷ xs) = go (any-keepWhere w serial xs) (eqb serial x) (w x) refl refl
   where
-    go : any (eqb serial) (filter w xs) ≡ w serial && any (eqb serial) xs → (t b : Bool) → eqb serial x ≡ t → w x ≡ b → any (eqb serial) (pick b (x ∷ filter w xs) (filter w xs)) ≡ w serial && (t || any (eqb serial) xs)
+    go : anyOf (eqb serial) (keepWhere w xs) ≡ w serial && anyOf (eqb serial) xs → (t b : Bool) → eqb serial x ≡ t → w x ≡ b → anyOf (eqb serial) (pick b (x ∷ keepWhere w xs) (keepWhere w xs)) ≡ w serial && (t || anyOf (eqb serial) xs)
     go rest true true e h =
         let same : w serial ≡ true = ap w (eqb-true serial x e) ∙ h in
         rw (e, same)
@@ -71,8 +71,8 @@ any-filter w serial (x ∷ xs) = go (any-filter w serial xs) (eqb serial x) (w x
 
 -- so it is in the list where it passes, if what passes lies among the n serials
 in-list : (w : ℕ → Bool) (serial from n : ℕ) → serial < 2 ^ 32 → from < 2 ^ 32 → n ≤ 2 ^ 32 → (n ≤ age from serial → w serial ≡ false)
-    → any (eqb serial) (filter w (serials from n)) ≡ w serial
-in-list w serial from n h k m past = any-filter w serial (serials from n) ∙ rw (any-serial serial n from h k m) (go (ltb (age from serial) n) (w serial) refl refl)
+    → anyOf (eqb serial) (keepWhere w (serials from n)) ≡ w serial
+in-list w serial from n h k m past = any-keepWhere w serial (serials from n) ∙ rw (any-serial serial n from h k m) (go (ltb (age from serial) n) (w serial) refl refl)
   where
     go : (t b : Bool) → ltb (age from serial) n ≡ t → w serial ≡ b → b && t ≡ b
     go true true e d = refl
@@ -81,8 +81,8 @@ in-list w serial from n h k m past = any-filter w serial (serials from n) ∙ rw
     go false false e d = refl
 
 -- an unsound queue has no ready serial
-none-in : (w : ℕ → Bool) (serial : ℕ) (l : List ℕ) → w serial ≡ false → any (eqb serial) (filter w l) ≡ false
-none-in w serial l e = any-filter w serial l ∙ rw e
+none-in : (w : ℕ → Bool) (serial : ℕ) (l : List ℕ) → w serial ≡ false → anyOf (eqb serial) (keepWhere w l) ≡ false
+none-in w serial l e = any-keepWhere w serial l ∙ rw e
 
 -- ---- a sound queue holds at most 64 entries on a side
 module _ (q : Contents) (right : sound q ≡ true) where
@@ -92,8 +92,8 @@ module _ (q : Contents) (right : sound q ≡ true) where
       (memoryRight (q .memoryLength))
       (leb (length (q .loads)) (q .loadDepth))
       (leb (length (q .stores)) (q .storeDepth))
-      (all (loadRight (q .memoryLength) (length (q .stores))) (q .loads))
-      (all (storeRight (q .memoryLength) (length (q .loads))) (q .stores))
+      (allOf (loadRight (q .memoryLength) (length (q .stores))) (q .loads))
+      (allOf (storeRight (q .memoryLength) (length (q .loads))) (q .stores))
       (eqb (tableFault (q .groups)) 0)
   unfolding sound
   parted = parts _ _ _ _ _ _ _ _ right
@@ -109,12 +109,12 @@ pub servable-exactly : ServableExactly
 unfolding servable serve
 servable-exactly q memory serial e h = go (sound q) refl
   where
-    go : (t : Bool) → sound q ≡ t → any (eqb serial) (servable q) ≡ eqb (number (serve q memory serial)) 0
+    go : (t : Bool) → sound q ≡ t → anyOf (eqb serial) (servable q) ≡ eqb (number (serve q memory serial)) 0
     go false d = none-in (wouldServe q) serial (serials (oldest (q .nextLoad) (length (q .loads))) (length (q .loads))) (rw d) ∙ rw d
     go true d =
         let few = few-loads q d in
         in-list (wouldServe q) serial (oldest (q .nextLoad) (length (q .loads))) (length (q .loads)) h (oldest-small (q .nextLoad) (length (q .loads))) (omega arith)
-        (λ past. would-serve q d serial ∙ ap (readyIn q) (nth-past (q .loads) (loadPlace q serial) past))
+        (λ past. would-serve q d serial ∙ ap (readyIn q) (getElem?-past (q .loads) (loadPlace q serial) past))
         ∙ would-serve q d serial
         ∙ sym (serve-ready q d serial memory e)
         ∙ accepted-number (serve q memory serial) (serve-proper q memory serial)
@@ -123,12 +123,12 @@ pub writable-exactly : WritableExactly
 unfolding writable write
 writable-exactly q memory serial e h = go (sound q) refl
   where
-    go : (t : Bool) → sound q ≡ t → any (eqb serial) (writable q) ≡ eqb (number (write q memory serial)) 0
+    go : (t : Bool) → sound q ≡ t → anyOf (eqb serial) (writable q) ≡ eqb (number (write q memory serial)) 0
     go false d = none-in (wouldWrite q) serial (serials (oldest (q .nextStore) (length (q .stores))) (length (q .stores))) (rw d) ∙ rw d
     go true d =
         let few = few-stores q d in
         in-list (wouldWrite q) serial (oldest (q .nextStore) (length (q .stores))) (length (q .stores)) h (oldest-small (q .nextStore) (length (q .stores))) (omega arith)
-        (λ past. would-write q d serial ∙ ap (writableIn q (storePlace q serial)) (nth-past (q .stores) (storePlace q serial) past))
+        (λ past. would-write q d serial ∙ ap (writableIn q (storePlace q serial)) (getElem?-past (q .stores) (storePlace q serial) past))
         ∙ would-write q d serial
         ∙ sym (write-ready q d serial memory e)
         ∙ accepted-number (write q memory serial) (write-proper q memory serial)

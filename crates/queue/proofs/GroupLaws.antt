@@ -7,19 +7,18 @@ use mathlib.Core.Bool.{_&&_}
 use mathlib.Core.List.{List, [], _∷_}
 use mathlib.Core.Option.{some}
 use lib.Dec.{leb}
-use lib.ListN.{length, getD, take, drop, drop-of-length-le}
+use lib.ListN.{length, getD, take, drop, drop-of-length-le, getElem?}
 use lib.Seq.{drop-cons, getD-take}
 use Rattle.table.specs.declared.Span.{Span}
 use Rattle.table.specs.declared.Group.{Group}
 use Rattle.table.specs.declared.Table.{Table}
 use Rattle.table.specs.Packed.{pairIn}
 use Rattle.table.specs.Group.{GroupPairs, blankPair, listOf, pairsOf}
-use Rattle.table.specs.Basics.{nth}
 use Rattle.table.specs.Table.{meantIn, groupAt, groupsOf, tableFault}
 use Rattle.table.proofs.CheckLaws.{view-length, view-at, groups-size, group-at}
 use Rattle.table.proofs.OrderOffsets.{GroupRight, table-groups-few, table-group-right}
 use Rattle.queue.specs.Open.{groupFits}
-use Rattle.queue.proofs.ContentsLaws.{side-nth, side-here, side-end}
+use Rattle.queue.proofs.ContentsLaws.{side-getElem?, side-here, side-end}
 
 -- the pairs from the ith on: what a walk over them comes to
 pub pairs-here : (places : List ℕ) (ps : Span) (i : ℕ) → i < ps .count → drop i (listOf places ps) ≡ pairIn (getD places (ps .first + i) 0) ∷ drop (i + 1) (listOf places ps)
@@ -53,8 +52,8 @@ module _ (t : Table) (few : t .count ≤ 16) (i : ℕ) (k : i < t .count) {g : G
   pub groups-here : drop i (groupsOf t) ≡ pairsOf (t .loads) (t .stores) g ∷ drop (i + 1) (groupsOf t)
   groups-here = side-here (meantIn (t .loads) (t .stores)) 0 (t .count) (t .groups) i k ∙ ap (λ (x : GroupPairs). x ∷ drop (i + 1) (groupsOf t)) is-here
 
-  pub group-nth : nth (groupsOf t) i ≡ some (pairsOf (t .loads) (t .stores) g)
-  group-nth = side-nth (meantIn (t .loads) (t .stores)) 0 (t .count) (t .groups) i k ∙ ap (λ (x : GroupPairs). some x) is-here
+  pub group-getElem? : getElem? (groupsOf t) i ≡ some (pairsOf (t .loads) (t .stores) g)
+  group-getElem? = side-getElem? (meantIn (t .loads) (t .stores)) 0 (t .count) (t .groups) i k ∙ ap (λ (x : GroupPairs). some x) is-here
 
   pub group-right : tableFault (groupsOf t) ≡ 0 → GroupRight (pairsOf (t .loads) (t .stores) g)
   group-right right = rw (group-at t few i k here a) at (table-group-right (groupsOf t) right i here (rw (groups-size t) k))

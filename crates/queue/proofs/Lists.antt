@@ -6,8 +6,8 @@ use mathlib.Core.Path.{_≡_, refl, sym, ap, _∙_}
 use mathlib.Core.Bool.{Bool, true, false, not, _&&_, _||_, false≢true}
 use mathlib.Core.List.{List, [], _∷_, _++_, map, head-eq-of-cons-eq, tail-eq-of-cons-eq}
 use mathlib.Core.Option.{Option, none, some}
-use lib.ListN.{length, take}
-use Rattle.table.specs.Basics.{pick, any, all, count, nth, takeWhile, dropWhile}
+use lib.ListN.{length, take, getElem?}
+use Rattle.table.specs.Basics.{pick, anyOf, allOf, countWhere, frontWhile, afterWhile}
 use Rattle.queue.specs.Ruled.{isSome}
 use Rattle.queue.specs.Contents.{updateAt, firstPlace}
 
@@ -49,93 +49,93 @@ is-none (some x) h = false-true h
 module _ {A : Type 0} where
   -- ---- all, any, count
 
-  pub all-append : (p : A → Bool) (xs ys : List A) → all p (xs ++ ys) ≡ all p xs && all p ys
+  pub all-append : (p : A → Bool) (xs ys : List A) → allOf p (xs ++ ys) ≡ allOf p xs && allOf p ys
   all-append p [] ys = refl
-  all-append p (x ∷ xs) ys = rw (all-append p xs ys) (sym (and-is-assoc (p x) (all p xs) (all p ys)))
+  all-append p (x ∷ xs) ys = rw (all-append p xs ys) (sym (and-is-assoc (p x) (allOf p xs) (allOf p ys)))
     where
       and-is-assoc : (a b c : Bool) → a && b && c ≡ a && (b && c)
       and-is-assoc true b c = refl
       and-is-assoc false b c = refl
 
-  pub all-left : (p : A → Bool) (xs ys : List A) → all p (xs ++ ys) ≡ true → all p xs ≡ true
-  all-left p xs ys h = and-left (all p xs) (all p ys) (rw (all-append p xs ys) at h)
+  pub all-left : (p : A → Bool) (xs ys : List A) → allOf p (xs ++ ys) ≡ true → allOf p xs ≡ true
+  all-left p xs ys h = and-left (allOf p xs) (allOf p ys) (rw (all-append p xs ys) at h)
 
-  pub all-right : (p : A → Bool) (xs ys : List A) → all p (xs ++ ys) ≡ true → all p ys ≡ true
-  all-right p xs ys h = and-right (all p xs) (all p ys) (rw (all-append p xs ys) at h)
+  pub all-right : (p : A → Bool) (xs ys : List A) → allOf p (xs ++ ys) ≡ true → allOf p ys ≡ true
+  all-right p xs ys h = and-right (allOf p xs) (allOf p ys) (rw (all-append p xs ys) at h)
 
-  pub all-join : (p : A → Bool) (xs ys : List A) → all p xs ≡ true → all p ys ≡ true → all p (xs ++ ys) ≡ true
+  pub all-join : (p : A → Bool) (xs ys : List A) → allOf p xs ≡ true → allOf p ys ≡ true → allOf p (xs ++ ys) ≡ true
   all-join p xs ys h k = rw (all-append p xs ys, h, k)
 
   -- one element replaced
-  pub all-replace : (p : A → Bool) (xs ys : List A) (x y : A) → all p (xs ++ x ∷ ys) ≡ true → p y ≡ true → all p (xs ++ y ∷ ys) ≡ true
-  all-replace p xs ys x y h k = all-join p xs (y ∷ ys) (all-left p xs (x ∷ ys) h) (and-both k (and-right (p x) (all p ys) (all-right p xs (x ∷ ys) h)))
+  pub all-replace : (p : A → Bool) (xs ys : List A) (x y : A) → allOf p (xs ++ x ∷ ys) ≡ true → p y ≡ true → allOf p (xs ++ y ∷ ys) ≡ true
+  all-replace p xs ys x y h k = all-join p xs (y ∷ ys) (all-left p xs (x ∷ ys) h) (and-both k (and-right (p x) (allOf p ys) (all-right p xs (x ∷ ys) h)))
 
   -- the element in the middle
-  pub all-middle : (p : A → Bool) (xs ys : List A) (x : A) → all p (xs ++ x ∷ ys) ≡ true → p x ≡ true
-  all-middle p xs ys x h = and-left (p x) (all p ys) (all-right p xs (x ∷ ys) h)
+  pub all-middle : (p : A → Bool) (xs ys : List A) (x : A) → allOf p (xs ++ x ∷ ys) ≡ true → p x ≡ true
+  all-middle p xs ys x h = and-left (p x) (allOf p ys) (all-right p xs (x ∷ ys) h)
 
-  pub all-weaken : (p q : A → Bool) → ((x : A) → p x ≡ true → q x ≡ true) → (xs : List A) → all p xs ≡ true → all q xs ≡ true
+  pub all-weaken : (p q : A → Bool) → ((x : A) → p x ≡ true → q x ≡ true) → (xs : List A) → allOf p xs ≡ true → allOf q xs ≡ true
   all-weaken p q w [] h = refl
-  all-weaken p q w (x ∷ xs) h = and-both (w x (and-left (p x) (all p xs) h)) (all-weaken p q w xs (and-right (p x) (all p xs) h))
+  all-weaken p q w (x ∷ xs) h = and-both (w x (and-left (p x) (allOf p xs) h)) (all-weaken p q w xs (and-right (p x) (allOf p xs) h))
 
   -- two tests give a third
-  pub all-weaken₂ : (p q r : A → Bool) → ((x : A) → p x ≡ true → q x ≡ true → r x ≡ true) → (xs : List A) → all p xs ≡ true → all q xs ≡ true → all r xs ≡ true
+  pub all-weaken₂ : (p q r : A → Bool) → ((x : A) → p x ≡ true → q x ≡ true → r x ≡ true) → (xs : List A) → allOf p xs ≡ true → allOf q xs ≡ true → allOf r xs ≡ true
   all-weaken₂ p q r w [] h k = refl
   all-weaken₂ p q r w (x ∷ xs) h k =
-      and-both (w x (and-left (p x) (all p xs) h) (and-left (q x) (all q xs) k)) (all-weaken₂ p q r w xs (and-right (p x) (all p xs) h) (and-right (q x) (all q xs) k))
+      and-both (w x (and-left (p x) (allOf p xs) h) (and-left (q x) (allOf q xs) k)) (all-weaken₂ p q r w xs (and-right (p x) (allOf p xs) h) (and-right (q x) (allOf q xs) k))
 
-  pub all-take : (p : A → Bool) (n : ℕ) (xs : List A) → all p xs ≡ true → all p (take n xs) ≡ true
+  pub all-take : (p : A → Bool) (n : ℕ) (xs : List A) → allOf p xs ≡ true → allOf p (take n xs) ≡ true
   all-take p zero [] h = refl
   all-take p zero (x ∷ xs) h = refl
   all-take p (suc n) [] h = refl
-  all-take p (suc n) (x ∷ xs) h = and-both (and-left (p x) (all p xs) h) (all-take p n xs (and-right (p x) (all p xs) h))
+  all-take p (suc n) (x ∷ xs) h = and-both (and-left (p x) (allOf p xs) h) (all-take p n xs (and-right (p x) (allOf p xs) h))
 
-  pub all-map : {B : Type 0} (p : B → Bool) (q : A → Bool) (f : A → B) → ((x : A) → p (f x) ≡ q x) → (xs : List A) → all p (map f xs) ≡ all q xs
+  pub all-map : {B : Type 0} (p : B → Bool) (q : A → Bool) (f : A → B) → ((x : A) → p (f x) ≡ q x) → (xs : List A) → allOf p (map f xs) ≡ allOf q xs
   all-map p q f e [] = refl
   all-map p q f e (x ∷ xs) = rw (e x, all-map p q f e xs)
 
-  pub count-append : (p : A → Bool) (xs ys : List A) → count p (xs ++ ys) ≡ count p xs + count p ys
-  count-append p [] ys = sym (zero-add (count p ys))
+  pub count-append : (p : A → Bool) (xs ys : List A) → countWhere p (xs ++ ys) ≡ countWhere p xs + countWhere p ys
+  count-append p [] ys = sym (zero-add (countWhere p ys))
   count-append p (x ∷ xs) ys = go (p x) (count-append p xs ys)
     where
-      go : (b : Bool) → count p (xs ++ ys) ≡ count p xs + count p ys
-          → pick b (suc (count p (xs ++ ys))) (count p (xs ++ ys)) ≡ pick b (suc (count p xs)) (count p xs) + count p ys
+      go : (b : Bool) → countWhere p (xs ++ ys) ≡ countWhere p xs + countWhere p ys
+          → pick b (suc (countWhere p (xs ++ ys))) (countWhere p (xs ++ ys)) ≡ pick b (suc (countWhere p xs)) (countWhere p xs) + countWhere p ys
       go true h = omega arith
       go false h = h
 
   -- ---- takeWhile, dropWhile
 
-  pub all-takeWhile : (p : A → Bool) (xs : List A) → all p (takeWhile p xs) ≡ true
-  all-takeWhile p [] = refl
-  all-takeWhile p (x ∷ xs) = go (p x) refl (all-takeWhile p xs)
+  pub all-frontWhile : (p : A → Bool) (xs : List A) → allOf p (frontWhile p xs) ≡ true
+  all-frontWhile p [] = refl
+  all-frontWhile p (x ∷ xs) = go (p x) refl (all-frontWhile p xs)
     where
-      go : (b : Bool) → p x ≡ b → all p (takeWhile p xs) ≡ true → all p (pick b (x ∷ takeWhile p xs) []) ≡ true
+      go : (b : Bool) → p x ≡ b → allOf p (frontWhile p xs) ≡ true → allOf p (pick b (x ∷ frontWhile p xs) []) ≡ true
       go true e h = and-both e h
       go false e h = refl
 
-  pub dropWhile-map : {B : Type 0} (p : B → Bool) (q : A → Bool) (f : A → B) → ((x : A) → p (f x) ≡ q x) → (xs : List A) → dropWhile p (map f xs) ≡ map f (dropWhile q xs)
-  dropWhile-map p q f e [] = refl
-  dropWhile-map {B} p q f e (x ∷ xs) = rw (e x) (go (q x) (dropWhile-map p q f e xs))
+  pub afterWhile-map : {B : Type 0} (p : B → Bool) (q : A → Bool) (f : A → B) → ((x : A) → p (f x) ≡ q x) → (xs : List A) → afterWhile p (map f xs) ≡ map f (afterWhile q xs)
+  afterWhile-map p q f e [] = refl
+  afterWhile-map {B} p q f e (x ∷ xs) = rw (e x) (go (q x) (afterWhile-map p q f e xs))
     where
-      go : (b : Bool) → dropWhile p (map f xs) ≡ map f (dropWhile q xs) → pick b (dropWhile p (map f xs)) (f x ∷ map f xs) ≡ map f (pick b (dropWhile q xs) (x ∷ xs))
+      go : (b : Bool) → afterWhile p (map f xs) ≡ map f (afterWhile q xs) → pick b (afterWhile p (map f xs)) (f x ∷ map f xs) ≡ map f (pick b (afterWhile q xs) (x ∷ xs))
       go true h = h
       go false h = refl
 
-  pub length-takeWhile-map : {B : Type 0} (p : B → Bool) (q : A → Bool) (f : A → B) → ((x : A) → p (f x) ≡ q x) → (xs : List A)
-      → length (takeWhile p (map f xs)) ≡ length (takeWhile q xs)
-  length-takeWhile-map p q f e [] = refl
-  length-takeWhile-map {B} p q f e (x ∷ xs) = rw (e x) (go (q x) (length-takeWhile-map p q f e xs))
+  pub length-frontWhile-map : {B : Type 0} (p : B → Bool) (q : A → Bool) (f : A → B) → ((x : A) → p (f x) ≡ q x) → (xs : List A)
+      → length (frontWhile p (map f xs)) ≡ length (frontWhile q xs)
+  length-frontWhile-map p q f e [] = refl
+  length-frontWhile-map {B} p q f e (x ∷ xs) = rw (e x) (go (q x) (length-frontWhile-map p q f e xs))
     where
-      go : (b : Bool) → length (takeWhile p (map f xs)) ≡ length (takeWhile q xs)
-          → length (pick b (f x ∷ takeWhile p (map f xs)) []) ≡ length (pick b (x ∷ takeWhile q xs) [])
+      go : (b : Bool) → length (frontWhile p (map f xs)) ≡ length (frontWhile q xs)
+          → length (pick b (f x ∷ frontWhile p (map f xs)) []) ≡ length (pick b (x ∷ frontWhile q xs) [])
       go true h = ap suc h
       go false h = refl
 
-  pub length-dropWhile : (p : A → Bool) (xs : List A) → length (dropWhile p xs) ≤ length xs
-  length-dropWhile p [] = omega arith
-  length-dropWhile p (x ∷ xs) = go (p x) (length-dropWhile p xs)
+  pub length-afterWhile : (p : A → Bool) (xs : List A) → length (afterWhile p xs) ≤ length xs
+  length-afterWhile p [] = omega arith
+  length-afterWhile p (x ∷ xs) = go (p x) (length-afterWhile p xs)
     where
-      go : (b : Bool) → length (dropWhile p xs) ≤ length xs → length (pick b (dropWhile p xs) (x ∷ xs)) ≤ length (x ∷ xs)
+      go : (b : Bool) → length (afterWhile p xs) ≤ length xs → length (pick b (afterWhile p xs) (x ∷ xs)) ≤ length (x ∷ xs)
       go true h = omega arith
       go false h = omega arith
 
@@ -161,23 +161,23 @@ module _ {A : Type 0} where
   take-map f (suc n) [] = refl
   take-map {B} f (suc n) (x ∷ xs) = ap (λ (l : List B). f x ∷ l) (take-map f n xs)
 
-  pub nth-map : {B : Type 0} (f : A → B) (xs : List A) (i : ℕ) {y : B} → nth (map f xs) i ≡ some y → (x : A) × (nth xs i ≡ some x)
-  nth-map f [] i h = let e : false ≡ true = cc in false-true e
-  nth-map f (x ∷ xs) zero h = (x, refl)
-  nth-map f (x ∷ xs) (suc i) h = nth-map f xs i h
+  pub getElem?-map : {B : Type 0} (f : A → B) (xs : List A) (i : ℕ) {y : B} → getElem? (map f xs) i ≡ some y → (x : A) × (getElem? xs i ≡ some x)
+  getElem?-map f [] i h = let e : false ≡ true = cc in false-true e
+  getElem?-map f (x ∷ xs) zero h = (x, refl)
+  getElem?-map f (x ∷ xs) (suc i) h = getElem?-map f xs i h
 
   pub map-same : {B : Type 0} (f g : A → B) → ((x : A) → f x ≡ g x) → (xs : List A) → map f xs ≡ map g xs
   map-same f g e [] = refl
   map-same f g e (x ∷ xs) = rw (e x, map-same f g e xs)
 
-  pub nth-split : (xs : List A) (i : ℕ) {x : A} → nth xs i ≡ some x → (before after : List A) × (xs ≡ before ++ x ∷ after) × (length before ≡ i)
-  nth-split [] i h = let e : false ≡ true = cc in false-true e
-  nth-split (y ∷ xs) zero {x} h = let e : y ≡ x = cc in ([], xs, rw e, refl)
-  nth-split (y ∷ xs) (suc i) h = let (b, a, e, l) = nth-split xs i h in (y ∷ b, a, ap (λ (t : List A). y ∷ t) e, ap suc l)
+  pub getElem?-split : (xs : List A) (i : ℕ) {x : A} → getElem? xs i ≡ some x → (before after : List A) × (xs ≡ before ++ x ∷ after) × (length before ≡ i)
+  getElem?-split [] i h = let e : false ≡ true = cc in false-true e
+  getElem?-split (y ∷ xs) zero {x} h = let e : y ≡ x = cc in ([], xs, rw e, refl)
+  getElem?-split (y ∷ xs) (suc i) h = let (b, a, e, l) = getElem?-split xs i h in (y ∷ b, a, ap (λ (t : List A). y ∷ t) e, ap suc l)
 
-  pub nth-seam : (xs : List A) (x : A) (ys : List A) → nth (xs ++ x ∷ ys) (length xs) ≡ some x
-  nth-seam [] x ys = refl
-  nth-seam (y ∷ xs) x ys = nth-seam xs x ys
+  pub getElem?-seam : (xs : List A) (x : A) (ys : List A) → getElem? (xs ++ x ∷ ys) (length xs) ≡ some x
+  getElem?-seam [] x ys = refl
+  getElem?-seam (y ∷ xs) x ys = getElem?-seam xs x ys
 
   pub updateAt-seam : (f : A → A) (xs : List A) (x : A) (ys : List A) → updateAt f (length xs) (xs ++ x ∷ ys) ≡ xs ++ f x ∷ ys
   updateAt-seam f [] x ys = refl
@@ -190,38 +190,38 @@ module _ {A : Type 0} where
   length-updateAt f (suc i) (x ∷ xs) = ap suc (length-updateAt f i xs)
 
   -- an element at the first place passes, and those before it do not
-  pub first-passes : (p : A → Bool) (xs : List A) {x : A} → nth xs (firstPlace p xs) ≡ some x → p x ≡ true
+  pub first-passes : (p : A → Bool) (xs : List A) {x : A} → getElem? xs (firstPlace p xs) ≡ some x → p x ≡ true
   first-passes p [] h = let e : false ≡ true = cc in false-true e
   first-passes p (y ∷ xs) {x} h = go (p y) refl h (λ k. first-passes p xs k)
     where
-      go : (b : Bool) → p y ≡ b → nth (y ∷ xs) (pick b 0 (suc (firstPlace p xs))) ≡ some x → (nth xs (firstPlace p xs) ≡ some x → p x ≡ true) → p x ≡ true
+      go : (b : Bool) → p y ≡ b → getElem? (y ∷ xs) (pick b 0 (suc (firstPlace p xs))) ≡ some x → (getElem? xs (firstPlace p xs) ≡ some x → p x ≡ true) → p x ≡ true
       go true e k rec = let same : y ≡ x = cc in (rw same at e)
       go false e k rec = rec k
 
-  pub first-before : (p : A → Bool) (xs : List A) → all (λ x. not (p x)) (take (firstPlace p xs) xs) ≡ true
+  pub first-before : (p : A → Bool) (xs : List A) → allOf (λ x. not (p x)) (take (firstPlace p xs) xs) ≡ true
   first-before p [] = refl
   first-before p (y ∷ xs) = go (p y) refl (first-before p xs)
     where
-      go : (b : Bool) → p y ≡ b → all (λ x. not (p x)) (take (firstPlace p xs) xs) ≡ true
-          → all (λ x. not (p x)) (take (pick b 0 (suc (firstPlace p xs))) (y ∷ xs)) ≡ true
+      go : (b : Bool) → p y ≡ b → allOf (λ x. not (p x)) (take (firstPlace p xs) xs) ≡ true
+          → allOf (λ x. not (p x)) (take (pick b 0 (suc (firstPlace p xs))) (y ∷ xs)) ≡ true
       go true e h = refl
       go false e h = and-both {a = not (p y)} (rw e) h
 
-  pub any-first : (p : A → Bool) (xs : List A) → any p xs ≡ true → (x : A) × (nth xs (firstPlace p xs) ≡ some x)
+  pub any-first : (p : A → Bool) (xs : List A) → anyOf p xs ≡ true → (x : A) × (getElem? xs (firstPlace p xs) ≡ some x)
   any-first p [] h = false-true h
   any-first p (y ∷ xs) h = go (p y) h (λ k. any-first p xs k)
     where
-      go : (b : Bool) → b || any p xs ≡ true → (any p xs ≡ true → (x : A) × (nth xs (firstPlace p xs) ≡ some x))
-          → (x : A) × (nth (y ∷ xs) (pick b 0 (suc (firstPlace p xs))) ≡ some x)
+      go : (b : Bool) → b || anyOf p xs ≡ true → (anyOf p xs ≡ true → (x : A) × (getElem? xs (firstPlace p xs) ≡ some x))
+          → (x : A) × (getElem? (y ∷ xs) (pick b 0 (suc (firstPlace p xs))) ≡ some x)
       go true k rec = (y, refl)
       go false k rec = rec k
 
   -- where a list begins with elements that pass, one that does not pass stands behind them
-  pub failing-behind : (p : A → Bool) (xs : List A) (y : A) (ys old live : List A) → xs ++ y ∷ ys ≡ old ++ live → all p old ≡ true → p y ≡ false
+  pub failing-behind : (p : A → Bool) (xs : List A) (y : A) (ys old live : List A) → xs ++ y ∷ ys ≡ old ++ live → allOf p old ≡ true → p y ≡ false
       → (near : List A) × (xs ≡ old ++ near)
   failing-behind p xs y ys [] live e h f = (xs, refl)
-  failing-behind p [] y ys (o ∷ old) live e h f = let q : p o ≡ false = (rw (head-eq-of-cons-eq e) at f) in let z : false ≡ true = sym q ∙ and-left (p o) (all p old) h in false-true z
-  failing-behind p (x ∷ xs) y ys (o ∷ old) live e h f = go (failing-behind p xs y ys old live (tail-eq-of-cons-eq e) (and-right (p o) (all p old) h) f) (head-eq-of-cons-eq e)
+  failing-behind p [] y ys (o ∷ old) live e h f = let q : p o ≡ false = (rw (head-eq-of-cons-eq e) at f) in let z : false ≡ true = sym q ∙ and-left (p o) (allOf p old) h in false-true z
+  failing-behind p (x ∷ xs) y ys (o ∷ old) live e h f = go (failing-behind p xs y ys old live (tail-eq-of-cons-eq e) (and-right (p o) (allOf p old) h) f) (head-eq-of-cons-eq e)
     where
       go : (near : List A) × (xs ≡ old ++ near) → x ≡ o → (near : List A) × (x ∷ xs ≡ o ∷ (old ++ near))
       go (near, k) q = (near, rw (q, k))

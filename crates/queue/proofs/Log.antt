@@ -10,7 +10,7 @@ use mathlib.Core.Option.{Option, none, some}
 use lib.Dec.{leb}
 use lib.ListN.{length}
 use borrow.Author.Tests.{le-leb}
-use Rattle.table.specs.Basics.{all}
+use Rattle.table.specs.Basics.{allOf}
 use Rattle.queue.specs.Ruled.{isSome}
 use Rattle.queue.specs.Contents.{Load, Store}
 use Rattle.queue.specs.Plain.{consOption}
@@ -157,12 +157,12 @@ module _ {A : Type 0} (K : Kind A) where
       go (some a) h k = ap suc h
 
   -- no entry remembers more of the other kind than there are
-  pub side-before : (n : ℕ) (es : List Entry) → all (λ x. leb (x .before) (n + others K es)) (side K n es) ≡ true
+  pub side-before : (n : ℕ) (es : List Entry) → allOf (λ x. leb (x .before) (n + others K es)) (side K n es) ≡ true
   side-before n [] = refl
   side-before n (e ∷ es) = go (K .own e) (side-before n es) (side-before (suc n) es)
     where
-      go : (o : Option A) → all (λ x. leb (x .before) (n + others K es)) (side K n es) ≡ true → all (λ x. leb (x .before) (suc n + others K es)) (side K (suc n) es) ≡ true
-          → all (λ x. leb (x .before) (n + counting o (others K es))) (onto o n (side K n es) (side K (suc n) es)) ≡ true
+      go : (o : Option A) → allOf (λ x. leb (x .before) (n + others K es)) (side K n es) ≡ true → allOf (λ x. leb (x .before) (suc n + others K es)) (side K (suc n) es) ≡ true
+          → allOf (λ x. leb (x .before) (n + counting o (others K es))) (onto o n (side K n es) (side K (suc n) es)) ≡ true
       go none h k = rw (add-suc n (others K es), ← suc-add n (others K es)) k
       go (some a) h k = and-both (le-leb n (n + others K es) (omega arith)) h
 

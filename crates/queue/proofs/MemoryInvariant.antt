@@ -10,7 +10,7 @@ use lib.Dec.{eqb}
 use lib.ListN.{length, getD, set, length-set}
 use lib.Seq.{getD-set-same, getD-set-other, set-comm}
 use borrow.Author.Tests.{eqb-true, eqb-false, not-true}
-use Rattle.table.specs.Basics.{pick, all}
+use Rattle.table.specs.Basics.{pick, allOf}
 use Rattle.table.specs.Group.{Access, load, store}
 use Rattle.queue.specs.Ruled.{isSome}
 use Rattle.queue.specs.Contents.{Load, Store}
@@ -100,7 +100,7 @@ holding-store s a k m low known-address h b w = go (s .written) (s .address) (s 
 
 pub agree-serve : (l : Load) (post : List Entry) (a v : ℕ) → l .address ≡ some a → l .value ≡ none
     → (pre : List Entry) (k : Option ℕ) (m n : List ℕ) → a < length m → Holding k (getD m a 0)
-    → all settled (ownIn stores pre) ≡ true → known a k (ownIn stores pre) ≡ some v
+    → allOf settled (ownIn stores pre) ≡ true → known a k (ownIn stores pre) ≡ some v
     → Agree m n (pre ++ ofLoad l ∷ post) → Agree m n (pre ++ ofLoad (loadWithValue v l) ∷ post)
 agree-serve l post a v address unserved [] k m n low h t e g = (λ b f. served b f, g .1)
   where
@@ -109,7 +109,7 @@ agree-serve l post a v address unserved [] k m n low h t e g = (λ b f. served b
 agree-serve l post a v address unserved (ofLoad k₁ ∷ pre) k m n low h t e g = (g .0, agree-serve l post a v address unserved pre k m n low h t e (g .1))
 agree-serve l post a v address unserved (ofStore s ∷ pre) k m n low h t e g =
     λ b w p q. agree-serve l post a v address unserved pre (pick (supplies a s) (s .word) k) (does (s .written) m b w) (set n b w) (long (s .written) b w)
-    (holding-store s a k m low (and-left (settled s) (all settled (ownIn stores pre)) t) h b w p q) (and-right (settled s) (all settled (ownIn stores pre)) t) e (g b w p q)
+    (holding-store s a k m low (and-left (settled s) (allOf settled (ownIn stores pre)) t) h b w p q) (and-right (settled s) (allOf settled (ownIn stores pre)) t) e (g b w p q)
   where
     long : (written : Bool) (b w : ℕ) → a < length (does written m b w)
     long true b w = low
@@ -118,15 +118,15 @@ agree-serve l post a v address unserved (ofStore s ∷ pre) k m n low h t e g =
 -- ---- write: the store may go ahead of everything before it
 
 pub agree-write : (s : Store) (post : List Entry) (a w : ℕ) → s .address ≡ some a → s .word ≡ some w → s .written ≡ false
-    → (pre : List Entry) (m n : List ℕ) → all (loadGivesWay a) (ownIn loads pre) ≡ true → all (storeGivesWay a) (ownIn stores pre) ≡ true
+    → (pre : List Entry) (m n : List ℕ) → allOf (loadGivesWay a) (ownIn loads pre) ≡ true → allOf (storeGivesWay a) (ownIn stores pre) ≡ true
     → Agree m n (pre ++ ofStore s ∷ post) → Agree (set m a w) n (pre ++ ofStore (storeDone s) ∷ post)
 agree-write s post a w address word unwritten [] m n tl ts g = λ b x f h. done b x f h (rw address at f) (rw word at h)
   where
     done : (b x : ℕ) → fits (s .address) b → fits (s .word) x → a ≡ b → w ≡ x → Agree (set m a w) (set n b x) post
     done b x f h same same′ = rw (same, same′) (rw unwritten at (g b x f h))
 agree-write s post a w address word unwritten (ofLoad l ∷ pre) m n tl ts g = (
-  λ b f. ahead (l .value) (l .address) (and-left (loadGivesWay a l) (all (loadGivesWay a) (ownIn loads pre)) tl) b f (g .0 b f),
-  agree-write s post a w address word unwritten pre m n (and-right (loadGivesWay a l) (all (loadGivesWay a) (ownIn loads pre)) tl) ts (g .1),
+  λ b f. ahead (l .value) (l .address) (and-left (loadGivesWay a l) (allOf (loadGivesWay a) (ownIn loads pre)) tl) b f (g .0 b f),
+  agree-write s post a w address word unwritten pre m n (and-right (loadGivesWay a l) (allOf (loadGivesWay a) (ownIn loads pre)) tl) ts (g .1),
 )
   where
     ahead : (value address′ : Option ℕ) → isSome value || addressApart a address′ ≡ true → (b : ℕ) → fits address′ b → reads value m b ≡ getD n b 0 → reads value (set m a w) b ≡ getD n b 0
@@ -134,8 +134,8 @@ agree-write s post a w address word unwritten (ofLoad l ∷ pre) m n tl ts g = (
     ahead none none t b f h = false-true t
     ahead none (some c) t b f h = rw (getD-set-other m a b w 0 (λ p. eqb-false c a (not-true (eqb c a) t) (f ∙ p))) h
 agree-write s post a w address word unwritten (ofStore r ∷ pre) m n tl ts g =
-    λ b x f h. rw (ahead (r .written) (r .address) (and-left (storeGivesWay a r) (all (storeGivesWay a) (ownIn stores pre)) ts) b x f)
-    (agree-write s post a w address word unwritten pre (does (r .written) m b x) (set n b x) tl (and-right (storeGivesWay a r) (all (storeGivesWay a) (ownIn stores pre)) ts) (g b x f h))
+    λ b x f h. rw (ahead (r .written) (r .address) (and-left (storeGivesWay a r) (allOf (storeGivesWay a) (ownIn stores pre)) ts) b x f)
+    (agree-write s post a w address word unwritten pre (does (r .written) m b x) (set n b x) tl (and-right (storeGivesWay a r) (allOf (storeGivesWay a) (ownIn stores pre)) ts) (g b x f h))
   where
     ahead : (written : Bool) (address′ : Option ℕ) → written || addressApart a address′ ≡ true → (b x : ℕ) → fits address′ b → does written (set m a w) b x ≡ set (does written m b x) a w
     ahead true address′ t b x f = refl

@@ -8,9 +8,9 @@ use mathlib.Core.Bool.{Bool, true, false, not, _&&_}
 use mathlib.Core.List.{List, [], _∷_, _++_, map}
 use mathlib.Core.Option.{Option, none, some}
 use lib.Dec.{leb, eqb}
-use lib.ListN.{length, take}
+use lib.ListN.{length, take, getElem?}
 use borrow.Author.Tests.{eq-eqb, leb-true}
-use Rattle.table.specs.Basics.{all, count, nth}
+use Rattle.table.specs.Basics.{allOf, countWhere}
 use Rattle.table.specs.Group.{GroupPairs}
 use Rattle.queue.specs.Ruled.{number, isSome}
 use Rattle.queue.specs.Contents.{Load, Store, Contents, after, age, oldest, loadPlace, storePlace}
@@ -41,31 +41,31 @@ oldest-small next n = omega arith
 pub after-small : (from i : ℕ) → after from i < 2 ^ 32
 after-small from i = omega arith
 
-nth-short : {A : Type 0} (xs : List A) (i : ℕ) {x : A} → nth xs i ≡ some x → i < length xs
-nth-short [] i h = let e : false ≡ true = cc in false-true e
-nth-short (y ∷ xs) zero h = omega arith
-nth-short (y ∷ xs) (suc i) h = let k : i < length xs = nth-short xs i h in omega arith
+getElem?-short : {A : Type 0} (xs : List A) (i : ℕ) {x : A} → getElem? xs i ≡ some x → i < length xs
+getElem?-short [] i h = let e : false ≡ true = cc in false-true e
+getElem?-short (y ∷ xs) zero h = omega arith
+getElem?-short (y ∷ xs) (suc i) h = let k : i < length xs = getElem?-short xs i h in omega arith
 
 -- ---- what is accepted
 
-serve-accepted : (q : Contents) (m : List ℕ) (serial : ℕ) (l : Load) (a : ℕ) → sound q ≡ true → length m ≡ q .memoryLength → nth (q .loads) (loadPlace q serial) ≡ some l
-    → l .value ≡ none → l .address ≡ some a → all hasAddress (take (l .before) (q .stores)) ≡ true → nearest a none (take (l .before) (q .stores)) ≡ none
+serve-accepted : (q : Contents) (m : List ℕ) (serial : ℕ) (l : Load) (a : ℕ) → sound q ≡ true → length m ≡ q .memoryLength → getElem? (q .loads) (loadPlace q serial) ≡ some l
+    → l .value ≡ none → l .address ≡ some a → allOf hasAddress (take (l .before) (q .stores)) ≡ true → nearest a none (take (l .before) (q .stores)) ≡ none
     → number (serve q m serial) ≡ 0
 unfolding serve
 serve-accepted q m serial l a right long at unserved address earlier none-supplies =
     rw (right, eq-eqb (length m) (q .memoryLength) long, at, unserved, address, earlier, none-supplies)
 
-write-accepted : (q : Contents) (m : List ℕ) (serial : ℕ) (s : Store) (a w : ℕ) → sound q ≡ true → length m ≡ q .memoryLength → nth (q .stores) (storePlace q serial) ≡ some s
-    → s .written ≡ false → s .address ≡ some a → s .word ≡ some w → all (loadGivesWay a) (take (s .before) (q .loads)) ≡ true
-    → all (storeGivesWay a) (take (storePlace q serial) (q .stores)) ≡ true → number (write q m serial) ≡ 0
+write-accepted : (q : Contents) (m : List ℕ) (serial : ℕ) (s : Store) (a w : ℕ) → sound q ≡ true → length m ≡ q .memoryLength → getElem? (q .stores) (storePlace q serial) ≡ some s
+    → s .written ≡ false → s .address ≡ some a → s .word ≡ some w → allOf (loadGivesWay a) (take (s .before) (q .loads)) ≡ true
+    → allOf (storeGivesWay a) (take (storePlace q serial) (q .stores)) ≡ true → number (write q m serial) ≡ 0
 unfolding write
 write-accepted q m serial s a w right long at unwritten address word loadsApart storesApart =
     rw (right, eq-eqb (length m) (q .memoryLength) long, at, unwritten, address, word, loadsApart, storesApart)
 
 -- written stores supply nothing
-nearest-written : (a : ℕ) (found : Option Store) (ss : List Store) → all storeFinished ss ≡ true → nearest a found ss ≡ found
+nearest-written : (a : ℕ) (found : Option Store) (ss : List Store) → allOf storeFinished ss ≡ true → nearest a found ss ≡ found
 nearest-written a found [] h = refl
-nearest-written a found (s ∷ ss) h = rw (and-left (s .written) (all storeFinished ss) h) (nearest-written a found ss (and-right (s .written) (all storeFinished ss) h))
+nearest-written a found (s ∷ ss) h = rw (and-left (s .written) (allOf storeFinished ss) h) (nearest-written a found ss (and-right (s .written) (allOf storeFinished ss) h))
 
 -- ---- complete and done entries
 
@@ -78,13 +78,13 @@ done (ofLoad l) = isSome (l .value)
 done (ofStore s) = s .written
 
 -- a test of entries, read for one kind
-all-own : {A : Type 0} (K : Kind A) (p : Entry → Bool) (r : A → Bool) → ((a : A) → p (K .put a) ≡ true → r a ≡ true) → (es : List Entry) → all p es ≡ true → all r (ownIn K es) ≡ true
+all-own : {A : Type 0} (K : Kind A) (p : Entry → Bool) (r : A → Bool) → ((a : A) → p (K .put a) ≡ true → r a ≡ true) → (es : List Entry) → allOf p es ≡ true → allOf r (ownIn K es) ≡ true
 all-own K p r w [] h = refl
-all-own {A} K p r w (e ∷ es) h = go (K .own e) refl (all-own K p r w es (and-right (p e) (all p es) h))
+all-own {A} K p r w (e ∷ es) h = go (K .own e) refl (all-own K p r w es (and-right (p e) (allOf p es) h))
   where
-    go : (o : Option A) → K .own e ≡ o → all r (ownIn K es) ≡ true → all r (consOption o (ownIn K es)) ≡ true
+    go : (o : Option A) → K .own e ≡ o → allOf r (ownIn K es) ≡ true → allOf r (consOption o (ownIn K es)) ≡ true
     go none own k = k
-    go (some a) own k = let is : e ≡ K .put a = K .put-own e a own in and-both (w a (rw is at (and-left (p e) (all p es) h))) k
+    go (some a) own k = let is : e ≡ K .put a = K .put-own e a own in and-both (w a (rw is at (and-left (p e) (allOf p es) h))) k
 
 filled-some : (port : ℕ) (o : Option ℕ) → not (lacking (cellFor (eqb port port) o)) ≡ true → isSome o ≡ true
 filled-some port o h = go o (rw (eqb-self port) at h)
@@ -94,7 +94,7 @@ filled-some port o h = go o (rw (eqb-self port) at h)
     go (some x) k = refl
 
 -- where no cell waits, every entry is complete
-all-complete : (es : List Entry) → ((kind : Argument) (port : ℕ) → all (λ d. not (lacking (given kind port d))) es ≡ true) → all complete es ≡ true
+all-complete : (es : List Entry) → ((kind : Argument) (port : ℕ) → allOf (λ d. not (lacking (given kind port d))) es ≡ true) → allOf complete es ≡ true
 all-complete [] h = refl
 all-complete (ofLoad l ∷ es) h =
     and-both (filled-some (l .port) (l .address) (and-left (not (lacking (given LoadAddress (l .port) (ofLoad l)))) _ (h LoadAddress (l .port))))
@@ -118,32 +118,32 @@ given-uses StoreAddress port (ofStore s) = cell-there (eqb (s .port) port) (s .a
 given-uses StoreData port (ofLoad l) = refl
 given-uses StoreData port (ofStore s) = cell-there (eqb (s .port) port) (s .word)
 
-count-uses : (kind : Argument) (port : ℕ) (es : List Entry) → count (λ d. isSome (given kind port d)) es ≡ count (uses kind port) (map accessOf es)
+count-uses : (kind : Argument) (port : ℕ) (es : List Entry) → countWhere (λ d. isSome (given kind port d)) es ≡ countWhere (uses kind port) (map accessOf es)
 count-uses kind port [] = refl
 count-uses kind port (e ∷ es) = rw (given-uses kind port e, count-uses kind port es)
 
 -- all is done, or there is an oldest entry that is not
-first-undone : (es : List Entry) → (all done es ≡ true) ⊎ ((pre : List Entry) × (e : Entry) × (post : List Entry) × (es ≡ pre ++ e ∷ post) × (all done pre ≡ true) × (done e ≡ false))
+first-undone : (es : List Entry) → (allOf done es ≡ true) ⊎ ((pre : List Entry) × (e : Entry) × (post : List Entry) × (es ≡ pre ++ e ∷ post) × (allOf done pre ≡ true) × (done e ≡ false))
 first-undone [] = inl refl
 first-undone (e ∷ es) = go (done e) refl (first-undone es)
   where
     Undone : List Entry → Type 0
-    Undone l = (all done l ≡ true) ⊎ ((pre : List Entry) × (d : Entry) × (post : List Entry) × (l ≡ pre ++ d ∷ post) × (all done pre ≡ true) × (done d ≡ false))
+    Undone l = (allOf done l ≡ true) ⊎ ((pre : List Entry) × (d : Entry) × (post : List Entry) × (l ≡ pre ++ d ∷ post) × (allOf done pre ≡ true) × (done d ≡ false))
 
     go : (b : Bool) → done e ≡ b → Undone es → Undone (e ∷ es)
     go false t rest = inr ([], e, es, refl, refl, t)
     go true t (inl h) = inl (and-both t h)
     go true t (inr (pre, d, post, is, h, f)) = inr (e ∷ pre, d, post, ap (λ (l : List Entry). e ∷ l) is, and-both t h, f)
 
-done-served : (es : List Entry) → all done es ≡ true → count served es ≡ count isLoad (map accessOf es)
+done-served : (es : List Entry) → allOf done es ≡ true → countWhere served es ≡ countWhere isLoad (map accessOf es)
 done-served [] h = refl
-done-served (ofLoad l ∷ es) h = rw (and-left (isSome (l .value)) (all done es) h) (ap suc (done-served es (and-right (isSome (l .value)) (all done es) h)))
-done-served (ofStore s ∷ es) h = done-served es (and-right (s .written) (all done es) h)
+done-served (ofLoad l ∷ es) h = rw (and-left (isSome (l .value)) (allOf done es) h) (ap suc (done-served es (and-right (isSome (l .value)) (allOf done es) h)))
+done-served (ofStore s ∷ es) h = done-served es (and-right (s .written) (allOf done es) h)
 
-done-written : (es : List Entry) → all done es ≡ true → count written es ≡ count isStore (map accessOf es)
+done-written : (es : List Entry) → allOf done es ≡ true → countWhere written es ≡ countWhere isStore (map accessOf es)
 done-written [] h = refl
-done-written (ofLoad l ∷ es) h = done-written es (and-right (isSome (l .value)) (all done es) h)
-done-written (ofStore s ∷ es) h = rw (and-left (s .written) (all done es) h) (ap suc (done-written es (and-right (s .written) (all done es) h)))
+done-written (ofLoad l ∷ es) h = done-written es (and-right (isSome (l .value)) (allOf done es) h)
+done-written (ofStore s ∷ es) h = rw (and-left (s .written) (allOf done es) h) (ap suc (done-written es (and-right (s .written) (allOf done es) h)))
 
 is-some : (o : Option ℕ) → isSome o ≡ true → (x : ℕ) × (o ≡ some x)
 is-some none h = false-true h
@@ -151,7 +151,7 @@ is-some (some x) h = (x, refl)
 
 -- ---- the oldest undone entry moves
 
-module _ (q : Contents) (m memory : List ℕ) (log : List Entry) (h : Holds q m memory log) (filled : all complete log ≡ true) where
+module _ (q : Contents) (m memory : List ℕ) (log : List Entry) (h : Holds q m memory log) (filled : allOf complete log ≡ true) where
   right : sound q ≡ true
   right = holds-sound q m memory log h
 
@@ -162,7 +162,7 @@ module _ (q : Contents) (m memory : List ℕ) (log : List Entry) (h : Holds q m 
   store-depth : q .storeDepth ≤ 64
   store-depth = leb-true (q .storeDepth) 64 (and-right (leb 1 (q .storeDepth)) _ (h .limits .storeDepthRight))
 
-  load-moves : (pre : List Entry) (l : Load) (post : List Entry) → log ≡ pre ++ ofLoad l ∷ post → all done pre ≡ true → isSome (l .value) ≡ false
+  load-moves : (pre : List Entry) (l : Load) (post : List Entry) → log ≡ pre ++ ofLoad l ∷ post → allOf done pre ≡ true → isSome (l .value) ≡ false
       → wouldMove (record { queue = q; memory = m })
   load-moves pre l post log-is before unserved =
       go (unfinished-queued loads stores loads-stores (h .windows) pre l post log-is untaken) (is-some (l .address) (all-middle complete pre post (ofLoad l) (rw log-is at filled)))
@@ -175,26 +175,26 @@ module _ (q : Contents) (m memory : List ℕ) (log : List Entry) (h : Holds q m 
           untaken-unserved (q .memoryLength) l
           (all-middle (rightLoad (q .memoryLength)) (ownIn loads pre) (ownIn loads post) l (rw (log-is, ownIn-append loads pre (ofLoad l ∷ post)) at (h .rightLoads))) value
 
-      storesWritten : all storeFinished (ownIn stores pre) ≡ true
+      storesWritten : allOf storeFinished (ownIn stores pre) ≡ true
       storesWritten = all-own stores done storeFinished (λ s t. t) pre before
 
-      storesAddressed : all hasAddress (ownIn stores pre) ≡ true
+      storesAddressed : allOf hasAddress (ownIn stores pre) ≡ true
       storesAddressed = all-own stores complete hasAddress (λ s t. and-left (isSome (s .address)) _ t) pre (all-left complete pre (ofLoad l ∷ post) (rw log-is at filled))
 
       go : (i : ℕ) × Located loads stores log (q .loads) (q .stores) i pre l post → (a : ℕ) × (l .address ≡ some a) → wouldMove (record { queue = q; memory = m })
       go (i, place) (a, address) =
-          let low : i < 2 ^ 32 = (let short : i < length (q .loads) = nth-short (q .loads) i (place .at) in omega (arith, h .roomLoads, load-depth)) in
+          let low : i < 2 ^ 32 = (let short : i < length (q .loads) = getElem?-short (q .loads) i (place .at) in omega (arith, h .roomLoads, load-depth)) in
           let serial : ℕ = after (oldest (q .nextLoad) (length (q .loads))) i in
           let is : loadPlace q serial ≡ i = place-of-serial (oldest (q .nextLoad) (length (q .loads))) i (oldest-small (q .nextLoad) (length (q .loads))) low in (
             serial,
             after-small (oldest (q .nextLoad) (length (q .loads))) i,
             inl
-                (serve-accepted q m serial (loads .remember (place .number) l) a right (h .long) (ap (nth (q .loads)) is ∙ place .at) value address
+                (serve-accepted q m serial (loads .remember (place .number) l) a right (h .long) (ap (getElem? (q .loads)) is ∙ place .at) value address
                 (before-queued (place .before′) hasAddress (λ n s. refl) storesAddressed)
                 (nearest-written a none (take (place .number) (q .stores)) (before-queued (place .before′) storeFinished (λ n s. refl) storesWritten))),
           )
 
-  store-moves : (pre : List Entry) (s : Store) (post : List Entry) → log ≡ pre ++ ofStore s ∷ post → all done pre ≡ true → s .written ≡ false
+  store-moves : (pre : List Entry) (s : Store) (post : List Entry) → log ≡ pre ++ ofStore s ∷ post → allOf done pre ≡ true → s .written ≡ false
       → wouldMove (record { queue = q; memory = m })
   store-moves pre s post log-is before unwritten =
       go (unfinished-queued stores loads stores-loads (turned (h .windows)) pre s post log-is unwritten)
@@ -203,36 +203,36 @@ module _ (q : Contents) (m memory : List ℕ) (log : List Entry) (h : Holds q m 
       filled-it : isSome (s .address) && isSome (s .word) ≡ true
       filled-it = all-middle complete pre post (ofStore s) (rw log-is at filled)
 
-      loadsApart : (a : ℕ) → all (loadGivesWay a) (ownIn loads pre) ≡ true
+      loadsApart : (a : ℕ) → allOf (loadGivesWay a) (ownIn loads pre) ≡ true
       loadsApart a = all-own loads done (loadGivesWay a) (λ l t. or-left (isSome (l .value)) (addressApart a (l .address)) t) pre before
 
-      storesApart : (a : ℕ) → all (storeGivesWay a) (ownIn stores pre) ≡ true
+      storesApart : (a : ℕ) → allOf (storeGivesWay a) (ownIn stores pre) ≡ true
       storesApart a = all-own stores done (storeGivesWay a) (λ r t. or-left (r .written) (addressApart a (r .address)) t) pre before
 
       go : (i : ℕ) × Located stores loads log (q .stores) (q .loads) i pre s post → (a : ℕ) × (s .address ≡ some a) → (w : ℕ) × (s .word ≡ some w)
           → wouldMove (record { queue = q; memory = m })
       go (i, place) (a, address) (w, word) =
-          let low : i < 2 ^ 32 = (let short : i < length (q .stores) = nth-short (q .stores) i (place .at) in omega (arith, h .roomStores, store-depth)) in
+          let low : i < 2 ^ 32 = (let short : i < length (q .stores) = getElem?-short (q .stores) i (place .at) in omega (arith, h .roomStores, store-depth)) in
           let serial : ℕ = after (oldest (q .nextStore) (length (q .stores))) i in
           let is : storePlace q serial ≡ i = place-of-serial (oldest (q .nextStore) (length (q .stores))) i (oldest-small (q .nextStore) (length (q .stores))) low in (
             serial,
             after-small (oldest (q .nextStore) (length (q .stores))) i,
             inr
-                (write-accepted q m serial (stores .remember (place .number) s) a w right (h .long) (ap (nth (q .stores)) is ∙ place .at) unwritten address word
+                (write-accepted q m serial (stores .remember (place .number) s) a w right (h .long) (ap (getElem? (q .stores)) is ∙ place .at) unwritten address word
                 (before-queued (place .before′) (loadGivesWay a) (λ n l. refl) (loadsApart a))
                 (rw is (before-queued (place .before) (storeGivesWay a) (λ n r. refl) (storesApart a)))),
           )
 
   -- some serve or write would be accepted, unless all is done
-  pub undone-moves : (all done log ≡ true) ⊎ wouldMove (record { queue = q; memory = m })
+  pub undone-moves : (allOf done log ≡ true) ⊎ wouldMove (record { queue = q; memory = m })
   undone-moves = go (first-undone log)
     where
-      at : (pre : List Entry) (e : Entry) (post : List Entry) → log ≡ pre ++ e ∷ post → all done pre ≡ true → done e ≡ false → wouldMove (record { queue = q; memory = m })
+      at : (pre : List Entry) (e : Entry) (post : List Entry) → log ≡ pre ++ e ∷ post → allOf done pre ≡ true → done e ≡ false → wouldMove (record { queue = q; memory = m })
       at pre (ofLoad l) post is before undone = load-moves pre l post is before undone
       at pre (ofStore s) post is before undone = store-moves pre s post is before undone
 
-      go : (all done log ≡ true) ⊎ ((pre : List Entry) × (e : Entry) × (post : List Entry) × (log ≡ pre ++ e ∷ post) × (all done pre ≡ true) × (done e ≡ false))
-          → (all done log ≡ true) ⊎ wouldMove (record { queue = q; memory = m })
+      go : (allOf done log ≡ true) ⊎ ((pre : List Entry) × (e : Entry) × (post : List Entry) × (log ≡ pre ++ e ∷ post) × (allOf done pre ≡ true) × (done e ≡ false))
+          → (allOf done log ≡ true) ⊎ wouldMove (record { queue = q; memory = m })
       go (inl h₁) = inl h₁
       go (inr (pre, e, post, is, before, undone)) = inr (at pre e post is before undone)
 
@@ -241,16 +241,16 @@ pub state-moves : (groups : List GroupPairs) (memory : List ℕ) (answered : Lis
     → (someUnserved groups (told answered) ⊎ someUnwritten groups (told answered)) → allArguments groups (told answered) → wouldMove m
 state-moves groups memory answered m st undone full = go (undone-moves (m .queue) (m .memory) memory (st .log) (st .holds) filled) undone
   where
-    filled : all complete (st .log) ≡ true
+    filled : allOf complete (st .log) ≡ true
     filled =
         all-complete (st .log) (λ kind port. row-full (given kind port) (st .log) (rowsOf (told answered) kind port) (st .seen .rows kind port)
-        (full kind port ∙ sym (ap (count (uses kind port)) (st .seen .shape)) ∙ sym (count-uses kind port (st .log))))
+        (full kind port ∙ sym (ap (countWhere (uses kind port)) (st .seen .shape)) ∙ sym (count-uses kind port (st .log))))
 
-    go : (all done (st .log) ≡ true) ⊎ wouldMove m → (someUnserved groups (told answered) ⊎ someUnwritten groups (told answered)) → wouldMove m
+    go : (allOf done (st .log) ≡ true) ⊎ wouldMove m → (someUnserved groups (told answered) ⊎ someUnwritten groups (told answered)) → wouldMove m
     go (inr moves) u = moves
     go (inl h) (inl fewer) =
-        let e : count served (st .log) ≡ count isLoad (accesses groups (told answered)) = done-served (st .log) h ∙ ap (count isLoad) (st .seen .shape) in
+        let e : countWhere served (st .log) ≡ countWhere isLoad (accesses groups (told answered)) = done-served (st .log) h ∙ ap (countWhere isLoad) (st .seen .shape) in
         absurd (omega (arith, st .seen .serves))
     go (inl h) (inr fewer) =
-        let e : count written (st .log) ≡ count isStore (accesses groups (told answered)) = done-written (st .log) h ∙ ap (count isStore) (st .seen .shape) in
+        let e : countWhere written (st .log) ≡ countWhere isStore (accesses groups (told answered)) = done-written (st .log) h ∙ ap (countWhere isStore) (st .seen .shape) in
         absurd (omega (arith, st .seen .writes))

@@ -6,7 +6,7 @@ use mathlib.Core.List.{List}
 use lib.Dec.{leb}
 use lib.ListN.{length}
 use borrow.Author.Tests.{le-leb}
-use Rattle.table.specs.Basics.{all}
+use Rattle.table.specs.Basics.{allOf}
 use Rattle.queue.specs.Contents.{Contents}
 use Rattle.queue.specs.Sound.{addressRight, loadRight, storeRight, sound}
 use Rattle.queue.specs.Call.{leaves}
@@ -33,7 +33,7 @@ holds-sound q m memory log h =
     words : ℕ
     words = q .memoryLength
 
-    loadsRight : all (loadRight words (length (q .stores))) (q .loads) ≡ true
+    loadsRight : allOf (loadRight words (length (q .stores))) (q .loads) ≡ true
     loadsRight =
         all-weaken₂ (λ l. leb (l .before) (length (q .stores))) (λ l. addressRight words (l .address)) (loadRight words (length (q .stores))) (λ l s t. and-both s t) (q .loads)
         (remembered-held loads stores loads-stores log (h .windows .ours) (h .windows .theirs))
@@ -41,7 +41,7 @@ holds-sound q m memory log h =
         (all-weaken (rightLoad words) (λ l. addressRight words (l .address))
         (load-in-range words) (ownIn loads log) (h .rightLoads)))
 
-    storesRight : all (storeRight words (length (q .loads))) (q .stores) ≡ true
+    storesRight : allOf (storeRight words (length (q .loads))) (q .stores) ≡ true
     storesRight =
         all-weaken₂ (λ s. leb (s .before) (length (q .loads))) (λ s. addressRight words (s .address)) (storeRight words (length (q .loads))) (λ s t u. and-both t u) (q .stores)
         (remembered-held stores loads stores-loads log (h .windows .theirs) (h .windows .ours))

@@ -9,10 +9,10 @@ use mathlib.Core.Bool.{Bool, true, false, not, _&&_}
 use mathlib.Core.List.{List, [], _∷_, _++_, append-assoc, append-nil}
 use mathlib.Core.Option.{Option, none, some}
 use lib.Dec.{eqb, leb}
-use lib.ListN.{length, getD, take, drop, set, length-append, length-drop, length-replicate}
+use lib.ListN.{length, getD, take, drop, set, length-append, length-drop, length-replicate, getElem?}
 use lib.Seq.{length-take-le, take-append-seam}
 use borrow.Author.Tests.{not-true}
-use Rattle.table.specs.Basics.{pick, all, nth, filter}
+use Rattle.table.specs.Basics.{pick, allOf, keepWhere}
 use Rattle.queue.specs.declared.serving.Supply.{Supply}
 use Rattle.queue.specs.declared.serving.Supply.the-variants.{Unknown, NoStore, NoWord, Forwarded}
 use Rattle.queue.specs.declared.ready.Serials.{Serials}
@@ -35,7 +35,7 @@ use Rattle.queue.specs.Internal.{loadsIn, storesIn}
 use Rattle.queue.specs.InternalServe.{supplyFrom, servedWith, serveAt}
 use Rattle.queue.specs.InternalWrite.{mayWrite, mayWriteAt, writtenWith, writeAt}
 use Rattle.queue.specs.InternalReady.{supplyReady, addressReady, loadReady, loadReadyAt, storeReadyAt, listed, Noted, Lists, HandedOut}
-use Rattle.queue.proofs.ContentsLaws.{side-length, side-nth, side-take, loads-held, stores-held, load-place, store-place}
+use Rattle.queue.proofs.ContentsLaws.{side-length, side-getElem?, side-take, loads-held, stores-held, load-place, store-place}
 use Rattle.queue.proofs.Refusals.{proper, need-proper, have-proper}
 use Rattle.queue.proofs.Progress.{place-of-serial, oldest-small}
 use Rattle.queue.proofs.ServeLaws.{bySupply, by-supply, serve-by-place}
@@ -46,8 +46,8 @@ abbrev pub readyIn : Contents → Option Load → Bool
 readyIn q none = false
 readyIn q (some l) = loadReady (storesBefore q l) l
 
-serve-accepts : (q : Contents) (memory : List ℕ) (place : ℕ) → accepted (serveAt q memory place) ≡ readyIn q (nth (q .loads) place)
-serve-accepts q memory place = go (nth (q .loads) place)
+serve-accepts : (q : Contents) (memory : List ℕ) (place : ℕ) → accepted (serveAt q memory place) ≡ readyIn q (getElem? (q .loads) place)
+serve-accepts q memory place = go (getElem? (q .loads) place)
   where
     supplied : (a : ℕ) (s : Supply) → accepted (bySupply q memory place a s) ≡ supplyReady s
     supplied a Unknown = refl
@@ -58,7 +58,7 @@ serve-accepts q memory place = go (nth (q .loads) place)
     at : (ss : List Store) (value address : Option ℕ)
         → accepted (need (not (isSome value)) alreadyDone
         (have address noAddress λ a.
-        need (all hasAddress ss) earlierStoreUnknown
+        need (allOf hasAddress ss) earlierStoreUnknown
         (andThen (sourceOf memory a (nearest a none ss)) λ v. accept (servedWith q place (v .value) (v .forwarded)))))
         ≡ (not (isSome value) && addressReady ss address)
     at ss (some v) address = refl
@@ -69,17 +69,17 @@ serve-accepts q memory place = go (nth (q .loads) place)
         → accepted (have o noSerial λ l.
         need (not (isSome (l .value))) alreadyDone
         (have (l .address) noAddress λ a.
-        need (all hasAddress (storesBefore q l)) earlierStoreUnknown
+        need (allOf hasAddress (storesBefore q l)) earlierStoreUnknown
         (andThen (sourceOf memory a (nearest a none (storesBefore q l))) λ v. accept (servedWith q place (v .value) (v .forwarded)))))
         ≡ readyIn q o
     go none = refl
     go (some l) = at (storesBefore q l) (l .value) (l .address)
 
 module _ (q : Contents) (right : sound q ≡ true) (serial : ℕ) where
-  pub serve-ready : (memory : List ℕ) → length memory ≡ q .memoryLength → accepted (serve q memory serial) ≡ readyIn q (nth (q .loads) (loadPlace q serial))
+  pub serve-ready : (memory : List ℕ) → length memory ≡ q .memoryLength → accepted (serve q memory serial) ≡ readyIn q (getElem? (q .loads) (loadPlace q serial))
   serve-ready memory e = ap accepted (serve-by-place q memory serial right e) ∙ serve-accepts q memory (loadPlace q serial)
 
-  pub would-serve : wouldServe q serial ≡ readyIn q (nth (q .loads) (loadPlace q serial))
+  pub would-serve : wouldServe q serial ≡ readyIn q (getElem? (q .loads) (loadPlace q serial))
   would-serve = serve-ready (anyMemory q) (length-replicate (q .memoryLength) 0)
 
 -- the load at a place of a record
@@ -91,11 +91,11 @@ would-serve-at q right i k small b =
     let e : Entry = entryOf (getD (q .«load_entries») i 0) in
     let from : ℕ = oldest (q .frame .loads .next) (q .frame .loads .count) in
     let p : loadPlace (contentsOf q) (after from i) ≡ i = load-place q (after from i) ∙ place-of-serial from i (oldest-small (q .frame .loads .next) (q .frame .loads .count)) small in
-    let here : nth (contentsOf q .loads) i ≡ some (loadOf e) = ap (λ (l : List Load). nth l i) (loads-held q) ∙ side-nth loadIn 0 (q .frame .loads .count) (q .«load_entries») i k in
+    let here : getElem? (contentsOf q .loads) i ≡ some (loadOf e) = ap (λ (l : List Load). getElem? l i) (loads-held q) ∙ side-getElem? loadIn 0 (q .frame .loads .count) (q .«load_entries») i k in
     let ss : take (e .before) (contentsOf q .stores) ≡ storesIn (e .before) (q .«store_entries») =
     ap (take (e .before)) (stores-held q) ∙ side-take storeIn 0 (q .frame .stores .count) (q .«store_entries») (e .before) b in
     would-serve (contentsOf q) right (after from i)
-    ∙ ap (λ (n : ℕ). readyIn (contentsOf q) (nth (contentsOf q .loads) n)) p
+    ∙ ap (λ (n : ℕ). readyIn (contentsOf q) (getElem? (contentsOf q .loads) n)) p
     ∙ ap (readyIn (contentsOf q)) here
     ∙ ap (λ (l : List Store). loadReady l (loadOf e)) ss
 
@@ -108,8 +108,8 @@ then-accepts : {A B : Type 0} (x : Ruled A) (f : A → B) → accepted (andThen 
 then-accepts (refuse n) f = refl
 then-accepts (accept a) f = refl
 
-write-accepts : (q : Contents) (memory : List ℕ) (place : ℕ) → accepted (writeAt q memory place) ≡ writableIn q place (nth (q .stores) place)
-write-accepts q memory place = go (nth (q .stores) place)
+write-accepts : (q : Contents) (memory : List ℕ) (place : ℕ) → accepted (writeAt q memory place) ≡ writableIn q place (getElem? (q .stores) place)
+write-accepts q memory place = go (getElem? (q .stores) place)
   where
     go : (o : Option Store)
         → accepted (have o noSerial λ s. andThen (mayWrite (take (s .before) (q .loads)) (take place (q .stores)) s) λ p. accept (writtenWith q memory place p)) ≡ writableIn q place o
@@ -117,10 +117,10 @@ write-accepts q memory place = go (nth (q .stores) place)
     go (some s) = then-accepts (mayWrite (take (s .before) (q .loads)) (take place (q .stores)) s) (writtenWith q memory place)
 
 module _ (q : Contents) (right : sound q ≡ true) (serial : ℕ) where
-  pub write-ready : (memory : List ℕ) → length memory ≡ q .memoryLength → accepted (write q memory serial) ≡ writableIn q (storePlace q serial) (nth (q .stores) (storePlace q serial))
+  pub write-ready : (memory : List ℕ) → length memory ≡ q .memoryLength → accepted (write q memory serial) ≡ writableIn q (storePlace q serial) (getElem? (q .stores) (storePlace q serial))
   write-ready memory e = ap accepted (write-by-place q memory serial right e) ∙ write-accepts q memory (storePlace q serial)
 
-  pub would-write : wouldWrite q serial ≡ writableIn q (storePlace q serial) (nth (q .stores) (storePlace q serial))
+  pub would-write : wouldWrite q serial ≡ writableIn q (storePlace q serial) (getElem? (q .stores) (storePlace q serial))
   would-write = write-ready (anyMemory q) (length-replicate (q .memoryLength) 0)
 
 -- it is answered 0 where it is accepted
@@ -133,7 +133,7 @@ may-proper ls ss s =
     need-proper (not (s .written)) _ _ refl
     (have-proper (s .address) _ _ refl λ a.
     have-proper (s .word) _ _ refl λ w.
-    need-proper (all (loadGivesWay a) ls) _ _ refl (need-proper (all (storeGivesWay a) ss) _ _ refl refl))
+    need-proper (allOf (loadGivesWay a) ls) _ _ refl (need-proper (allOf (storeGivesWay a) ss) _ _ refl refl))
 
 -- the store at a place of a record
 pub would-write-at : (q : Queue) → sound (contentsOf q) ≡ true
@@ -155,12 +155,12 @@ pub record Gathering (ready : ℕ → Bool) (from n i serial : ℕ) (s : Serials
   pub few : s .count ≤ i
   pub long : length (s .numbers) ≡ 64
   pub next : serial ≡ after from i
-  pub are : (p : ℕ → Bool) → ((j : ℕ) → j < n → p (after from j) ≡ ready j) → filter p (serials from n) ≡ listed s ++ filter p (serials serial (n - i))
+  pub are : (p : ℕ → Bool) → ((j : ℕ) → j < n → p (after from j) ≡ ready j) → keepWhere p (serials from n) ≡ listed s ++ keepWhere p (serials serial (n - i))
 
 pub gathering-none : {ready : ℕ → Bool} {from n : ℕ} (numbers : List ℕ) → length numbers ≡ 64 → from < 2 ^ 32 → Gathering ready from n 0 from (record { count = 0; numbers = numbers })
 gathering-none {ready} {from} {n} numbers e h = record { few = omega arith; long = e; next = omega arith; are = λ p e. rw (sub-zero n) (front p numbers) }
   where
-    front : (p : ℕ → Bool) (l : List ℕ) → filter p (serials from n) ≡ take 0 l ++ filter p (serials from n)
+    front : (p : ℕ → Bool) (l : List ℕ) → keepWhere p (serials from n) ≡ take 0 l ++ keepWhere p (serials from n)
     front p [] = refl
     front p (x ∷ l) = refl
 
@@ -172,19 +172,19 @@ module _ {ready : ℕ → Bool} {from n i serial : ℕ} {s : Serials} (w : Gathe
       let place = w .next in
       record { few = omega arith; long = c .long ∙ w .long; next = omega arith; are = are }
     where
-      pass : (p : ℕ → Bool) (t : Bool) → pick t (serial ∷ filter p (serials (after serial 1) (n - (i + 1)))) (filter p (serials (after serial 1) (n - (i + 1))))
-          ≡ pick t (serial ∷ []) [] ++ filter p (serials (after serial 1) (n - (i + 1)))
+      pass : (p : ℕ → Bool) (t : Bool) → pick t (serial ∷ keepWhere p (serials (after serial 1) (n - (i + 1)))) (keepWhere p (serials (after serial 1) (n - (i + 1))))
+          ≡ pick t (serial ∷ []) [] ++ keepWhere p (serials (after serial 1) (n - (i + 1)))
       pass p true = refl
       pass p false = refl
 
-      are : (p : ℕ → Bool) → ((j : ℕ) → j < n → p (after from j) ≡ ready j) → filter p (serials from n) ≡ listed r ++ filter p (serials next (n - (i + 1)))
+      are : (p : ℕ → Bool) → ((j : ℕ) → j < n → p (after from j) ≡ ready j) → keepWhere p (serials from n) ≡ listed r ++ keepWhere p (serials next (n - (i + 1)))
       are p agrees =
           let m : n - i ≡ suc (n - (i + 1)) = omega arith in
           let k : p serial ≡ now = ap p (w .next) ∙ agrees i h ∙ sym e in
-          let split : filter p (serials serial (n - i)) ≡ pick now (serial ∷ []) [] ++ filter p (serials next (n - (i + 1))) = rw (m, d, ← k) (pass p (p serial)) in
-          w .are p agrees ∙ rw (split, c .are) (sym (append-assoc (listed s) (pick now (serial ∷ []) []) (filter p (serials next (n - (i + 1))))))
+          let split : keepWhere p (serials serial (n - i)) ≡ pick now (serial ∷ []) [] ++ keepWhere p (serials next (n - (i + 1))) = rw (m, d, ← k) (pass p (p serial)) in
+          w .are p agrees ∙ rw (split, c .are) (sym (append-assoc (listed s) (pick now (serial ∷ []) []) (keepWhere p (serials next (n - (i + 1))))))
 
-  pub gathering-end : n ≤ i → (p : ℕ → Bool) → ((j : ℕ) → j < n → p (after from j) ≡ ready j) → listed s ≡ filter p (serials from n)
+  pub gathering-end : n ≤ i → (p : ℕ → Bool) → ((j : ℕ) → j < n → p (after from j) ≡ ready j) → listed s ≡ keepWhere p (serials from n)
   gathering-end h p agrees =
       let m : n - i ≡ 0 = omega arith in
       sym (w .are p agrees ∙ rw (m, append-nil))
@@ -221,12 +221,12 @@ module _ (q : Queue) {s : Serials} where
   lists : {l : List ℕ} → s .count ≤ 64 → length (s .numbers) ≡ 64 → listed s ≡ l → Lists l s
   lists {l} few long e = record { few = few; size = sym (length-take-le (s .count) (s .numbers) (omega arith)) ∙ ap length e; are = e }
 
-  pub servable-record : listed s ≡ filter (wouldServe (contentsOf q)) (serials (oldest (q .frame .loads .next) (q .frame .loads .count)) (q .frame .loads .count)) → s .count ≤ 64 → length (s .numbers) ≡ 64
+  pub servable-record : listed s ≡ keepWhere (wouldServe (contentsOf q)) (serials (oldest (q .frame .loads .next) (q .frame .loads .count)) (q .frame .loads .count)) → s .count ≤ 64 → length (s .numbers) ≡ 64
       → Lists (servable (contentsOf q)) s
   unfolding servable contentsOf
   servable-record e few long = lists few long (rw (side-length loadIn 0 (q .frame .loads .count) (q .«load_entries»)) e)
 
-  pub writable-record : listed s ≡ filter (wouldWrite (contentsOf q)) (serials (oldest (q .frame .stores .next) (q .frame .stores .count)) (q .frame .stores .count)) → s .count ≤ 64 → length (s .numbers) ≡ 64
+  pub writable-record : listed s ≡ keepWhere (wouldWrite (contentsOf q)) (serials (oldest (q .frame .stores .next) (q .frame .stores .count)) (q .frame .stores .count)) → s .count ≤ 64 → length (s .numbers) ≡ 64
       → Lists (writable (contentsOf q)) s
   unfolding writable contentsOf
   writable-record e few long = lists few long (rw (side-length storeIn 0 (q .frame .stores .count) (q .«store_entries»)) e)

@@ -7,7 +7,7 @@ use lib.ListN.{length}
 use native.Mathlib.Omega.{arith}
 use Rattle.table.specs.declared.Table.{Table}
 use Rattle.table.specs.Table.{groupsOf}
-use Rattle.table.specs.Basics.{all}
+use Rattle.table.specs.Basics.{allOf}
 use Rattle.table.specs.Table.{tableFault}
 use Rattle.queue.specs.Refusal.{badLoadDepth, badStoreDepth, badMemoryLength, groupTooLarge}
 use Rattle.queue.specs.Sound.{depthRight, memoryRight}
@@ -28,7 +28,7 @@ use Rattle.queue.specs.Contents.{Contents, contentsOf}
 use Rattle.queue.specs.Activate.{activate}
 use Rattle.queue.specs.Serve.{Served, serve}
 use Rattle.queue.specs.Write.{Written, write}
-use Rattle.queue.specs.Take.{Taken, take}
+use Rattle.queue.specs.Take.{Taken, takeRule}
 use Rattle.queue.specs.Outcome.{Moves, Takes, Serves, Writes, Opens}
 use Rattle.queue.specs.ReadyOutcome.{Readies}
 use Rattle.queue.specs.NoQueue.{freshFrame}
@@ -92,7 +92,7 @@ runs-agree (activates {q} {m = m} {g = g} {cs} {log} r w k) = one-more (machineO
 runs-agree (gives {q} {m = m} {kind = kind} {port} {x} {cs} {log} r w k) = one-more (machineOf q m) (Give kind port x) cs log _ _ _ (r .queue) m (moves-same q m (give kind (contentsOf q) port x) r w) (runs-agree k)
 runs-agree (serves {q} {m = m} {c = c} {s} {cs} {log} r w k) = one-more (machineOf q m) (Serve c s) cs log _ _ _ (r .queue) m (serves-same q m c (serve (contentsOf q) m s) r w) (runs-agree k)
 runs-agree (writes {q} {m = m} {m₁ = m₁} {s = s} {cs} {log} r w k) = one-more (machineOf q m) (Write s) cs log _ _ _ (r .queue) m₁ (writes-same q m m₁ (write (contentsOf q) m s) r w) (runs-agree k)
-runs-agree (takes {q} {m = m} {p = p} {cs} {log} r w k) = one-more (machineOf q m) (Take p) cs log _ _ _ (r .queue) m (takes-same q m (take (contentsOf q) p) r w) (runs-agree k)
+runs-agree (takes {q} {m = m} {p = p} {cs} {log} r w k) = one-more (machineOf q m) (Take p) cs log _ _ _ (r .queue) m (takes-same q m (takeRule (contentsOf q) p) r w) (runs-agree k)
 runs-agree (readies {q} {m = m} {side = side} {run} {cs} {log} left r w k) = one-more (machineOf q m) (Ready side run) cs log _ _ _ (r .queue) m (readies-same q m run left (ready side (contentsOf q) run) r w) (runs-agree k)
 
 -- a refused opening has a number
@@ -108,8 +108,8 @@ refused-some table loadDepth storeDepth first memory n e z =
     last : accept (opened (groupsOf table) loadDepth storeDepth first (length memory)) ≡ refuse n → ⊥
     last d = let q : _≡_ {A = ℕ} 0 1 = cc in omega arith
 
-    fault : (t : Bool) → eqb (tableFault (groupsOf table)) 0 ≡ t → need t (tableFault (groupsOf table)) (need (depthRight loadDepth) badLoadDepth (need (depthRight storeDepth) badStoreDepth (need (memoryRight (length memory)) badMemoryLength (need (all (groupFits loadDepth storeDepth) (groupsOf table)) groupTooLarge (accept (opened (groupsOf table) loadDepth storeDepth first (length memory))))))) ≡ refuse n → ⊥
-    fault true k d = step-by (depthRight loadDepth) badLoadDepth _ (λ y. omega arith) (step-by (depthRight storeDepth) badStoreDepth _ (λ y. omega arith) (step-by (memoryRight (length memory)) badMemoryLength _ (λ y. omega arith) (step-by (all (groupFits loadDepth storeDepth) (groupsOf table)) groupTooLarge _ (λ y. omega arith) last))) d
+    fault : (t : Bool) → eqb (tableFault (groupsOf table)) 0 ≡ t → need t (tableFault (groupsOf table)) (need (depthRight loadDepth) badLoadDepth (need (depthRight storeDepth) badStoreDepth (need (memoryRight (length memory)) badMemoryLength (need (allOf (groupFits loadDepth storeDepth) (groupsOf table)) groupTooLarge (accept (opened (groupsOf table) loadDepth storeDepth first (length memory))))))) ≡ refuse n → ⊥
+    fault true k d = step-by (depthRight loadDepth) badLoadDepth _ (λ y. omega arith) (step-by (depthRight storeDepth) badStoreDepth _ (λ y. omega arith) (step-by (memoryRight (length memory)) badMemoryLength _ (λ y. omega arith) (step-by (allOf (groupFits loadDepth storeDepth) (groupsOf table)) groupTooLarge _ (λ y. omega arith) last))) d
     fault false k d = let q : tableFault (groupsOf table) ≡ n = cc in eqb-false (tableFault (groupsOf table)) 0 k (q ∙ z)
 
 -- such an opening is one in the sense of demand 3

@@ -5,17 +5,17 @@ use mathlib.Core.Bool.{Bool, true, false, not}
 use mathlib.Core.List.{List}
 use mathlib.Core.Option.{Option, none, some}
 use lib.Dec.{eqb, ltb}
-use lib.ListN.{length}
+use lib.ListN.{length, getElem?}
 use borrow.Author.Tests.{not-true}
 use Rattle.queue.specs.Ruled.{Ruled, refuse, accept, need, have, andThen, isSome}
 use Rattle.queue.specs.Contents.{Store, Contents, loadPlace, storePlace, firstPlace}
-use Rattle.table.specs.Basics.{any, all, nth}
+use Rattle.table.specs.Basics.{anyOf, allOf}
 use Rattle.queue.specs.Sound.{sound}
 use Rattle.queue.specs.Activate.{activate, room}
 use Rattle.queue.specs.Arguments.{isLoadPort, isStorePort, loadLacksAddress, storeLacksAddress, storeLacksWord, loadAddress, storeAddress, storeData}
 use Rattle.queue.specs.Serve.{hasAddress, nearest, storesBefore, serve, sourceOf}
 use Rattle.queue.specs.Write.{loadGivesWay, storeGivesWay, write}
-use Rattle.queue.specs.Take.{untaken, take}
+use Rattle.queue.specs.Take.{untaken, takeRule}
 use Rattle.queue.specs.Calls.{Argument, LoadAddress, StoreAddress, StoreData}
 use Rattle.queue.specs.Call.{give}
 use Rattle.queue.proofs.Lists.{false-true}
@@ -55,18 +55,18 @@ andThen-proper (accept a) rest e h = h a
 
 pub activate-proper : (q : Contents) (g : ℕ) → proper (activate q g) ≡ true
 unfolding activate
-activate-proper q g = need-proper (sound q) _ _ refl (have-proper (nth (q .groups) g) _ _ refl λ p. need-proper (room q p) _ _ refl refl)
+activate-proper q g = need-proper (sound q) _ _ refl (have-proper (getElem? (q .groups) g) _ _ refl λ p. need-proper (room q p) _ _ refl refl)
 
 pub give-proper : (kind : Argument) (q : Contents) (port x : ℕ) → proper (give kind q port x) ≡ true
 unfolding loadAddress storeAddress storeData
 give-proper LoadAddress q port x =
     need-proper (sound q) _ _ refl
-    (need-proper (any (isLoadPort port) (q .groups)) _ _ refl (need-proper (ltb x (q .memoryLength)) _ _ refl (need-proper (any (loadLacksAddress port) (q .loads)) _ _ refl refl)))
+    (need-proper (anyOf (isLoadPort port) (q .groups)) _ _ refl (need-proper (ltb x (q .memoryLength)) _ _ refl (need-proper (anyOf (loadLacksAddress port) (q .loads)) _ _ refl refl)))
 give-proper StoreAddress q port x =
     need-proper (sound q) _ _ refl
-    (need-proper (any (isStorePort port) (q .groups)) _ _ refl (need-proper (ltb x (q .memoryLength)) _ _ refl (need-proper (any (storeLacksAddress port) (q .stores)) _ _ refl refl)))
+    (need-proper (anyOf (isStorePort port) (q .groups)) _ _ refl (need-proper (ltb x (q .memoryLength)) _ _ refl (need-proper (anyOf (storeLacksAddress port) (q .stores)) _ _ refl refl)))
 give-proper StoreData q port x =
-    need-proper (sound q) _ _ refl (need-proper (any (isStorePort port) (q .groups)) _ _ refl (need-proper (any (storeLacksWord port) (q .stores)) _ _ refl refl))
+    need-proper (sound q) _ _ refl (need-proper (anyOf (isStorePort port) (q .groups)) _ _ refl (need-proper (anyOf (storeLacksWord port) (q .stores)) _ _ refl refl))
 
 source-proper : (m : List ℕ) (a : ℕ) (found : Option Store) → proper (sourceOf m a found) ≡ true
 source-proper m a none = refl
@@ -77,10 +77,10 @@ unfolding serve
 serve-proper q m serial =
     need-proper (sound q) _ _ refl
     (need-proper (eqb (length m) (q .memoryLength)) _ _ refl
-    (have-proper (nth (q .loads) (loadPlace q serial)) _ _ refl λ l.
+    (have-proper (getElem? (q .loads) (loadPlace q serial)) _ _ refl λ l.
     need-proper (not (isSome (l .value))) _ _ refl
     (have-proper (l .address) _ _ refl λ a.
-    need-proper (all hasAddress (storesBefore q l)) _ _ refl
+    need-proper (allOf hasAddress (storesBefore q l)) _ _ refl
     (andThen-proper (sourceOf m a (nearest a none (storesBefore q l))) _ (source-proper m a (nearest a none (storesBefore q l))) λ v. refl))))
 
 pub write-proper : (q : Contents) (m : List ℕ) (serial : ℕ) → proper (write q m serial) ≡ true
@@ -88,16 +88,16 @@ unfolding write
 write-proper q m serial =
     need-proper (sound q) _ _ refl
     (need-proper (eqb (length m) (q .memoryLength)) _ _ refl
-    (have-proper (nth (q .stores) (storePlace q serial)) _ _ refl λ s.
+    (have-proper (getElem? (q .stores) (storePlace q serial)) _ _ refl λ s.
     need-proper (not (s .written)) _ _ refl
     (have-proper (s .address) _ _ refl λ a.
     have-proper (s .word) _ _ refl λ w.
-    need-proper (all (loadGivesWay a) (lib.ListN.take (s .before) (q .loads))) _ _ refl
-    (need-proper (all (storeGivesWay a) (lib.ListN.take (storePlace q serial) (q .stores))) _ _ refl refl))))
+    need-proper (allOf (loadGivesWay a) (lib.ListN.take (s .before) (q .loads))) _ _ refl
+    (need-proper (allOf (storeGivesWay a) (lib.ListN.take (storePlace q serial) (q .stores))) _ _ refl refl))))
 
-pub take-proper : (q : Contents) (port : ℕ) → proper (take q port) ≡ true
-unfolding take
+pub take-proper : (q : Contents) (port : ℕ) → proper (takeRule q port) ≡ true
+unfolding takeRule
 take-proper q port =
     need-proper (sound q) _ _ refl
-    (need-proper (any (isLoadPort port) (q .groups)) _ _ refl
-    (have-proper (nth (q .loads) (firstPlace (untaken port) (q .loads))) _ _ refl λ l. have-proper (l .value) _ _ refl λ v. refl))
+    (need-proper (anyOf (isLoadPort port) (q .groups)) _ _ refl
+    (have-proper (getElem? (q .loads) (firstPlace (untaken port) (q .loads))) _ _ refl λ l. have-proper (l .value) _ _ refl λ v. refl))

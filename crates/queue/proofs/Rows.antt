@@ -4,16 +4,16 @@ use Prim.Native.Nat.{ℕ, suc}
 use native.Mathlib.Omega.{arith}
 use mathlib.Core.Path.{_≡_, refl, sym, ap, subst}
 use mathlib.Core.Bool.{Bool, true, false, not, _&&_}
-use mathlib.Core.List.{List, [], _∷_, _++_, append-nil}
+use mathlib.Core.List.{List, [], _∷_, _++_, append-nil, tail}
 use mathlib.Core.Option.{Option, none, some}
 use lib.Dec.{eqb}
 use lib.ListN.{length}
 use borrow.Author.Tests.{eqb-true, eqb-false, eq-eqb, ne-eqb}
-use Rattle.table.specs.Basics.{pick, all, count}
+use Rattle.table.specs.Basics.{pick, allOf, countWhere}
 use Rattle.queue.specs.Ruled.{isSome}
 use Rattle.queue.specs.Contents.{Load, Store}
 use Rattle.queue.specs.Calls.{Argument, LoadAddress, StoreAddress, StoreData}
-use Rattle.queue.specs.Plain.{Rows, nextOf, tail, usedUp}
+use Rattle.queue.specs.Plain.{Rows, nextOf, usedUp}
 use Rattle.queue.proofs.Lists.{false-true, and-left, and-right, and-both}
 use Rattle.queue.specs.Plain.{consOption}
 use Rattle.queue.proofs.Log.{Entry, ofLoad, ofStore, Kind, ownIn}
@@ -73,15 +73,15 @@ module _ (cell : Entry → Cell) where
       fed-map (cell d) (Row cell (pre ++ e ∷ post)) (Row cell (pre ++ e′ ∷ post)) (λ r. r) refl (λ x r. refl) (λ r k. row-same e e′ same post pre r k) row h
 
   -- the first cell that waits gets the value that joins the row
-  pub row-fill : (e e′ : Entry) (x : ℕ) → cell e ≡ some none → cell e′ ≡ some (some x) → (post pre : List Entry) → all (λ d. not (lacking (cell d))) pre ≡ true
+  pub row-fill : (e e′ : Entry) (x : ℕ) → cell e ≡ some none → cell e′ ≡ some (some x) → (post pre : List Entry) → allOf (λ d. not (lacking (cell d))) pre ≡ true
       → (row : List ℕ) → Row cell (pre ++ e ∷ post) row → Row cell (pre ++ e′ ∷ post) (row ++ x ∷ [])
   row-fill e e′ x waits filled post [] t row h = rw filled (start (rw waits at h))
     where
       start : fed (some none) (Row cell post) row → fed (some (some x)) (Row cell post) (row ++ x ∷ [])
       start (empty, k) = ([], rw empty, k)
   row-fill e e′ x waits filled post (d ∷ pre) t row h =
-      go (cell d) (and-left (not (lacking (cell d))) (all (λ d. not (lacking (cell d))) pre) t) h
-      (λ r k. row-fill e e′ x waits filled post pre (and-right (not (lacking (cell d))) (all (λ d. not (lacking (cell d))) pre) t) r k)
+      go (cell d) (and-left (not (lacking (cell d))) (allOf (λ d. not (lacking (cell d))) pre) t) h
+      (λ r k. row-fill e e′ x waits filled post pre (and-right (not (lacking (cell d))) (allOf (λ d. not (lacking (cell d))) pre) t) r k)
     where
       go : (c : Cell) → not (lacking c) ≡ true → fed c (Row cell (pre ++ e ∷ post)) row
           → ((r : List ℕ) → Row cell (pre ++ e ∷ post) r → Row cell (pre ++ e′ ∷ post) (r ++ x ∷ [])) → fed c (Row cell (pre ++ e′ ∷ post)) (row ++ x ∷ [])
@@ -90,12 +90,12 @@ module _ (cell : Entry → Cell) where
       go (some (some y)) l (r, is, k) rec = (r ++ x ∷ [], rw is, rec r k)
 
   -- entries that have nothing yet leave the row as it is
-  pub row-append : (new : List Entry) → all (λ d. hasNone (cell d)) new ≡ true → (es : List Entry) (row : List ℕ) → Row cell es row → Row cell (es ++ new) row
+  pub row-append : (new : List Entry) → allOf (λ d. hasNone (cell d)) new ≡ true → (es : List Entry) (row : List ℕ) → Row cell es row → Row cell (es ++ new) row
   row-append new t [] row h = rw h (empty new t)
     where
-      empty : (l : List Entry) → all (λ d. hasNone (cell d)) l ≡ true → Row cell l []
+      empty : (l : List Entry) → allOf (λ d. hasNone (cell d)) l ≡ true → Row cell l []
       empty [] u = refl
-      empty (d ∷ l) u = go (cell d) (and-left (hasNone (cell d)) (all (λ d. hasNone (cell d)) l) u) (empty l (and-right (hasNone (cell d)) (all (λ d. hasNone (cell d)) l) u))
+      empty (d ∷ l) u = go (cell d) (and-left (hasNone (cell d)) (allOf (λ d. hasNone (cell d)) l) u) (empty l (and-right (hasNone (cell d)) (allOf (λ d. hasNone (cell d)) l) u))
         where
           go : (c : Cell) → hasNone c ≡ true → Row cell l [] → fed c (Row cell l) []
           go none u₁ k = k
@@ -104,20 +104,20 @@ module _ (cell : Entry → Cell) where
   row-append new t (d ∷ es) row h = fed-map (cell d) (Row cell es) (Row cell (es ++ new)) (λ r. r) refl (λ x r. refl) (λ r k. row-append new t es r k) row h
 
   -- a row that is as long as it has cells leaves none waiting
-  pub row-full : (es : List Entry) (row : List ℕ) → Row cell es row → length row ≡ count (λ d. isSome (cell d)) es → all (λ d. not (lacking (cell d))) es ≡ true
+  pub row-full : (es : List Entry) (row : List ℕ) → Row cell es row → length row ≡ countWhere (λ d. isSome (cell d)) es → allOf (λ d. not (lacking (cell d))) es ≡ true
   row-full [] row h e = refl
   row-full (d ∷ es) row h e = go (cell d) h e (λ r k l. row-full es r k l)
     where
-      go : (c : Cell) → fed c (Row cell es) row → length row ≡ pick (isSome c) (suc (count (λ d. isSome (cell d)) es)) (count (λ d. isSome (cell d)) es)
-          → ((r : List ℕ) → Row cell es r → length r ≡ count (λ d. isSome (cell d)) es → all (λ d. not (lacking (cell d))) es ≡ true)
-          → not (lacking c) && all (λ d. not (lacking (cell d))) es ≡ true
+      go : (c : Cell) → fed c (Row cell es) row → length row ≡ pick (isSome c) (suc (countWhere (λ d. isSome (cell d)) es)) (countWhere (λ d. isSome (cell d)) es)
+          → ((r : List ℕ) → Row cell es r → length r ≡ countWhere (λ d. isSome (cell d)) es → allOf (λ d. not (lacking (cell d))) es ≡ true)
+          → not (lacking c) && allOf (λ d. not (lacking (cell d))) es ≡ true
       go none k l rec = rec row k l
       go (some none) k l rec = let z : length row ≡ 0 = ap length (k .0) in absurd (omega arith)
       go (some (some x)) (r, is, k) l rec = let z : length row ≡ suc (length r) = ap length is in rec r k (omega arith)
 
 -- a row for each port: the port's first cell that waits gets the value, and the other ports' rows are as they were
 pub row-of-port : (cell : ℕ → Entry → Cell) (e e′ : Entry) (x port : ℕ) (pre post : List Entry) → cell port e ≡ some none → cell port e′ ≡ some (some x)
-    → all (λ d. not (lacking (cell port d))) pre ≡ true → ((p : ℕ) → eqb port p ≡ false → cell p e ≡ cell p e′)
+    → allOf (λ d. not (lacking (cell port d))) pre ≡ true → ((p : ℕ) → eqb port p ≡ false → cell p e ≡ cell p e′)
     → (rows : ℕ → List ℕ) → ((p : ℕ) → Row (cell p) (pre ++ e ∷ post) (rows p)) → (p : ℕ) → Row (cell p) (pre ++ e′ ∷ post) (rows p ++ pick (eqb port p) (x ∷ []) [])
 row-of-port cell e e′ x port pre post waits filled t other rows h p = go (eqb port p) refl
   where
@@ -128,13 +128,13 @@ row-of-port cell e e′ x port pre post waits filled t other rows h p = go (eqb 
 
 -- no cell before waits, where no entry of the kind does
 pub none-waits : {A : Type 0} (K : Kind A) (cell : Entry → Cell) → ((e : Entry) → K .own e ≡ none → not (lacking (cell e)) ≡ true)
-    → (pre : List Entry) → all (λ a. not (lacking (cell (K .put a)))) (ownIn K pre) ≡ true → all (λ d. not (lacking (cell d))) pre ≡ true
+    → (pre : List Entry) → allOf (λ a. not (lacking (cell (K .put a)))) (ownIn K pre) ≡ true → allOf (λ d. not (lacking (cell d))) pre ≡ true
 none-waits K cell other [] t = refl
 none-waits {A} K cell other (e ∷ pre) t = go (K .own e) refl t (λ k. none-waits K cell other pre k)
   where
-    go : (o : Option A) → K .own e ≡ o → all (λ a. not (lacking (cell (K .put a)))) (consOption o (ownIn K pre)) ≡ true
-        → (all (λ a. not (lacking (cell (K .put a)))) (ownIn K pre) ≡ true → all (λ d. not (lacking (cell d))) pre ≡ true)
-        → not (lacking (cell e)) && all (λ d. not (lacking (cell d))) pre ≡ true
+    go : (o : Option A) → K .own e ≡ o → allOf (λ a. not (lacking (cell (K .put a)))) (consOption o (ownIn K pre)) ≡ true
+        → (allOf (λ a. not (lacking (cell (K .put a)))) (ownIn K pre) ≡ true → allOf (λ d. not (lacking (cell d))) pre ≡ true)
+        → not (lacking (cell e)) && allOf (λ d. not (lacking (cell d))) pre ≡ true
     go none own k rec = and-both (other e own) (rec k)
     go (some a) own k rec =
         let is : e ≡ K .put a = K .put-own e a own in

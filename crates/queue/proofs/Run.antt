@@ -7,7 +7,7 @@ use mathlib.Core.List.{List, [], _∷_, _++_, append-assoc, append-nil}
 use mathlib.Core.Option.{none}
 use lib.Dec.{eqb}
 use lib.ListN.{length}
-use Rattle.table.specs.Basics.{all}
+use Rattle.table.specs.Basics.{allOf}
 use Rattle.table.specs.Group.{GroupPairs}
 use Rattle.table.specs.Table.{tableFault}
 use Rattle.queue.specs.Ruled.{Ruled, refuse, accept, number}
@@ -17,7 +17,7 @@ use Rattle.queue.specs.Open.{groupFits, opened, openQueue}
 use Rattle.queue.specs.Activate.{activate}
 use Rattle.queue.specs.Serve.{Served, serve}
 use Rattle.queue.specs.Write.{Written, write}
-use Rattle.queue.specs.Take.{Taken, take}
+use Rattle.queue.specs.Take.{Taken, takeRule}
 use Rattle.queue.specs.Calls.{Call, Activate, Give, Serve, Write, Take, Ready}
 use Rattle.queue.specs.Call.{Machine, Step, Answered, moved, served, written, taken, give, ready, step, answers, leaves}
 use Rattle.queue.specs.Demand3.{Opening}
@@ -39,7 +39,7 @@ limits-opened groups loadDepth storeDepth first words q h₀ =
     let (t₂, h₂) = need-accepts (depthRight loadDepth) _ _ h₁ in
     let (t₃, h₃) = need-accepts (depthRight storeDepth) _ _ h₂ in
     let (t₄, h₄) = need-accepts (memoryRight words) _ _ h₃ in
-    let (t₅, h₅) = need-accepts (all (groupFits loadDepth storeDepth) groups) _ _ h₄ in
+    let (t₅, h₅) = need-accepts (allOf (groupFits loadDepth storeDepth) groups) _ _ h₄ in
     (record { loadDepthRight = t₂; storeDepthRight = t₃; wordsRight = t₄; tableRight = t₁ }, cc)
 
 opened-state : (groups : List GroupPairs) (memory : List ℕ) (loadDepth storeDepth first : ℕ) → Limits groups (length memory) loadDepth storeDepth
@@ -107,10 +107,10 @@ module _ (groups : List GroupPairs) (memory : List ℕ) (answered : List Answere
       go : (r : Ruled Written) → write (m .queue) (m .memory) s ≡ r → After (Write s) (written m r)
       go (refuse n) e = refused (Write s) n (refusal-not-zero (write (m .queue) (m .memory) s) n (write-proper (m .queue) (m .memory) s) e)
       go (accept r) e = write-keeps groups memory answered m st s r e
-  step-keeps (Take p) = go (take (m .queue) p) refl
+  step-keeps (Take p) = go (takeRule (m .queue) p) refl
     where
-      go : (r : Ruled Taken) → take (m .queue) p ≡ r → After (Take p) (taken m r)
-      go (refuse n) e = refused (Take p) n (refusal-not-zero (take (m .queue) p) n (take-proper (m .queue) p) e)
+      go : (r : Ruled Taken) → takeRule (m .queue) p ≡ r → After (Take p) (taken m r)
+      go (refuse n) e = refused (Take p) n (refusal-not-zero (takeRule (m .queue) p) n (take-proper (m .queue) p) e)
       go (accept r) e = take-keeps groups memory answered m st p r e
   step-keeps (Ready side run) =
       record { log = st .log; table = st .table; holds = st .holds; seen = seen-ready groups answered side run (number (ready side (m .queue) run)) (st .log) (st .seen) }

@@ -4,9 +4,9 @@ use mathlib.Core.Path.{_≡_, refl, sym, ap, _∙_}
 use mathlib.Core.Bool.{Bool, true, false}
 use mathlib.Core.List.{List}
 use mathlib.Core.Option.{Option, none, some}
-use lib.ListN.{length, getD, take}
+use lib.ListN.{length, getD, take, getElem?}
 use borrow.Author.Tests.{eq-eqb, ne-eqb}
-use Rattle.table.specs.Basics.{pick, all, nth}
+use Rattle.table.specs.Basics.{pick, allOf}
 use Rattle.queue.specs.declared.serving.Supply.{Supply}
 use Rattle.queue.specs.declared.serving.Supply.the-variants.{Unknown, NoStore, NoWord, Forwarded}
 use Rattle.queue.specs.declared.Entry.{Entry}
@@ -23,7 +23,7 @@ use Rattle.queue.specs.Outcome.{ServedWell}
 use Rattle.queue.specs.Parts.{queueOf, countedOf}
 use Rattle.queue.specs.Internal.{storesIn, Whole}
 use Rattle.queue.specs.InternalServe.{wordIn, supplyOf, supplyFrom, servedAs, Filled, servedWith, serveAt}
-use Rattle.queue.proofs.ContentsLaws.{nth-past, side-nth, side-take, loads-held, stores-held, loads-count, words-held, load-place, load-anew}
+use Rattle.queue.proofs.ContentsLaws.{getElem?-past, side-getElem?, side-take, loads-held, stores-held, loads-count, words-held, load-place, load-anew}
 
 -- the answer by what the earlier stores supply
 abbrev pub bySupply : Contents → List ℕ → ℕ → ℕ → Supply → Ruled Served
@@ -33,9 +33,9 @@ bySupply q memory place a NoWord = refuse noData
 bySupply q memory place a (Forwarded w) = accept (servedWith q place w true)
 
 pub by-supply : (q : Contents) (memory : List ℕ) (place a : ℕ) (ss : List Store)
-    → need (all hasAddress ss) earlierStoreUnknown (andThen (sourceOf memory a (nearest a none ss)) λ v. accept (servedWith q place (v .value) (v .forwarded)))
+    → need (allOf hasAddress ss) earlierStoreUnknown (andThen (sourceOf memory a (nearest a none ss)) λ v. accept (servedWith q place (v .value) (v .forwarded)))
     ≡ bySupply q memory place a (supplyFrom a ss)
-by-supply q memory place a ss = go (all hasAddress ss) (nearest a none ss)
+by-supply q memory place a ss = go (allOf hasAddress ss) (nearest a none ss)
   where
     word : (s : Store) (w : Option ℕ) → s .word ≡ w → andThen (sourceOf memory a (some s)) (λ v. accept (servedWith q place (v .value) (v .forwarded))) ≡ bySupply q memory place a (wordIn w)
     word s none e = rw e
@@ -48,11 +48,11 @@ by-supply q memory place a ss = go (all hasAddress ss) (nearest a none ss)
 
 module _ (q : Queue) (memory : List ℕ) (place : ℕ) where
   pub serve-none : q .frame .loads .count ≤ place → serveAt (contentsOf q) memory place ≡ refuse noSerial
-  serve-none h = rw (nth-past (contentsOf q .loads) place (rw (loads-count q) h))
+  serve-none h = rw (getElem?-past (contentsOf q .loads) place (rw (loads-count q) h))
 
   module _ (k : place < q .frame .loads .count) (e : Entry) (is : entryOf (getD (q .«load_entries») place 0) ≡ e) where
-    here : nth (contentsOf q .loads) place ≡ some (loadOf e)
-    here = rw (loads-held q) (side-nth loadIn 0 (q .frame .loads .count) (q .«load_entries») place k ∙ rw is)
+    here : getElem? (contentsOf q .loads) place ≡ some (loadOf e)
+    here = rw (loads-held q) (side-getElem? loadIn 0 (q .frame .loads .count) (q .«load_entries») place k ∙ rw is)
 
     pub serve-done : e .filled ≡ true → serveAt (contentsOf q) memory place ≡ refuse alreadyDone
     serve-done s = rw (here, s)

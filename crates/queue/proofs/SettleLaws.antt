@@ -8,7 +8,7 @@ use mathlib.Core.Bool.{Bool, true, false}
 use mathlib.Core.List.{List, [], _∷_, _++_, map, map-map}
 use lib.ListN.{length, getD, take, drop, set, length-map, length-append, length-drop}
 use lib.Seq.{getD-drop, getD-append-add, length-take-le, take-at, take-nil}
-use Rattle.table.specs.Basics.{pick, takeWhile, dropWhile}
+use Rattle.table.specs.Basics.{pick, frontWhile, afterWhile}
 use Rattle.queue.specs.declared.Frame.{Frame}
 use Rattle.queue.specs.declared.Entry.{Entry}
 use Rattle.queue.specs.Entry.{entryOf, numberOf, Small}
@@ -27,15 +27,15 @@ module _ {A : Type 0} (p : A → Bool) where
   leaving-most [] = omega arith
   leaving-most (x ∷ xs) = go (p x) (leaving-most xs)
     where
-      go : (t : Bool) → leaving p xs ≤ length xs → length (pick t (x ∷ takeWhile p xs) []) ≤ suc (length xs)
+      go : (t : Bool) → leaving p xs ≤ length xs → length (pick t (x ∷ frontWhile p xs) []) ≤ suc (length xs)
       go true h = omega arith
       go false h = omega arith
 
-  pub drop-leaving : (l : List A) → drop (leaving p l) l ≡ dropWhile p l
+  pub drop-leaving : (l : List A) → drop (leaving p l) l ≡ afterWhile p l
   drop-leaving [] = refl
   drop-leaving (x ∷ xs) = go (p x) (drop-leaving xs)
     where
-      go : (t : Bool) → drop (leaving p xs) xs ≡ dropWhile p xs → drop (length (pick t (x ∷ takeWhile p xs) [])) (x ∷ xs) ≡ pick t (dropWhile p xs) (x ∷ xs)
+      go : (t : Bool) → drop (leaving p xs) xs ≡ afterWhile p xs → drop (length (pick t (x ∷ frontWhile p xs) [])) (x ∷ xs) ≡ pick t (afterWhile p xs) (x ∷ xs)
       go true h = h
       go false h = refl
 
@@ -117,7 +117,7 @@ side-leaving p f blank n l = omega (arith, leaving-most p (sideOf f blank n l), 
 -- a side once its finished entries have left: `f` says what an entry holds, `h` how that changes as others leave
 side-settled : {B : Type 0} (f : Entry → B) (h : B → B) (p : B → Bool) (others : ℕ) → ((e : Entry) → f (lowered others e) ≡ h (f e)) → ((e : Entry) → p (f e) ≡ finished e)
     → (n l : ℕ) {old new : List ℕ} → l ≡ leaving finished (entriesIn n old) → Shifted l (n - l) others old new
-    → sideOf (λ (x : ℕ). f (entryOf x)) 0 (n - l) new ≡ map h (dropWhile p (sideOf (λ (x : ℕ). f (entryOf x)) 0 n old))
+    → sideOf (λ (x : ℕ). f (entryOf x)) 0 (n - l) new ≡ map h (afterWhile p (sideOf (λ (x : ℕ). f (entryOf x)) 0 n old))
 side-settled f h p others same is n l {old} {new} e w =
     let k : l + (n - l) ≡ n = (let m : l ≤ n = rw e (side-leaving finished entryOf 0 n old) in omega arith) in
     let gone : leaving p (sideOf (λ (x : ℕ). f (entryOf x)) 0 n old) ≡ l = side-leaving-same f p finished is n old ∙ sym e in

@@ -8,7 +8,7 @@ use mathlib.Core.Option.{none, some}
 use lib.Dec.{leb, eqb}
 use lib.ListN.{length, getD}
 use borrow.Author.Tests.{leb-true, ltb-true, eqb-true}
-use Rattle.table.specs.Basics.{pick, all, within}
+use Rattle.table.specs.Basics.{pick, allOf, within}
 use Rattle.table.specs.Table.{groupsOf, tableFault}
 use Rattle.queue.specs.declared.Queue.{Queue}
 use Rattle.queue.specs.Contents.{loadOf, storeOf, loadIn, storeIn, contentsOf}
@@ -33,8 +33,8 @@ pub sound-record : (q : Queue) →
     && memoryRight (q .frame .words)
     && leb (q .frame .loads .count) (q .frame .loads .depth)
     && leb (q .frame .stores .count) (q .frame .stores .depth)
-    && all (loadRight (q .frame .words) (q .frame .stores .count)) (loadsIn (q .frame .loads .count) (q .«load_entries»))
-    && all (storeRight (q .frame .words) (q .frame .loads .count)) (storesIn (q .frame .stores .count) (q .«store_entries»))
+    && allOf (loadRight (q .frame .words) (q .frame .stores .count)) (loadsIn (q .frame .loads .count) (q .«load_entries»))
+    && allOf (storeRight (q .frame .words) (q .frame .loads .count)) (storesIn (q .frame .stores .count) (q .«store_entries»))
     && eqb (tableFault (groupsOf (q .frame .table))) 0)
 unfolding sound contentsOf
 sound-record q = rw (side-length loadIn 0 (q .frame .loads .count) (q .«load_entries»), side-length storeIn 0 (q .frame .stores .count) (q .«store_entries»))
@@ -56,8 +56,8 @@ pub sound-sides : (q : Queue) →
     ((depthRight (q .frame .loads .depth) && leb (q .frame .loads .count) (q .frame .loads .depth))
     && (depthRight (q .frame .stores .depth) && leb (q .frame .stores .count) (q .frame .stores .depth))
     && memoryRight (q .frame .words)
-    && all (entryRight (q .frame .words) (q .frame .stores .count)) (entriesIn (q .frame .loads .count) (q .«load_entries»))
-    && all (entryRight (q .frame .words) (q .frame .loads .count)) (entriesIn (q .frame .stores .count) (q .«store_entries»))
+    && allOf (entryRight (q .frame .words) (q .frame .stores .count)) (entriesIn (q .frame .loads .count) (q .«load_entries»))
+    && allOf (entryRight (q .frame .words) (q .frame .loads .count)) (entriesIn (q .frame .stores .count) (q .«store_entries»))
     && eqb (tableFault (groupsOf (q .frame .table))) 0)
 sound-sides q =
     let words : ℕ = q .frame .words in
@@ -75,12 +75,12 @@ pub side-few : (depth n : ℕ) → (depthRight depth && leb n depth) ≡ true �
 side-few depth n h = le-trans (leb-true n depth (and-right (depthRight depth) (leb n depth) h)) (within-most 1 64 depth (and-left (depthRight depth) (leb n depth) h))
 
 -- every element passes, so the ith does
-pub all-at : {A : Type 0} (p : A → Bool) (l : List A) → all p l ≡ true → (i : ℕ) (d : A) → i < length l → p (getD l i d) ≡ true
+pub all-at : {A : Type 0} (p : A → Bool) (l : List A) → allOf p l ≡ true → (i : ℕ) (d : A) → i < length l → p (getD l i d) ≡ true
 all-at p [] h i d k = absurd (not-suc-le-zero k)
-all-at p (x ∷ l) h zero d k = and-left (p x) (all p l) h
-all-at p (x ∷ l) h (suc i) d k = all-at p l (and-right (p x) (all p l) h) i d (le-of-suc-le-suc k)
+all-at p (x ∷ l) h zero d k = and-left (p x) (allOf p l) h
+all-at p (x ∷ l) h (suc i) d k = all-at p l (and-right (p x) (allOf p l) h) i d (le-of-suc-le-suc k)
 
-side-all : {A B : Type 0} (p : B → Bool) (f : A → B) (blank : A) (n : ℕ) (l : List A) → all p (sideOf f blank n l) ≡ true → (i : ℕ) → i < n → p (f (getD l i blank)) ≡ true
+side-all : {A B : Type 0} (p : B → Bool) (f : A → B) (blank : A) (n : ℕ) (l : List A) → allOf p (sideOf f blank n l) ≡ true → (i : ℕ) → i < n → p (f (getD l i blank)) ≡ true
 side-all p f blank n l h i k = rw (← side-at f blank n l i k) (all-at p (sideOf f blank n l) h i (f blank) (rw (side-length f blank n l) k))
 
 -- an address that is filled in
@@ -116,8 +116,8 @@ module _ (q : Queue) (s : sound (contentsOf q) ≡ true) where
       (memoryRight (q .frame .words))
       (leb (q .frame .loads .count) (q .frame .loads .depth))
       (leb (q .frame .stores .count) (q .frame .stores .depth))
-      (all (loadRight (q .frame .words) (q .frame .stores .count)) (loadsIn (q .frame .loads .count) (q .«load_entries»)))
-      (all (storeRight (q .frame .words) (q .frame .loads .count)) (storesIn (q .frame .stores .count) (q .«store_entries»)))
+      (allOf (loadRight (q .frame .words) (q .frame .stores .count)) (loadsIn (q .frame .loads .count) (q .«load_entries»)))
+      (allOf (storeRight (q .frame .words) (q .frame .loads .count)) (storesIn (q .frame .stores .count) (q .«store_entries»)))
       (eqb (tableFault (groupsOf (q .frame .table))) 0)
   parted = parts _ _ _ _ _ _ _ _ (sym (sound-record q) ∙ s)
 

@@ -7,8 +7,8 @@ use mathlib.Core.Bool.{Bool, true, false, _&&_}
 use mathlib.Core.List.{List, [], _∷_, _++_, map, map-append, append-nil, append-assoc}
 use mathlib.Core.Option.{Option, none, some}
 use lib.Dec.{eqb}
-use lib.ListN.{length, length-append}
-use Rattle.table.specs.Basics.{pick, all, count, nth}
+use lib.ListN.{length, length-append, getElem?}
+use Rattle.table.specs.Basics.{pick, allOf, countWhere}
 use Rattle.table.specs.Group.{GroupPairs}
 use Rattle.table.specs.Table.{tableFault}
 use Rattle.queue.specs.Ruled.{isSome}
@@ -69,8 +69,8 @@ pub record Holds (q : Contents) (m memory : List ℕ) (log : List Entry) : Type 
   pub roomStores : length (q .stores) ≤ q .storeDepth
   pub long : length m ≡ q .memoryLength
   pub windows : Windows loads stores log (q .loads) (q .stores)
-  pub rightLoads : all (rightLoad (q .memoryLength)) (ownIn loads log) ≡ true
-  pub rightStores : all (rightStore (q .memoryLength)) (ownIn stores log) ≡ true
+  pub rightLoads : allOf (rightLoad (q .memoryLength)) (ownIn loads log) ≡ true
+  pub rightStores : allOf (rightStore (q .memoryLength)) (ownIn stores log) ≡ true
   pub agree : Agree m memory log
 
 -- served loads, written stores
@@ -87,8 +87,8 @@ pub record Seen (groups : List GroupPairs) (answered : List Answered) (log : Lis
   pub shape : map accessOf log ≡ accesses groups (told answered)
   pub rows : AllRows log (rowsOf (told answered))
   pub takes : (port : ℕ) → Row (valueTaken port) log (takenAt port answered)
-  pub serves : count served log ≡ length (gather serveIn (told answered))
-  pub writes : count written log ≡ length (gather writeIn (told answered))
+  pub serves : countWhere served log ≡ length (gather serveIn (told answered))
+  pub writes : countWhere written log ≡ length (gather writeIn (told answered))
 
 pub record State (groups : List GroupPairs) (memory : List ℕ) (answered : List Answered) (m : Machine) : Type 0 where
   pub log : List Entry
@@ -110,7 +110,7 @@ gather-append {A} f (t ∷ xs) ys = go (t .accepted) (f (t .call)) (gather-appen
 
 inOrder-append : (groups : List GroupPairs) (xs ys : List ℕ) → inOrder groups (xs ++ ys) ≡ inOrder groups xs ++ inOrder groups ys
 inOrder-append groups [] ys = refl
-inOrder-append groups (g ∷ xs) ys = rw (inOrder-append groups xs ys) (sym (append-assoc (accessesOf (nth groups g)) (inOrder groups xs) (inOrder groups ys)))
+inOrder-append groups (g ∷ xs) ys = rw (inOrder-append groups xs ys) (sym (append-assoc (accessesOf (getElem? groups g)) (inOrder groups xs) (inOrder groups ys)))
 
 takenAt-append : (port : ℕ) (xs ys : List Answered) → takenAt port (xs ++ ys) ≡ takenAt port xs ++ takenAt port ys
 takenAt-append port [] ys = refl
@@ -133,8 +133,8 @@ module _ (groups : List GroupPairs) (answered : List Answered) (a : Answered) wh
       → map accessOf log ≡ accesses groups (told answered) ++ accesses groups (tell a ∷ [])
       → ((kind : Argument) (port : ℕ) → Row (given kind port) log (rowsOf (told answered) kind port ++ rowsOf (tell a ∷ []) kind port))
       → ((port : ℕ) → Row (valueTaken port) log (takenAt port answered ++ takenAt port (a ∷ [])))
-      → count served log ≡ length (gather serveIn (told answered)) + length (gather serveIn (tell a ∷ []))
-      → count written log ≡ length (gather writeIn (told answered)) + length (gather writeIn (tell a ∷ []))
+      → countWhere served log ≡ length (gather serveIn (told answered)) + length (gather serveIn (tell a ∷ []))
+      → countWhere written log ≡ length (gather writeIn (told answered)) + length (gather writeIn (tell a ∷ []))
       → Seen groups (answered ++ a ∷ []) log
   seen-more log shape rows takes serves writes = record {
     shape = shape ∙ sym (ap (inOrder groups) (gather-told groupIn) ∙ inOrder-append groups (gather groupIn (told answered)) (gather groupIn (tell a ∷ [])));

@@ -6,7 +6,7 @@ use mathlib.Core.List.{List, [], _∷_}
 use mathlib.Core.Option.{Option, none, some}
 use lib.ListN.{drop}
 use borrow.Author.Tests.{not-true, not-false}
-use Rattle.table.specs.Basics.{pick, all}
+use Rattle.table.specs.Basics.{pick, allOf}
 use Rattle.queue.specs.declared.serving.Supply.{Supply}
 use Rattle.queue.specs.declared.serving.Supply.the-variants.{Unknown, NoStore}
 use Rattle.queue.specs.declared.Entry.{Entry}
@@ -36,10 +36,10 @@ nearest-latest a found (s ∷ ss) = nearest-latest a (pick (supplies a s) (some 
 
 -- the first i stores have an address, and `found` is what they supply
 pub record Supplying (a : ℕ) (ss : List Store) (i : ℕ) (found : Supply) : Type 0 where
-  pub is : supplyFrom a ss ≡ pick (all hasAddress (drop i ss)) (latest a found (drop i ss)) Unknown
+  pub is : supplyFrom a ss ≡ pick (allOf hasAddress (drop i ss)) (latest a found (drop i ss)) Unknown
 
 pub supplying-none : {a : ℕ} {ss : List Store} → Supplying a ss 0 NoStore
-supplying-none {a} {ss} = record { is = ap (λ (x : Supply). pick (all hasAddress ss) x Unknown) (nearest-latest a none ss) }
+supplying-none {a} {ss} = record { is = ap (λ (x : Supply). pick (allOf hasAddress ss) x Unknown) (nearest-latest a none ss) }
 
 module _ {a : ℕ} {ss : List Store} {i : ℕ} {found : Supply} (w : Supplying a ss i found) where
   module _ {s : Store} (here : drop i ss ≡ s ∷ drop (i + 1) ss) where
@@ -47,7 +47,7 @@ module _ {a : ℕ} {ss : List Store} {i : ℕ} {found : Supply} (w : Supplying a
     supplying-stop e = rw (w .is, here, e)
 
     step : hasAddress s ≡ true → (next : Supply) → pick (supplies a s) (wordFrom s) found ≡ next → Supplying a ss (i + 1) next
-    step e next q = record { is = w .is ∙ rw (here, e) (ap (λ (x : Supply). pick (all hasAddress (drop (i + 1) ss)) (latest a x (drop (i + 1) ss)) Unknown) q) }
+    step e next q = record { is = w .is ∙ rw (here, e) (ap (λ (x : Supply). pick (allOf hasAddress (drop (i + 1) ss)) (latest a x (drop (i + 1) ss)) Unknown) q) }
 
     pub supplying-more : hasAddress s ≡ true → supplies a s ≡ true → {next : Supply} → next ≡ wordFrom s → Supplying a ss (i + 1) next
     supplying-more e k {next} n = step e next (rw k (sym n))

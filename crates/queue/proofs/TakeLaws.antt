@@ -3,8 +3,8 @@ use Prim.Native.Nat.{ℕ, _≤_, _<_}
 use mathlib.Core.Path.{_≡_, _∙_}
 use mathlib.Core.Bool.{true, false}
 use mathlib.Core.Option.{some}
-use lib.ListN.{getD}
-use Rattle.table.specs.Basics.{any, nth}
+use lib.ListN.{getD, getElem?}
+use Rattle.table.specs.Basics.{anyOf}
 use Rattle.table.specs.Table.{groupsOf}
 use Rattle.queue.specs.declared.Entry.{Entry}
 use Rattle.queue.specs.declared.Queue.{Queue}
@@ -15,34 +15,34 @@ use Rattle.queue.specs.Entry.{entryOf}
 use Rattle.queue.specs.Sound.{sound}
 use Rattle.queue.specs.Arguments.{isLoadPort}
 use Rattle.queue.specs.Write.{settle}
-use Rattle.queue.specs.Take.{untaken, loadTaken, take}
+use Rattle.queue.specs.Take.{untaken, loadTaken, takeRule}
 use Rattle.queue.specs.Internal.{loadsIn}
-use Rattle.queue.proofs.ContentsLaws.{nth-past, side-nth, side-length}
+use Rattle.queue.proofs.ContentsLaws.{getElem?-past, side-getElem?, side-length}
 
 module _ (q : Queue) (port : ℕ) where
-  pub take-unsound : sound (contentsOf q) ≡ false → take (contentsOf q) port ≡ refuse unsound
-  unfolding take
+  pub take-unsound : sound (contentsOf q) ≡ false → takeRule (contentsOf q) port ≡ refuse unsound
+  unfolding takeRule
   take-unsound e = rw e
 
   module _ (right : sound (contentsOf q) ≡ true) where
-    pub take-no-port : any (isLoadPort port) (groupsOf (q .frame .table)) ≡ false → take (contentsOf q) port ≡ refuse noPort
-    unfolding take contentsOf
+    pub take-no-port : anyOf (isLoadPort port) (groupsOf (q .frame .table)) ≡ false → takeRule (contentsOf q) port ≡ refuse noPort
+    unfolding takeRule contentsOf
     take-no-port e = rw (right, e)
 
-    module _ (known : any (isLoadPort port) (groupsOf (q .frame .table)) ≡ true) (place : ℕ) (is : place ≡ firstPlace (untaken port) (loadsIn (q .frame .loads .count) (q .«load_entries»))) where
-      pub take-none : q .frame .loads .count ≤ place → take (contentsOf q) port ≡ refuse noneUntaken
-      unfolding take contentsOf
-      take-none h = rw (right, known, ← is, nth-past (loadsIn (q .frame .loads .count) (q .«load_entries»)) place (rw (side-length loadIn 0 (q .frame .loads .count) (q .«load_entries»)) h))
+    module _ (known : anyOf (isLoadPort port) (groupsOf (q .frame .table)) ≡ true) (place : ℕ) (is : place ≡ firstPlace (untaken port) (loadsIn (q .frame .loads .count) (q .«load_entries»))) where
+      pub take-none : q .frame .loads .count ≤ place → takeRule (contentsOf q) port ≡ refuse noneUntaken
+      unfolding takeRule contentsOf
+      take-none h = rw (right, known, ← is, getElem?-past (loadsIn (q .frame .loads .count) (q .«load_entries»)) place (rw (side-length loadIn 0 (q .frame .loads .count) (q .«load_entries»)) h))
 
       module _ (k : place < q .frame .loads .count) (e : Entry) (at : entryOf (getD (q .«load_entries») place 0) ≡ e) where
-        here : nth (loadsIn (q .frame .loads .count) (q .«load_entries»)) place ≡ some (loadOf e)
-        here = side-nth loadIn 0 (q .frame .loads .count) (q .«load_entries») place k ∙ rw at
+        here : getElem? (loadsIn (q .frame .loads .count) (q .«load_entries»)) place ≡ some (loadOf e)
+        here = side-getElem? loadIn 0 (q .frame .loads .count) (q .«load_entries») place k ∙ rw at
 
-        pub take-unserved : e .filled ≡ false → take (contentsOf q) port ≡ refuse notServed
-        unfolding take contentsOf
+        pub take-unserved : e .filled ≡ false → takeRule (contentsOf q) port ≡ refuse notServed
+        unfolding takeRule contentsOf
         take-unserved s = rw (right, known, ← is, here, s)
 
         pub take-served : e .filled ≡ true
-            → take (contentsOf q) port ≡ accept (record { value = e .word; queue = settle (withLoads (contentsOf q) (updateAt loadTaken place (contentsOf q .loads))) })
-        unfolding take contentsOf
+            → takeRule (contentsOf q) port ≡ accept (record { value = e .word; queue = settle (withLoads (contentsOf q) (updateAt loadTaken place (contentsOf q .loads))) })
+        unfolding takeRule contentsOf
         take-served s = rw (right, known, ← is, here, s)

@@ -7,13 +7,13 @@ use mathlib.Core.Path.{_≡_, refl, sym, _∙_}
 use mathlib.Core.Bool.{Bool, true, false}
 use mathlib.Core.List.{List, [], _∷_}
 use lib.ListN.{drop}
-use Rattle.table.specs.Basics.{any, all}
+use Rattle.table.specs.Basics.{anyOf, allOf}
 use Rattle.queue.specs.Contents.{firstPlace}
 use Rattle.queue.specs.Write.{leaving}
 
 -- ---- every entry passes
 pub record AllYet {B : Type 0} (p : B → Bool) (l : List B) (i : ℕ) : Type 0 where
-  pub is : all p l ≡ all p (drop i l)
+  pub is : allOf p l ≡ allOf p (drop i l)
 
 pub all-none : {B : Type 0} {p : B → Bool} {l : List B} → AllYet p l 0
 all-none = record { is = refl }
@@ -23,15 +23,15 @@ module _ {B : Type 0} {p : B → Bool} {l : List B} {i : ℕ} (w : AllYet p l i)
     pub all-on : p x ≡ true → AllYet p l (i + 1)
     all-on e = record { is = w .is ∙ rw (here, e) }
 
-    pub all-stop : p x ≡ false → false ≡ all p l
+    pub all-stop : p x ≡ false → false ≡ allOf p l
     all-stop e = rw (w .is, here, e)
 
-  pub all-end : drop i l ≡ [] → true ≡ all p l
+  pub all-end : drop i l ≡ [] → true ≡ allOf p l
   all-end e = rw (w .is, e)
 
 -- ---- no entry passes
 pub record NoneYet {B : Type 0} (p : B → Bool) (l : List B) (i : ℕ) : Type 0 where
-  pub is : any p l ≡ any p (drop i l)
+  pub is : anyOf p l ≡ anyOf p (drop i l)
 
 pub none-none : {B : Type 0} {p : B → Bool} {l : List B} → NoneYet p l 0
 none-none = record { is = refl }
@@ -41,10 +41,10 @@ module _ {B : Type 0} {p : B → Bool} {l : List B} {i : ℕ} (w : NoneYet p l i
     pub none-on : p x ≡ false → NoneYet p l (i + 1)
     none-on e = record { is = w .is ∙ rw (here, e) }
 
-    pub none-stop : p x ≡ true → true ≡ any p l
+    pub none-stop : p x ≡ true → true ≡ anyOf p l
     none-stop e = rw (w .is, here, e)
 
-  pub none-end : drop i l ≡ [] → false ≡ any p l
+  pub none-end : drop i l ≡ [] → false ≡ anyOf p l
   none-end e = rw (w .is, e)
 
 -- ---- the first entry that passes

@@ -9,15 +9,15 @@ use mathlib.Core.Bool.{Bool, true, false, not}
 use mathlib.Core.List.{List, [], _∷_, _++_, map, append-assoc, append-cancel-left, map-append, map-map}
 use mathlib.Core.Option.{Option, none, some}
 use lib.Dec.{leb}
-use lib.ListN.{length, take, length-append, length-map}
+use lib.ListN.{length, take, length-append, length-map, getElem?}
 use lib.Seq.{take-at}
 use borrow.Author.Tests.{le-leb, leb-true}
-use Rattle.table.specs.Basics.{all, nth, takeWhile, dropWhile}
-use Rattle.table.proofs.Order.{takeWhile-dropWhile}
+use Rattle.table.specs.Basics.{allOf, frontWhile, afterWhile}
+use Rattle.table.proofs.Order.{frontWhile-afterWhile}
 use Rattle.queue.specs.Ruled.{isSome}
 use Rattle.queue.specs.Contents.{updateAt}
 use Rattle.queue.specs.Plain.{consOption}
-use Rattle.queue.proofs.Lists.{false-true, all-left, all-right, all-join, all-take, all-map, all-weaken, all-weaken₂, take-append, take-map, nth-map, map-same, failing-behind, nth-split, nth-seam, updateAt-seam, all-takeWhile, dropWhile-map, length-takeWhile-map}
+use Rattle.queue.proofs.Lists.{false-true, all-left, all-right, all-join, all-take, all-map, all-weaken, all-weaken₂, take-append, take-map, getElem?-map, map-same, failing-behind, getElem?-split, getElem?-seam, updateAt-seam, all-frontWhile, afterWhile-map, length-frontWhile-map}
 use Rattle.queue.proofs.Log.{Entry, Kind, Opposite, Placed, place, entryOf, side, ownIn, others, counting, side-append, map-side, side-length, side-before, side-split}
 
 -- an entry as the queue shows it, where so many of the other side have left
@@ -33,7 +33,7 @@ pub record Window {A : Type 0} (K : Kind A) (log : List Entry) (gone out : ℕ) 
   pub live : List (Placed A)
   pub parts : side K 0 log ≡ old ++ live
   pub many : length old ≡ gone
-  pub ended : all (over K) old ≡ true
+  pub ended : allOf (over K) old ≡ true
   pub shows : held ≡ map (shown K out) live
 
 -- both sides
@@ -52,7 +52,7 @@ pub record Before {A : Type 0} (K : Kind A) (queued : List A) (pre : List Entry)
   pub past : List (Placed A)
   pub rest : List (Placed A)
   pub parts : ownIn K pre ≡ map entryOf past ++ map entryOf rest
-  pub ended : all (over K) past ≡ true
+  pub ended : allOf (over K) past ≡ true
   pub shows : queued ≡ map (shown K out) rest
 
 -- A queued entry and its place in the log: all that the calls need of the window.
@@ -61,7 +61,7 @@ pub record Located {A B : Type 0} (K : Kind A) (K′ : Kind B) (log : List Entry
   pub log-is : log ≡ pre ++ K .put it ∷ post
   -- the queue shows it with this remembered number
   pub number : ℕ
-  pub at : nth held i ≡ some (K .remember number it)
+  pub at : getElem? held i ≡ some (K .remember number it)
   -- the entries before it, of its own side and of the other
   pub before : Before K (take i held) pre
   pub before′ : Before K′ (take number held′) pre
@@ -72,21 +72,21 @@ pub record Located {A B : Type 0} (K : Kind A) (K′ : Kind B) (log : List Entry
 
 module _ {A : Type 0} {K : Kind A} {queued : List A} {pre : List Entry} (b : Before K queued pre) (p : A → Bool) (blind : (n : ℕ) (a : A) → p (K .remember n a) ≡ p a) where
   -- the queue's part, for a test that does not look at remembered numbers
-  queued-all : all p queued ≡ all (λ x. p (x .entry)) (b .rest)
+  queued-all : allOf p queued ≡ allOf (λ x. p (x .entry)) (b .rest)
   queued-all = rw (b .shows) (all-map p (λ x. p (x .entry)) (shown K (b .out)) (λ x. blind (x .before - b .out) (x .entry)) (b .rest))
 
-  rest-all : all p (map entryOf (b .rest)) ≡ all (λ x. p (x .entry)) (b .rest)
+  rest-all : allOf p (map entryOf (b .rest)) ≡ allOf (λ x. p (x .entry)) (b .rest)
   rest-all = all-map p (λ x. p (x .entry)) entryOf (λ x. refl) (b .rest)
 
   -- from the log to the queue
-  pub before-queued : all p (ownIn K pre) ≡ true → all p queued ≡ true
+  pub before-queued : allOf p (ownIn K pre) ≡ true → allOf p queued ≡ true
   before-queued h = queued-all ∙ sym rest-all ∙ all-right p (map entryOf (b .past)) (map entryOf (b .rest)) (rw (b .parts) at h)
 
   -- from the queue to the log: what has left passes since it is finished, and right
-  pub before-log : (right : A → Bool) → ((a : A) → right a ≡ true → K .finished a ≡ true → p a ≡ true) → all right (ownIn K pre) ≡ true → all p queued ≡ true → all p (ownIn K pre) ≡ true
+  pub before-log : (right : A → Bool) → ((a : A) → right a ≡ true → K .finished a ≡ true → p a ≡ true) → allOf right (ownIn K pre) ≡ true → allOf p queued ≡ true → allOf p (ownIn K pre) ≡ true
   before-log right w h k = rw (b .parts) (all-join p (map entryOf (b .past)) (map entryOf (b .rest)) past-all (rest-all ∙ sym queued-all ∙ k))
     where
-      past-all : all p (map entryOf (b .past)) ≡ true
+      past-all : allOf p (map entryOf (b .past)) ≡ true
       past-all =
           all-weaken₂ right (K .finished) p w (map entryOf (b .past)) (all-left right (map entryOf (b .past)) (map entryOf (b .rest)) (rw (b .parts) at h))
           (all-map (K .finished) (over K) entryOf (λ x. refl) (b .past) ∙ b .ended)
@@ -136,8 +136,8 @@ module _ {A B : Type 0} (K : Kind A) (K′ : Kind B) (opposite : Opposite K K′
     i-is : length (map (shown K gone′) near) ≡ length near
     i-is = length-map near (shown K gone′)
 
-    located-at : nth held (length near) ≡ some (shown K gone′ (place (others K pre) it))
-    located-at = rw (held-is, ← i-is) (nth-seam (map (shown K gone′) near) (shown K gone′ (place (others K pre) it)) (map (shown K gone′) (side K (others K pre) post)))
+    located-at : getElem? held (length near) ≡ some (shown K gone′ (place (others K pre) it))
+    located-at = rw (held-is, ← i-is) (getElem?-seam (map (shown K gone′) near) (shown K gone′ (place (others K pre) it)) (map (shown K gone′) (side K (others K pre) post)))
 
     located-before : Before K (take (length near) held) pre
     located-before = record {
@@ -207,9 +207,9 @@ module _ {A B : Type 0} (K : Kind A) (K′ : Kind B) (opposite : Opposite K K′
     }
 
   -- the entry at a place of the queue
-  pub locate : {log : List Entry} {held : List A} {held′ : List B} → Windows K K′ log held held′ → (i : ℕ) {x : A} → nth held i ≡ some x
+  pub locate : {log : List Entry} {held : List A} {held′ : List B} → Windows K K′ log held held′ → (i : ℕ) {x : A} → getElem? held i ≡ some x
       → (pre : List Entry) × (it : A) × (post : List Entry) × Located K K′ log held held′ i pre it post
-  locate {log} {held} {held′} w i {x} h = at-live (nth-map (shown K (w .gone′)) (w .ours .live) i (rw (w .ours .shows) at h))
+  locate {log} {held} {held′} w i {x} h = at-live (getElem?-map (shown K (w .gone′)) (w .ours .live) i (rw (w .ours .shows) at h))
     where
       at-log : (near far : List (Placed A)) (y : Placed A) → w .ours .live ≡ near ++ y ∷ far → length near ≡ i
           → ((pre post : List Entry) × (log ≡ pre ++ K .put (y .entry) ∷ post) × (side K 0 pre ≡ w .ours .old ++ near))
@@ -221,8 +221,8 @@ module _ {A B : Type 0} (K : Kind A) (K′ : Kind B) (opposite : Opposite K K′
       at-place y (near, far, e, l) =
           at-log near far y e l (side-split K 0 log (w .ours .old ++ near) y far (w .ours .parts ∙ rw e (sym (append-assoc (w .ours .old) near (y ∷ far)))))
 
-      at-live : (y : Placed A) × (nth (w .ours .live) i ≡ some y) → (pre : List Entry) × (it : A) × (post : List Entry) × Located K K′ log held held′ i pre it post
-      at-live (y, e) = at-place y (nth-split (w .ours .live) i e)
+      at-live : (y : Placed A) × (getElem? (w .ours .live) i ≡ some y) → (pre : List Entry) × (it : A) × (post : List Entry) × Located K K′ log held held′ i pre it post
+      at-live (y, e) = at-place y (getElem?-split (w .ours .live) i e)
 
   -- an unfinished entry of the log has a place in the queue
   pub unfinished-queued : {log : List Entry} {held : List A} {held′ : List B} → Windows K K′ log held held′ → (pre : List Entry) (it : A) (post : List Entry)
@@ -257,14 +257,14 @@ module _ {A B : Type 0} (K : Kind A) (K′ : Kind B) (opposite : Opposite K K′
 
   -- no entry remembers more of the other kind than are held
   pub remembered-held : (log : List Entry) {gone gone′ : ℕ} {held : List A} {held′ : List B} → Window K log gone gone′ held → Window K′ log gone′ gone held′
-      → all (λ a. leb (K .remembered a) (length held′)) held ≡ true
+      → allOf (λ a. leb (K .remembered a) (length held′)) held ≡ true
   remembered-held log {gone} {gone′} {held} {held′} w w′ =
       rw (w .shows)
       (all-map (λ a. leb (K .remembered a) (length held′)) (λ x. leb (x .before - gone′) (length held′)) (shown K gone′)
       (λ x. rw (K .remembered-remember (x .before - gone′) (x .entry))) (w .live)
       ∙ all-weaken (λ x. leb (x .before) (others K log)) (λ x. leb (x .before - gone′) (length held′)) lower (w .live) (all-right (λ x. leb (x .before) (others K log)) (w .old) (w .live) known))
     where
-      known : all (λ x. leb (x .before) (others K log)) (w .old ++ w .live) ≡ true
+      known : allOf (λ x. leb (x .before) (others K log)) (w .old ++ w .live) ≡ true
       known = rw (← w .parts, ← zero-add (others K log)) (side-before K 0 log)
 
       lower : (x : Placed A) → leb (x .before) (others K log) ≡ true → leb (x .before - gone′) (length held′) ≡ true
@@ -288,20 +288,20 @@ module _ {A B : Type 0} (K : Kind A) (K′ : Kind B) (opposite : Opposite K K′
   -- finished entries leave this side, and j the other
   pub window-leave : (leave : ℕ → A → A) → ((j n : ℕ) (a : A) → leave j (K .remember n a) ≡ K .remember (n - j) a)
       → {log : List Entry} {gone out : ℕ} {held : List A} → Window K log gone out held → (j : ℕ)
-      → Window K log (gone + length (takeWhile (K .finished) held)) (out + j) (map (leave j) (dropWhile (K .finished) held))
+      → Window K log (gone + length (frontWhile (K .finished) held)) (out + j) (map (leave j) (afterWhile (K .finished) held))
   window-leave leave lowers {log} {gone} {out} {held} w j = record {
-    old = w .old ++ takeWhile (over K) (w .live);
-    live = dropWhile (over K) (w .live);
+    old = w .old ++ frontWhile (over K) (w .live);
+    live = afterWhile (over K) (w .live);
     parts =
-        w .parts ∙ ap (λ (l : List (Placed A)). w .old ++ l) (sym (takeWhile-dropWhile (over K) (w .live)))
-        ∙ sym (append-assoc (w .old) (takeWhile (over K) (w .live)) (dropWhile (over K) (w .live)));
+        w .parts ∙ ap (λ (l : List (Placed A)). w .old ++ l) (sym (frontWhile-afterWhile (over K) (w .live)))
+        ∙ sym (append-assoc (w .old) (frontWhile (over K) (w .live)) (afterWhile (over K) (w .live)));
     many =
-        length-append (w .old) (takeWhile (over K) (w .live))
-        ∙ rw (w .many, w .shows, length-takeWhile-map (K .finished) (over K) (shown K out) (λ x. K .finished-remember (x .before - out) (x .entry)) (w .live));
-    ended = all-join (over K) (w .old) (takeWhile (over K) (w .live)) (w .ended) (all-takeWhile (over K) (w .live));
+        length-append (w .old) (frontWhile (over K) (w .live))
+        ∙ rw (w .many, w .shows, length-frontWhile-map (K .finished) (over K) (shown K out) (λ x. K .finished-remember (x .before - out) (x .entry)) (w .live));
+    ended = all-join (over K) (w .old) (frontWhile (over K) (w .live)) (w .ended) (all-frontWhile (over K) (w .live));
     shows =
-        rw (w .shows, dropWhile-map (K .finished) (over K) (shown K out) (λ x. K .finished-remember (x .before - out) (x .entry)) (w .live))
-        (map-map (leave j) (shown K out) (dropWhile (over K) (w .live)) ∙ map-same (λ x. leave j (shown K out x)) (shown K (out + j)) lower (dropWhile (over K) (w .live)));
+        rw (w .shows, afterWhile-map (K .finished) (over K) (shown K out) (λ x. K .finished-remember (x .before - out) (x .entry)) (w .live))
+        (map-map (leave j) (shown K out) (afterWhile (over K) (w .live)) ∙ map-same (λ x. leave j (shown K out x)) (shown K (out + j)) lower (afterWhile (over K) (w .live)));
   }
     where
       lower : (x : Placed A) → leave j (shown K out x) ≡ shown K (out + j) x

@@ -5,9 +5,9 @@ use mathlib.Core.Path.{_≡_, refl, sym, ap, _∙_}
 use mathlib.Core.Bool.{Bool, true, false, not}
 use mathlib.Core.List.{List}
 use mathlib.Core.Option.{Option, none, some}
-use lib.ListN.{length, getD, take}
+use lib.ListN.{length, getD, take, getElem?}
 use borrow.Author.Tests.{eq-eqb, ne-eqb}
-use Rattle.table.specs.Basics.{all, nth}
+use Rattle.table.specs.Basics.{allOf}
 use Rattle.queue.specs.declared.Entry.{Entry}
 use Rattle.queue.specs.declared.Queue.{Queue}
 use Rattle.queue.specs.Refusal.{unsound, wrongMemory, noSerial, alreadyDone, noAddress, noData, earlierLoadInWay, earlierStoreInWay}
@@ -18,7 +18,7 @@ use Rattle.queue.specs.Sound.{sound}
 use Rattle.queue.specs.Write.{loadGivesWay, storeGivesWay, write}
 use Rattle.queue.specs.Internal.{loadsIn, storesIn}
 use Rattle.queue.specs.InternalWrite.{mayWrite, mayWriteAt, writtenWith, writeAt}
-use Rattle.queue.proofs.ContentsLaws.{nth-past, side-nth, side-take, loads-held, stores-held, stores-count, words-held, store-place}
+use Rattle.queue.proofs.ContentsLaws.{getElem?-past, side-getElem?, side-take, loads-held, stores-held, stores-count, words-held, store-place}
 
 -- ---- an answer that is no 0 refuses with it
 pub refused-number : {A : Type 0} (x : Ruled A) → (number x ≡ 0 → ⊥) → x ≡ refuse (number x)
@@ -39,13 +39,13 @@ module _ (ls : List Load) (ss : List Store) (e : Entry) where
       may-no-data f = rw (w, a, f)
 
       module _ (f : e .filled ≡ true) where
-        pub may-load : all (loadGivesWay (e .address)) ls ≡ false → earlierLoadInWay ≡ number (mayWrite ls ss (storeOf e))
+        pub may-load : allOf (loadGivesWay (e .address)) ls ≡ false → earlierLoadInWay ≡ number (mayWrite ls ss (storeOf e))
         may-load l = rw (w, a, f, l)
 
-        pub may-store : all (loadGivesWay (e .address)) ls ≡ true → all (storeGivesWay (e .address)) ss ≡ false → earlierStoreInWay ≡ number (mayWrite ls ss (storeOf e))
+        pub may-store : allOf (loadGivesWay (e .address)) ls ≡ true → allOf (storeGivesWay (e .address)) ss ≡ false → earlierStoreInWay ≡ number (mayWrite ls ss (storeOf e))
         may-store l s = rw (w, a, f, l, s)
 
-        pub may-put : all (loadGivesWay (e .address)) ls ≡ true → all (storeGivesWay (e .address)) ss ≡ true
+        pub may-put : allOf (loadGivesWay (e .address)) ls ≡ true → allOf (storeGivesWay (e .address)) ss ≡ true
             → mayWrite ls ss (storeOf e) ≡ accept (record { address = e .address; word = e .word })
         may-put l s = rw (w, a, f, l, s)
 
@@ -57,9 +57,9 @@ module _ (ls : List Load) (ss : List Store) (e : Entry) where
     pub put : mayWrite ls ss (storeOf e) ≡ accept (record { address = e .address; word = e .word })
 
   pub may-puts : number (mayWrite ls ss (storeOf e)) ≡ 0 → Puts
-  may-puts h = go (e .finished) (e .addressed) (e .filled) (all (loadGivesWay (e .address)) ls) (all (storeGivesWay (e .address)) ss) refl refl refl refl refl
+  may-puts h = go (e .finished) (e .addressed) (e .filled) (allOf (loadGivesWay (e .address)) ls) (allOf (storeGivesWay (e .address)) ss) refl refl refl refl refl
     where
-      go : (w a f l s : Bool) → e .finished ≡ w → e .addressed ≡ a → e .filled ≡ f → all (loadGivesWay (e .address)) ls ≡ l → all (storeGivesWay (e .address)) ss ≡ s → Puts
+      go : (w a f l s : Bool) → e .finished ≡ w → e .addressed ≡ a → e .filled ≡ f → allOf (loadGivesWay (e .address)) ls ≡ l → allOf (storeGivesWay (e .address)) ss ≡ s → Puts
       go true a f l s ew ea ef el es = let z = may-not-again ew ∙ h in absurd (omega arith)
       go false false f l s ew ea ef el es = let z = may-no-address ew ea ∙ h in absurd (omega arith)
       go false true false l s ew ea ef el es = let z = may-no-data ew ea ef ∙ h in absurd (omega arith)
@@ -72,8 +72,8 @@ write-tail : (q : Contents) (memory : List ℕ) (place : ℕ) (ls : List Load) (
     → need (not (s .written)) alreadyDone
     (have (s .address) noAddress λ a.
     have (s .word) noData λ w.
-    need (all (loadGivesWay a) ls) earlierLoadInWay
-    (need (all (storeGivesWay a) ss) earlierStoreInWay
+    need (allOf (loadGivesWay a) ls) earlierLoadInWay
+    (need (allOf (storeGivesWay a) ss) earlierStoreInWay
     (accept (writtenWith q memory place (record { address = a; word = w })))))
     ≡ andThen (mayWrite ls ss s) λ p. accept (writtenWith q memory place p)
 write-tail q memory place ls ss s = go (s .written) (s .address) (s .word)
@@ -88,27 +88,27 @@ write-tail q memory place ls ss s = go (s .written) (s .address) (s .word)
         → need (not t) alreadyDone
         (have address noAddress λ a.
         have word noData λ w.
-        need (all (loadGivesWay a) ls) earlierLoadInWay
-        (need (all (storeGivesWay a) ss) earlierStoreInWay
+        need (allOf (loadGivesWay a) ls) earlierLoadInWay
+        (need (allOf (storeGivesWay a) ss) earlierStoreInWay
         (accept (writtenWith q memory place (record { address = a; word = w })))))
         ≡ andThen (need (not t) alreadyDone
         (have address noAddress λ a.
         have word noData λ w.
-        need (all (loadGivesWay a) ls) earlierLoadInWay
-        (need (all (storeGivesWay a) ss) earlierStoreInWay
+        need (allOf (loadGivesWay a) ls) earlierLoadInWay
+        (need (allOf (storeGivesWay a) ss) earlierStoreInWay
         (accept (record { address = a; word = w }))))) λ p. accept (writtenWith q memory place p)
     go true address word = refl
     go false none word = refl
     go false (some a) none = refl
-    go false (some a) (some w) = way a w (all (loadGivesWay a) ls) (all (storeGivesWay a) ss)
+    go false (some a) (some w) = way a w (allOf (loadGivesWay a) ls) (allOf (storeGivesWay a) ss)
 
 write-rest : (q : Contents) (memory : List ℕ) (place : ℕ) (o : Option Store)
     → (have o noSerial λ s.
     need (not (s .written)) alreadyDone
     (have (s .address) noAddress λ a.
     have (s .word) noData λ w.
-    need (all (loadGivesWay a) (take (s .before) (q .loads))) earlierLoadInWay
-    (need (all (storeGivesWay a) (take place (q .stores))) earlierStoreInWay
+    need (allOf (loadGivesWay a) (take (s .before) (q .loads))) earlierLoadInWay
+    (need (allOf (storeGivesWay a) (take place (q .stores))) earlierStoreInWay
     (accept (writtenWith q memory place (record { address = a; word = w }))))))
     ≡ have o noSerial λ s. andThen (mayWrite (take (s .before) (q .loads)) (take place (q .stores)) s) λ p. accept (writtenWith q memory place p)
 write-rest q memory place none = refl
@@ -116,14 +116,14 @@ write-rest q memory place (some s) = write-tail q memory place (take (s .before)
 
 module _ (q : Queue) (memory : List ℕ) (place : ℕ) where
   pub write-none : q .frame .stores .count ≤ place → writeAt (contentsOf q) memory place ≡ refuse noSerial
-  write-none h = rw (nth-past (contentsOf q .stores) place (rw (stores-count q) h))
+  write-none h = rw (getElem?-past (contentsOf q .stores) place (rw (stores-count q) h))
 
   module _ (k : place < q .frame .stores .count)
       (b : entryOf (getD (q .«store_entries») place 0) .before ≤ q .frame .loads .count) where
     pub write-held : writeAt (contentsOf q) memory place ≡ andThen (mayWriteAt (q .«load_entries») (q .«store_entries») place) λ p. accept (writtenWith (contentsOf q) memory place p)
     write-held =
         let e : Entry = entryOf (getD (q .«store_entries») place 0) in
-        let here : nth (contentsOf q .stores) place ≡ some (storeOf e) = ap (λ (l : List Store). nth l place) (stores-held q) ∙ side-nth storeIn 0 (q .frame .stores .count) (q .«store_entries») place k in
+        let here : getElem? (contentsOf q .stores) place ≡ some (storeOf e) = ap (λ (l : List Store). getElem? l place) (stores-held q) ∙ side-getElem? storeIn 0 (q .frame .stores .count) (q .«store_entries») place k in
         let ls : take (e .before) (contentsOf q .loads) ≡ loadsIn (e .before) (q .«load_entries») =
         ap (take (e .before)) (loads-held q) ∙ side-take loadIn 0 (q .frame .loads .count) (q .«load_entries») (e .before) b in
         let ss : take place (contentsOf q .stores) ≡ storesIn place (q .«store_entries») =
@@ -137,7 +137,7 @@ pub write-by-place : (q : Contents) (memory : List ℕ) (serial : ℕ) → sound
     → write q memory serial ≡ writeAt q memory (storePlace q serial)
 unfolding write
 write-by-place q memory serial right e =
-    rw (right, eq-eqb (length memory) (q .memoryLength) e) (write-rest q memory (storePlace q serial) (nth (q .stores) (storePlace q serial)))
+    rw (right, eq-eqb (length memory) (q .memoryLength) e) (write-rest q memory (storePlace q serial) (getElem? (q .stores) (storePlace q serial)))
 
 module _ (q : Queue) (memory : List ℕ) (serial : ℕ) where
   pub write-unsound : sound (contentsOf q) ≡ false → write (contentsOf q) memory serial ≡ refuse unsound

@@ -5,8 +5,7 @@ use mathlib.Core.Bool.{Bool, false, _&&_}
 use mathlib.Core.List.{List, [], _∷_, _++_}
 use mathlib.Core.Option.{none}
 use lib.Dec.{leb}
-use lib.ListN.{length}
-use Rattle.table.specs.Basics.{nth}
+use lib.ListN.{length, getElem?}
 use Rattle.table.specs.Group.{GroupPairs, Access, load, store, order}
 use Rattle.queue.specs.Refusal.{unsound, noGroup, noPlace}
 use Rattle.queue.specs.Ruled.{Ruled, accept, need, have}
@@ -50,6 +49,6 @@ withGroup q g = record {
 unfoldable pub activate : Contents → ℕ → Ruled Contents
 activate q group =
     need (sound q) unsound
-    (have (nth (q .groups) group) noGroup λ g.
+    (have (getElem? (q .groups) group) noGroup λ g.
     need (room q g) noPlace
     (accept (withGroup q g)))

@@ -4,7 +4,7 @@ use Prim.Native.Nat.{ℕ}
 use mathlib.Core.Bool.{Bool, not, _&&_}
 use mathlib.Core.Option.{some}
 use lib.Dec.{eqb, ltb}
-use Rattle.table.specs.Basics.{any}
+use Rattle.table.specs.Basics.{anyOf}
 use Rattle.table.specs.declared.Pair.{Pair}
 use Rattle.table.specs.Group.{GroupPairs}
 use Rattle.queue.specs.Refusal.{unsound, noPort, badAddress, noneWaits}
@@ -17,10 +17,10 @@ abbrev pub isPort : ℕ → Pair → Bool
 isPort port p = eqb (p .port) port
 
 abbrev pub isLoadPort : ℕ → GroupPairs → Bool
-isLoadPort port g = any (isPort port) (g .loads)
+isLoadPort port g = anyOf (isPort port) (g .loads)
 
 abbrev pub isStorePort : ℕ → GroupPairs → Bool
-isStorePort port g = any (isPort port) (g .stores)
+isStorePort port g = anyOf (isPort port) (g .stores)
 
 -- which entries wait for the argument
 abbrev pub loadLacksAddress : ℕ → Load → Bool
@@ -45,22 +45,22 @@ storeWithWord w s = record { port = s .port; address = s .address; word = some w
 unfoldable pub loadAddress : Contents → ℕ → ℕ → Ruled Contents
 loadAddress q port a =
     need (sound q) unsound
-    (need (any (isLoadPort port) (q .groups)) noPort
+    (need (anyOf (isLoadPort port) (q .groups)) noPort
     (need (ltb a (q .memoryLength)) badAddress
-    (need (any (loadLacksAddress port) (q .loads)) noneWaits
+    (need (anyOf (loadLacksAddress port) (q .loads)) noneWaits
     (accept (withLoads q (updateAt (loadWithAddress a) (firstPlace (loadLacksAddress port) (q .loads)) (q .loads)))))))
 
 unfoldable pub storeAddress : Contents → ℕ → ℕ → Ruled Contents
 storeAddress q port a =
     need (sound q) unsound
-    (need (any (isStorePort port) (q .groups)) noPort
+    (need (anyOf (isStorePort port) (q .groups)) noPort
     (need (ltb a (q .memoryLength)) badAddress
-    (need (any (storeLacksAddress port) (q .stores)) noneWaits
+    (need (anyOf (storeLacksAddress port) (q .stores)) noneWaits
     (accept (withStores q (updateAt (storeWithAddress a) (firstPlace (storeLacksAddress port) (q .stores)) (q .stores)))))))
 
 unfoldable pub storeData : Contents → ℕ → ℕ → Ruled Contents
 storeData q port w =
     need (sound q) unsound
-    (need (any (isStorePort port) (q .groups)) noPort
-    (need (any (storeLacksWord port) (q .stores)) noneWaits
+    (need (anyOf (isStorePort port) (q .groups)) noPort
+    (need (anyOf (storeLacksWord port) (q .stores)) noneWaits
     (accept (withStores q (updateAt (storeWithWord w) (firstPlace (storeLacksWord port) (q .stores)) (q .stores))))))

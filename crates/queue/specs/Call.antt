@@ -11,7 +11,7 @@ use Rattle.queue.specs.Activate.{activate}
 use Rattle.queue.specs.Arguments.{loadAddress, storeAddress, storeData}
 use Rattle.queue.specs.Serve.{Served, serve}
 use Rattle.queue.specs.Write.{Written, write}
-use Rattle.queue.specs.Take.{Taken, take}
+use Rattle.queue.specs.Take.{Taken, takeRule}
 use Rattle.queue.specs.Ready.{readyLoads, readyStores}
 
 -- a queue and the memory that is lent to its calls
@@ -60,7 +60,7 @@ step m (Activate g) = moved m (activate (m .queue) g)
 step m (Give kind port x) = moved m (give kind (m .queue) port x)
 step m (Serve c s) = served m (serve (m .queue) (m .memory) s)
 step m (Write s) = written m (write (m .queue) (m .memory) s)
-step m (Take p) = taken m (take (m .queue) p)
+step m (Take p) = taken m (takeRule (m .queue) p)
 step m (Ready side run) = looked m (ready side (m .queue) run)
 
 -- a call with its answer

@@ -12,8 +12,8 @@ use mathlib.Core.Bool.{Bool, true, false}
 use mathlib.Core.List.{List, [], _∷_, map}
 use mathlib.Core.Option.{Option, none, some}
 use lib.Dec.{eqb}
-use lib.ListN.{length}
-use Rattle.table.specs.Basics.{pick, count, nth}
+use lib.ListN.{length, getElem?}
+use Rattle.table.specs.Basics.{pick, countWhere}
 use Rattle.table.specs.Group.{GroupPairs, Access, load, store}
 use Rattle.queue.specs.Ruled.{accept, number}
 use Rattle.queue.specs.Sound.{sound}
@@ -82,17 +82,17 @@ uses StoreData port (store p) = eqb p port
 -- "A load is unserved while accepted serves are fewer than the loads of the accepted activations; a store is unwritten while
 -- accepted writes are fewer than their stores, and every store is written when they are as many."
 abbrev pub someUnserved : List GroupPairs → List Told → Type 0
-someUnserved groups ts = length (gather serveIn ts) < count isLoad (accesses groups ts)
+someUnserved groups ts = length (gather serveIn ts) < countWhere isLoad (accesses groups ts)
 
 abbrev pub someUnwritten : List GroupPairs → List Told → Type 0
-someUnwritten groups ts = length (gather writeIn ts) < count isStore (accesses groups ts)
+someUnwritten groups ts = length (gather writeIn ts) < countWhere isStore (accesses groups ts)
 
 abbrev pub allWritten : List GroupPairs → List Told → Type 0
-allWritten groups ts = length (gather writeIn ts) ≡ count isStore (accesses groups ts)
+allWritten groups ts = length (gather writeIn ts) ≡ countWhere isStore (accesses groups ts)
 
 -- "All accesses have their arguments when each row is as long as its port has accesses in these activations."
 abbrev pub allArguments : List GroupPairs → List Told → Type 0
-allArguments groups ts = (kind : Argument) (port : ℕ) → length (rowsOf ts kind port) ≡ count (uses kind port) (accesses groups ts)
+allArguments groups ts = (kind : Argument) (port : ℕ) → length (rowsOf ts kind port) ≡ countWhere (uses kind port) (accesses groups ts)
 
 -- "A serve or write would be accepted when one of some serial, given the queue and memory that the list left, is answered 0."
 abbrev pub wouldMove : Machine → Type 0
@@ -100,7 +100,7 @@ wouldMove m = (serial : ℕ) × (serial < 2 ^ 32) × ((number (serve (m .queue) 
 
 -- What holds of a list's answers and of the machine that it left.
 pub record Sequential (groups : List GroupPairs) (memory : List ℕ) (log : List Answered) (left : Machine) (fill : Filling) : Type 0 where
-  pub takes : (port n v : ℕ) → nth (takenAt port log) n ≡ some v → nth (plainLoads groups memory (told log) fill port) n ≡ some v
+  pub takes : (port n v : ℕ) → getElem? (takenAt port log) n ≡ some v → getElem? (plainLoads groups memory (told log) fill port) n ≡ some v
   pub writes : allWritten groups (told log) → left .memory ≡ plainMemory groups memory (told log) fill
   pub moves : (someUnserved groups (told log) ⊎ someUnwritten groups (told log)) → allArguments groups (told log) → wouldMove left
 
@@ -134,4 +134,4 @@ abbrev pub AlikeLists : Type 0
 AlikeLists =
     (groups : List GroupPairs) (memory : List ℕ) (m₁ m₂ : Machine) → Opening groups memory m₁ → Opening groups memory m₂ →
     (calls₁ calls₂ : List Call) → Alike (told (answers m₁ calls₁)) (told (answers m₂ calls₂)) →
-    (port n v w : ℕ) → nth (takenAt port (answers m₁ calls₁)) n ≡ some v → nth (takenAt port (answers m₂ calls₂)) n ≡ some w → v ≡ w
+    (port n v w : ℕ) → getElem? (takenAt port (answers m₁ calls₁)) n ≡ some v → getElem? (takenAt port (answers m₂ calls₂)) n ≡ some w → v ≡ w

@@ -4,8 +4,8 @@ use mathlib.Core.Bool.{Bool, not}
 use mathlib.Core.List.{List}
 use mathlib.Core.Path.{_≡_}
 use mathlib.Core.Option.{Option, none, some}
-use lib.ListN.{getD, set}
-use Rattle.table.specs.Basics.{pick, all, nth}
+use lib.ListN.{getD, set, getElem?}
+use Rattle.table.specs.Basics.{pick, allOf}
 use Rattle.queue.specs.declared.serving.Supply.{Supply}
 use Rattle.queue.specs.declared.serving.Supply.the-variants.{Unknown, NoStore, NoWord, Forwarded}
 use Rattle.queue.specs.declared.Value.the-variants.{Word, Nothing}
@@ -31,7 +31,7 @@ supplyOf (some s) = wordFrom s
 
 -- what the stores before a load of the address have for it
 abbrev pub supplyFrom : ℕ → List Store → Supply
-supplyFrom a ss = pick (all hasAddress ss) (supplyOf (nearest a none ss)) Unknown
+supplyFrom a ss = pick (allOf hasAddress ss) (supplyOf (nearest a none ss)) Unknown
 
 -- a refused serve, and an accepted one
 abbrev pub unserved : ℕ → Counts → Service
@@ -53,9 +53,9 @@ servedWith q place v forwarded = record { value = v; forwarded = forwarded; queu
 -- serving the load at a place: 25 and what follows it
 abbrev pub serveAt : Contents → List ℕ → ℕ → Ruled Served
 serveAt q memory place =
-    have (nth (q .loads) place) noSerial λ l.
+    have (getElem? (q .loads) place) noSerial λ l.
     need (not (isSome (l .value))) alreadyDone
     (have (l .address) noAddress λ a.
-    need (all hasAddress (storesBefore q l)) earlierStoreUnknown
+    need (allOf hasAddress (storesBefore q l)) earlierStoreUnknown
     (andThen (sourceOf memory a (nearest a none (storesBefore q l))) λ v.
     accept (servedWith q place (v .value) (v .forwarded))))

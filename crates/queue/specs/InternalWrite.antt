@@ -4,8 +4,8 @@ use mathlib.Core.Path.{_≡_}
 use mathlib.Core.Bool.{Bool, false, not, _||_}
 use mathlib.Core.List.{List, map}
 use lib.Dec.{eqb}
-use lib.ListN.{getD, take, drop, set}
-use Rattle.table.specs.Basics.{pick, all, nth}
+use lib.ListN.{getD, take, drop, set, getElem?}
+use Rattle.table.specs.Basics.{pick, allOf}
 use Rattle.queue.specs.declared.Entry.{Entry}
 use Rattle.queue.specs.declared.Side.{Side}
 use Rattle.queue.specs.declared.Frame.{Frame}
@@ -50,8 +50,8 @@ mayWrite ls ss s =
     need (not (s .written)) alreadyDone
     (have (s .address) noAddress λ a.
     have (s .word) noData λ w.
-    need (all (loadGivesWay a) ls) earlierLoadInWay
-    (need (all (storeGivesWay a) ss) earlierStoreInWay
+    need (allOf (loadGivesWay a) ls) earlierLoadInWay
+    (need (allOf (storeGivesWay a) ss) earlierStoreInWay
     (accept (record { address = a; word = w }))))
 
 -- the same of the store at a place
@@ -66,6 +66,6 @@ writtenWith q memory place p = record { memory = set memory (p .address) (p .wor
 -- writing the store at a place: 25 and what follows it
 abbrev pub writeAt : Contents → List ℕ → ℕ → Ruled Written
 writeAt q memory place =
-    have (nth (q .stores) place) noSerial λ s.
+    have (getElem? (q .stores) place) noSerial λ s.
     andThen (mayWrite (take (s .before) (q .loads)) (take place (q .stores)) s) λ p.
     accept (writtenWith q memory place p)

@@ -5,7 +5,7 @@ use mathlib.Core.Bool.{Bool, _&&_}
 use mathlib.Core.List.{List, []}
 use lib.Dec.{leb, eqb}
 use lib.ListN.{length}
-use Rattle.table.specs.Basics.{all}
+use Rattle.table.specs.Basics.{allOf}
 use Rattle.table.specs.Group.{GroupPairs}
 use Rattle.table.specs.Table.{tableFault}
 use Rattle.queue.specs.Refusal.{badLoadDepth, badStoreDepth, badMemoryLength, groupTooLarge}
@@ -36,5 +36,5 @@ openQueue groups loadDepth storeDepth first words =
     (need (depthRight loadDepth) badLoadDepth
     (need (depthRight storeDepth) badStoreDepth
     (need (memoryRight words) badMemoryLength
-    (need (all (groupFits loadDepth storeDepth) groups) groupTooLarge
+    (need (allOf (groupFits loadDepth storeDepth) groups) groupTooLarge
     (accept (opened groups loadDepth storeDepth first words))))))

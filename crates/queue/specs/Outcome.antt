@@ -64,5 +64,5 @@ Writes q lent (accept w) r memory = WrittenWell w r memory
 
 -- opening; a refused one hands back the queue of no table, which means nothing
 abbrev pub Opens : Queue → Ruled Contents → Opened → Type 0
-Opens none (refuse n) r = r ≡ record { answer = n; queue = none }
-Opens none (accept q) r = (r .answer ≡ 0) × (contentsOf (r .queue) ≡ q)
+Opens blank (refuse n) r = r ≡ record { answer = n; queue = blank }
+Opens blank (accept q) r = (r .answer ≡ 0) × (contentsOf (r .queue) ≡ q)

@@ -2,11 +2,11 @@
 -- the list's calls, and which of them were answered 0; nothing of the queue's record. Of the table it uses the program order.
 use Prim.Native.Nat.{ℕ, suc}
 use mathlib.Core.Bool.{Bool, true, false, _&&_}
-use mathlib.Core.List.{List, [], _∷_, _++_}
+use mathlib.Core.List.{List, [], _∷_, _++_, tail}
 use mathlib.Core.Option.{Option, none, some}
 use lib.Dec.{eqb}
-use lib.ListN.{getD, set}
-use Rattle.table.specs.Basics.{pick, nth}
+use lib.ListN.{getD, set, getElem?}
+use Rattle.table.specs.Basics.{pick}
 use Rattle.table.specs.Group.{GroupPairs, Access, load, store, order}
 use Rattle.queue.specs.Calls.{Argument, LoadAddress, StoreAddress, StoreData, Call, Activate, Give, Serve, Write, Take, Ready}
 
@@ -69,7 +69,7 @@ accessesOf (some g) = order g
 
 abbrev pub inOrder : List GroupPairs → List ℕ → List Access
 inOrder groups [] = []
-inOrder groups (g ∷ gs) = accessesOf (nth groups g) ++ inOrder groups gs
+inOrder groups (g ∷ gs) = accessesOf (getElem? groups g) ++ inOrder groups gs
 
 abbrev pub accesses : List GroupPairs → List Told → List Access
 accesses groups ts = inOrder groups (gather groupIn ts)
@@ -84,10 +84,6 @@ pub record Filling : Type 0 where
 abbrev pub nextOf : List ℕ → ℕ → ℕ
 nextOf [] filled = filled
 nextOf (x ∷ xs) filled = x
-
-abbrev pub tail : List ℕ → List ℕ
-tail [] = []
-tail (x ∷ xs) = xs
 
 -- the rows with the next of this kind and port used up
 abbrev pub usedUp : Argument → ℕ → Rows → Rows

@@ -5,7 +5,7 @@ use mathlib.Core.Bool.{Bool}
 use mathlib.Core.List.{List, [], _∷_}
 use lib.Dec.{leb}
 use lib.ListN.{length, replicate}
-use Rattle.table.specs.Basics.{filter}
+use Rattle.table.specs.Basics.{keepWhere}
 use Rattle.table.specs.Refusal.{tooShort}
 use Rattle.queue.specs.Refusal.{unsound}
 use Rattle.queue.specs.Ruled.{Ruled, accept, need, accepted}
@@ -30,10 +30,10 @@ abbrev pub wouldWrite : Contents → ℕ → Bool
 wouldWrite q serial = accepted (write q (anyMemory q) serial)
 
 unfoldable pub servable : Contents → List ℕ
-servable q = filter (wouldServe q) (serials (oldest (q .nextLoad) (length (q .loads))) (length (q .loads)))
+servable q = keepWhere (wouldServe q) (serials (oldest (q .nextLoad) (length (q .loads))) (length (q .loads)))
 
 unfoldable pub writable : Contents → List ℕ
-writable q = filter (wouldWrite q) (serials (oldest (q .nextStore) (length (q .stores))) (length (q .stores)))
+writable q = keepWhere (wouldWrite q) (serials (oldest (q .nextStore) (length (q .stores))) (length (q .stores)))
 
 -- the serials that a ready call puts at the front of a run of numbers
 unfoldable pub readyLoads : Contents → List ℕ → Ruled (List ℕ)

@@ -5,7 +5,7 @@ use mathlib.Core.Path.{_≡_}
 use mathlib.Core.List.{List}
 use lib.Dec.{eqb}
 use lib.ListN.{length}
-use Rattle.table.specs.Basics.{any}
+use Rattle.table.specs.Basics.{anyOf}
 use Rattle.queue.specs.Ruled.{number}
 use Rattle.queue.specs.Contents.{Contents}
 use Rattle.queue.specs.Serve.{serve}
@@ -14,8 +14,8 @@ use Rattle.queue.specs.Ready.{servable, writable}
 
 abbrev pub ServableExactly : Type 0
 ServableExactly = (q : Contents) (memory : List ℕ) (serial : ℕ) → length memory ≡ q .memoryLength → serial < 2 ^ 32
-    → any (eqb serial) (servable q) ≡ eqb (number (serve q memory serial)) 0
+    → anyOf (eqb serial) (servable q) ≡ eqb (number (serve q memory serial)) 0
 
 abbrev pub WritableExactly : Type 0
 WritableExactly = (q : Contents) (memory : List ℕ) (serial : ℕ) → length memory ≡ q .memoryLength → serial < 2 ^ 32
-    → any (eqb serial) (writable q) ≡ eqb (number (write q memory serial)) 0
+    → anyOf (eqb serial) (writable q) ≡ eqb (number (write q memory serial)) 0

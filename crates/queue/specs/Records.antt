@@ -6,8 +6,7 @@ use mathlib.Core.Path.{_≡_}
 use mathlib.Core.Bool.{true}
 use mathlib.Core.List.{List, [], _∷_}
 use mathlib.Core.Option.{Option, none, some}
-use lib.ListN.{length}
-use Rattle.table.specs.Basics.{nth}
+use lib.ListN.{length, getElem?}
 use Rattle.table.specs.declared.Table.{Table}
 use Rattle.table.specs.Table.{groupsOf}
 use Rattle.queue.specs.declared.Value.{Value}
@@ -24,7 +23,7 @@ use Rattle.queue.specs.Open.{openQueue}
 use Rattle.queue.specs.Activate.{activate}
 use Rattle.queue.specs.Serve.{serve}
 use Rattle.queue.specs.Write.{write}
-use Rattle.queue.specs.Take.{take}
+use Rattle.queue.specs.Take.{takeRule}
 use Rattle.queue.specs.Outcome.{Moves, Takes, Serves, Writes, Opens}
 use Rattle.queue.specs.ReadyOutcome.{Readies}
 use Rattle.queue.specs.NoQueue.{freshFrame}
@@ -50,7 +49,7 @@ pub data Runs : Queue → List ℕ → List Call → List Answered → Queue →
   gives : {q q₂ : Queue} {m m₂ : List ℕ} {kind : Argument} {port x : ℕ} {cs : List Call} {log : List Answered} (r : Outcome) → Moves q (give kind (contentsOf q) port x) r → Runs (r .queue) m cs log q₂ m₂ → Runs q m (Give kind port x ∷ cs) (answered (Give kind port x) (r .answer) (r .value) ∷ log) q₂ m₂
   serves : {q q₂ : Queue} {m m₂ : List ℕ} {c : Counts} {s : ℕ} {cs : List Call} {log : List Answered} (r : Counted) → Serves q c (serve (contentsOf q) m s) r → Runs (r .queue) m cs log q₂ m₂ → Runs q m (Serve c s ∷ cs) (answered (Serve c s) (r .answer) (r .value) ∷ log) q₂ m₂
   writes : {q q₂ : Queue} {m m₁ m₂ : List ℕ} {s : ℕ} {cs : List Call} {log : List Answered} (r : Outcome) → Writes q m (write (contentsOf q) m s) r m₁ → Runs (r .queue) m₁ cs log q₂ m₂ → Runs q m (Write s ∷ cs) (answered (Write s) (r .answer) (r .value) ∷ log) q₂ m₂
-  takes : {q q₂ : Queue} {m m₂ : List ℕ} {p : ℕ} {cs : List Call} {log : List Answered} (r : Outcome) → Takes q (take (contentsOf q) p) r → Runs (r .queue) m cs log q₂ m₂ → Runs q m (Take p ∷ cs) (answered (Take p) (r .answer) (r .value) ∷ log) q₂ m₂
+  takes : {q q₂ : Queue} {m m₂ : List ℕ} {p : ℕ} {cs : List Call} {log : List Answered} (r : Outcome) → Takes q (takeRule (contentsOf q) p) r → Runs (r .queue) m cs log q₂ m₂ → Runs q m (Take p ∷ cs) (answered (Take p) (r .answer) (r .value) ∷ log) q₂ m₂
   readies : {q q₂ : Queue} {m m₂ : List ℕ} {side : Side} {run : List ℕ} {cs : List Call} {log : List Answered} (left : List ℕ) (r : Readied) → Readies q run (ready side (contentsOf q) run) r left → Runs (r .queue) m cs log q₂ m₂ → Runs q m (Ready side run ∷ cs) (answered (Ready side run) (r .answer) Nothing ∷ log) q₂ m₂
 
 abbrev pub machineOf : Queue → List ℕ → Machine
@@ -89,7 +88,7 @@ AlikeRecords =
     (table : Table) (memory : List ℕ) (o₁ o₂ : Opened) → OpenedRecord table memory o₁ → OpenedRecord table memory o₂ →
     (calls₁ calls₂ : List Call) (log₁ log₂ : List Answered) (q₁ q₂ : Queue) (left₁ left₂ : List ℕ) →
     Runs (o₁ .queue) memory calls₁ log₁ q₁ left₁ → Runs (o₂ .queue) memory calls₂ log₂ q₂ left₂ → Alike (told log₁) (told log₂) →
-    (port n v w : ℕ) → nth (takenAt port log₁) n ≡ some v → nth (takenAt port log₂) n ≡ some w → v ≡ w
+    (port n v w : ℕ) → getElem? (takenAt port log₁) n ≡ some v → getElem? (takenAt port log₂) n ≡ some w → v ≡ w
 
 abbrev pub RecordsSound : Type 0
 RecordsSound =

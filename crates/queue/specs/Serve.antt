@@ -7,8 +7,8 @@ use mathlib.Core.Bool.{Bool, true, false, not, _&&_}
 use mathlib.Core.List.{List, [], _∷_}
 use mathlib.Core.Option.{Option, none, some}
 use lib.Dec.{eqb}
-use lib.ListN.{length, take, getD}
-use Rattle.table.specs.Basics.{pick, all, nth}
+use lib.ListN.{length, take, getD, getElem?}
+use Rattle.table.specs.Basics.{pick, allOf}
 use Rattle.queue.specs.Refusal.{unsound, wrongMemory, noSerial, alreadyDone, noAddress, earlierStoreUnknown, noData}
 use Rattle.queue.specs.Ruled.{Ruled, accept, need, have, andThen, isSome}
 use Rattle.queue.specs.Contents.{Load, Store, Contents, withLoads, updateAt, loadPlace}
@@ -58,10 +58,10 @@ unfoldable pub serve : Contents → List ℕ → ℕ → Ruled Served
 serve q memory serial =
     need (sound q) unsound
     (need (eqb (length memory) (q .memoryLength)) wrongMemory
-    (have (nth (q .loads) (loadPlace q serial)) noSerial λ l.
+    (have (getElem? (q .loads) (loadPlace q serial)) noSerial λ l.
     need (not (isSome (l .value))) alreadyDone
     (have (l .address) noAddress λ a.
-    need (all hasAddress (storesBefore q l)) earlierStoreUnknown
+    need (allOf hasAddress (storesBefore q l)) earlierStoreUnknown
     (andThen (sourceOf memory a (nearest a none (storesBefore q l))) λ v.
     accept (record {
       value = v .value;

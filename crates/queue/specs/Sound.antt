@@ -6,7 +6,7 @@ use mathlib.Core.Bool.{Bool, true, _&&_}
 use mathlib.Core.Option.{Option, none, some}
 use lib.Dec.{leb, ltb, eqb}
 use lib.ListN.{length}
-use Rattle.table.specs.Basics.{all, within}
+use Rattle.table.specs.Basics.{allOf, within}
 use Rattle.table.specs.Table.{tableFault}
 use Rattle.queue.specs.Contents.{Load, Store, Contents}
 
@@ -35,6 +35,6 @@ sound q =
     && memoryRight (q .memoryLength)
     && leb (length (q .loads)) (q .loadDepth)
     && leb (length (q .stores)) (q .storeDepth)
-    && all (loadRight (q .memoryLength) (length (q .stores))) (q .loads)
-    && all (storeRight (q .memoryLength) (length (q .loads))) (q .stores)
+    && allOf (loadRight (q .memoryLength) (length (q .stores))) (q .loads)
+    && allOf (storeRight (q .memoryLength) (length (q .loads))) (q .stores)
     && eqb (tableFault (q .groups)) 0

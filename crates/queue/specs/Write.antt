@@ -7,8 +7,8 @@ use mathlib.Core.Bool.{Bool, true, false, not, _||_}
 use mathlib.Core.List.{List, map}
 use mathlib.Core.Option.{Option, none, some}
 use lib.Dec.{eqb}
-use lib.ListN.{length, take, set}
-use Rattle.table.specs.Basics.{all, nth, takeWhile, dropWhile}
+use lib.ListN.{length, take, set, getElem?}
+use Rattle.table.specs.Basics.{allOf, frontWhile, afterWhile}
 use Rattle.queue.specs.Refusal.{unsound, wrongMemory, noSerial, alreadyDone, noAddress, noData, earlierLoadInWay, earlierStoreInWay}
 use Rattle.queue.specs.Ruled.{Ruled, accept, need, have, isSome}
 use Rattle.queue.specs.Contents.{Load, Store, Contents, withStores, updateAt, storePlace}
@@ -50,7 +50,7 @@ storeAfterLeaving n s = record { port = s .port; address = s .address; word = s 
 
 -- how many finished entries stand at the oldest end
 abbrev pub leaving : {A : Type 0} → (A → Bool) → List A → ℕ
-leaving finished l = length (takeWhile finished l)
+leaving finished l = length (frontWhile finished l)
 
 abbrev pub settle : Contents → Contents
 settle q = record {
@@ -58,22 +58,22 @@ settle q = record {
   memoryLength = q .memoryLength;
   loadDepth = q .loadDepth;
   nextLoad = q .nextLoad;
-  loads = map (loadAfterLeaving (leaving storeFinished (q .stores))) (dropWhile loadFinished (q .loads));
+  loads = map (loadAfterLeaving (leaving storeFinished (q .stores))) (afterWhile loadFinished (q .loads));
   storeDepth = q .storeDepth;
   nextStore = q .nextStore;
-  stores = map (storeAfterLeaving (leaving loadFinished (q .loads))) (dropWhile storeFinished (q .stores));
+  stores = map (storeAfterLeaving (leaving loadFinished (q .loads))) (afterWhile storeFinished (q .stores));
 }
 
 unfoldable pub write : Contents → List ℕ → ℕ → Ruled Written
 write q memory serial =
     need (sound q) unsound
     (need (eqb (length memory) (q .memoryLength)) wrongMemory
-    (have (nth (q .stores) (storePlace q serial)) noSerial λ s.
+    (have (getElem? (q .stores) (storePlace q serial)) noSerial λ s.
     need (not (s .written)) alreadyDone
     (have (s .address) noAddress λ a.
     have (s .word) noData λ w.
-    need (all (loadGivesWay a) (take (s .before) (q .loads))) earlierLoadInWay
-    (need (all (storeGivesWay a) (take (storePlace q serial) (q .stores))) earlierStoreInWay
+    need (allOf (loadGivesWay a) (take (s .before) (q .loads))) earlierLoadInWay
+    (need (allOf (storeGivesWay a) (take (storePlace q serial) (q .stores))) earlierStoreInWay
     (accept (record {
       memory = set memory a w;
       queue = settle (withStores q (updateAt storeDone (storePlace q serial) (q .stores)));

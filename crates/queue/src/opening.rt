@@ -3,7 +3,7 @@ ghost use mathlib.Core.Path.{_≡_};
 ghost use mathlib.Core.Bool.{_&&_};
 ghost use lib.Dec.{leb};
 ghost use Prim.Native.Nat.{_≤_};
-ghost use Rattle.table.specs.Basics.{all};
+ghost use Rattle.table.specs.Basics.{allOf};
 ghost use Rattle.table.specs.Table.{groupsOf};
 ghost use Rattle.queue.specs.Open.{groupFits, openQueue};
 ghost use Rattle.queue.specs.NoQueue.{freshFrame, noFrame, noQueue};
@@ -76,7 +76,7 @@ fn group_fits(group: Group, load_depth: u32, store_depth: u32) -> bool
 
 fn groups_fit(table: Table, load_depth: u32, store_depth: u32) -> bool
     requires { ⌜ table .count ≤ 16 ⌝ }
-    ensures { λ r. ⌜ r ≡ all (groupFits «load_depth» «store_depth») (groupsOf table) ⌝ }
+    ensures { λ r. ⌜ r ≡ allOf (groupFits «load_depth» «store_depth») (groupsOf table) ⌝ }
 {
     let count = table.count as usize;
     let mut i: usize = 0;

@@ -1,7 +1,7 @@
 // Which ports a table names: load ports and store ports are two separate series.
 ghost use mathlib.Core.Path.{_≡_};
 ghost use Prim.Native.Nat.{_≤_};
-ghost use Rattle.table.specs.Basics.{any};
+ghost use Rattle.table.specs.Basics.{anyOf};
 ghost use Rattle.table.specs.Group.{listOf, pairsOf, Inside};
 ghost use Rattle.table.specs.Table.{groupsIn};
 ghost use Rattle.queue.specs.InternalArguments.{namesPort};
@@ -14,7 +14,7 @@ use table::parts::unpack_pair;
 // Is the port one of these?
 fn names_port(places: &[u16; 32], pairs: Span, port: u32) -> bool
     requires { ⌜ Inside pairs ⌝ }
-    ensures { λ r. ⌜ r ≡ any (isPort port) (listOf (now (places .entry)) pairs) ⌝ }
+    ensures { λ r. ⌜ r ≡ anyOf (isPort port) (listOf (now (places .entry)) pairs) ⌝ }
 {
     let first = pairs.first as usize;
     let count = pairs.count as usize;
@@ -58,7 +58,7 @@ pub(crate) fn has_port<'a>(
     port: u32,
 ) -> bool
     requires { ⌜ count ≤ 16 ⌝ }
-    ensures { λ r. ⌜ r ≡ any (namesPort storing port) (groupsIn count (now (groups .entry)) (now (loads .entry)) (now (stores .entry))) ⌝ }
+    ensures { λ r. ⌜ r ≡ anyOf (namesPort storing port) (groupsIn count (now (groups .entry)) (now (loads .entry)) (now (stores .entry))) ⌝ }
 {
     let many = count as usize;
     let mut i: usize = 0;

@@ -4,7 +4,7 @@ ghost use mathlib.Core.Bool.{_&&_};
 ghost use Prim.Native.Nat.{_≤_};
 ghost use lib.Dec.{leb};
 ghost use lib.ListN.{length};
-ghost use Rattle.table.specs.Basics.{all};
+ghost use Rattle.table.specs.Basics.{allOf};
 ghost use Rattle.queue.specs.Contents.{contentsOf};
 ghost use Rattle.queue.specs.Sound.{depthRight, memoryRight, sound};
 ghost use Rattle.queue.specs.Parts.{frameOf, queueOf, whole};
@@ -53,7 +53,7 @@ fn entry_right(entry: Entry, words: u16, others: u8) -> bool
 // Is every entry held right?
 fn entries_right(entries: &[u64], held: u8, words: u16, others: u8) -> bool
     requires { ⌜ held ≤ length (now entries) ⌝ }
-    ensures { λ r. ⌜ r ≡ all (entryRight words others) (entriesIn held (now (entries .entry))) ⌝ }
+    ensures { λ r. ⌜ r ≡ allOf (entryRight words others) (entriesIn held (now (entries .entry))) ⌝ }
 {
     let count = held as usize;
     let mut i: usize = 0;

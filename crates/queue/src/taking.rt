@@ -1,7 +1,7 @@
 // Taking values: "take gives the value of the port's oldest untaken load". Letting one port's results overtake each other
 // would misplace them.
 ghost use Rattle.queue.specs.Contents.{contentsOf};
-ghost use Rattle.queue.specs.Take.{take};
+ghost use Rattle.queue.specs.Take.{takeRule};
 ghost use Rattle.queue.specs.Outcome.{Takes};
 ghost use Rattle.queue.specs.Parts.{frameOf, queueOf, outcomeOf, onParts};
 use crate::Outcome;
@@ -38,7 +38,7 @@ pub fn take_in<'a>(
     ensures { λ r. ⌜ (let frame = frameOf outline (now (groups .entry)) (now («load_places» .entry)) (now («store_places» .entry)) in
         Takes (queueOf frame (now («load_entries» .entry)) (now («store_entries» .entry)))
         (onParts (now («load_entries» .entry)) (now («store_entries» .entry))
-        (take (contentsOf (queueOf frame (now («load_entries» .entry)) (now («store_entries» .entry)))) port))
+        (takeRule (contentsOf (queueOf frame (now («load_entries» .entry)) (now («store_entries» .entry)))) port))
         (outcomeOf frame r (now («load_entries» .exit)) (now («store_entries» .exit)))) ⌝ }
 {
     if !sound_in(
@@ -82,7 +82,7 @@ pub fn take_in<'a>(
 impl Queue {
     // Take the value of the port's oldest untaken load.
     pub fn take(self, port: u32) -> Outcome
-        ensures { λ r. ⌜ Takes self (take (contentsOf self) port) r ⌝ }
+        ensures { λ r. ⌜ Takes self (takeRule (contentsOf self) port) r ⌝ }
     {
         let frame = self.frame;
         let mut load_entries = self.load_entries;

@@ -3,7 +3,7 @@
 ghost use mathlib.Core.Path.{_≡_};
 ghost use Prim.Native.Nat.{_+_, _≤_, _<_, _-_};
 ghost use lib.ListN.{length, getD};
-ghost use Rattle.table.specs.Basics.{all};
+ghost use Rattle.table.specs.Basics.{allOf};
 ghost use Rattle.table.specs.declared.Table.{Table};
 ghost use Rattle.queue.specs.Entry.{entryOf};
 ghost use Rattle.queue.specs.Contents.{contentsOf};
@@ -57,7 +57,7 @@ fn gives_way(entry: Entry, done: Mark, address: u16) -> bool
 // Do the first n entries give way to a write to the address?
 fn all_give_way(entries: &[u64], n: usize, done: Mark, address: u16) -> bool
     requires { ⌜ n ≤ length (now entries) ⌝ }
-    ensures { λ r. ⌜ r ≡ all (givesWay done address) (entriesIn n (now (entries .entry))) ⌝ }
+    ensures { λ r. ⌜ r ≡ allOf (givesWay done address) (entriesIn n (now (entries .entry))) ⌝ }
 {
     let mut i: usize = 0;
     while i < n {

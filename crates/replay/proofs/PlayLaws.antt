@@ -14,7 +14,7 @@ use Rattle.queue.specs.Activate.{activate}
 use Rattle.queue.specs.Arguments.{loadAddress, storeAddress, storeData}
 use Rattle.queue.specs.Serve.{Served, serve}
 use Rattle.queue.specs.Write.{Written, write}
-use Rattle.queue.specs.Take.{Taken, take}
+use Rattle.queue.specs.Take.{Taken, takeRule}
 use Rattle.queue.specs.Outcome.{Moves, Takes, Serves, Writes}
 use Rattle.queue.specs.ServeLent.{withCounts}
 use Rattle.queue.specs.Records.{valueIn}
@@ -80,5 +80,5 @@ module _ (q : Queue) (c : Counts) (m : List ℕ) where
   pub play-write : (s : ℕ) (o : Outcome) (left : List ℕ) → Writes q m (write (contentsOf q) m s) o left → Plays q c m (Write s) (withCounts o c) left
   play-write s o left w = writes-play q c m (Write s) (write (contentsOf q) m s) o left refl refl w
 
-  pub play-take : (p : ℕ) (o : Outcome) → Takes q (take (contentsOf q) p) o → Plays q c m (Take p) (withCounts o c) m
-  play-take p o w = takes-play q c m (Take p) (take (contentsOf q) p) o refl refl w
+  pub play-take : (p : ℕ) (o : Outcome) → Takes q (takeRule (contentsOf q) p) o → Plays q c m (Take p) (withCounts o c) m
+  play-take p o w = takes-play q c m (Take p) (takeRule (contentsOf q) p) o refl refl w

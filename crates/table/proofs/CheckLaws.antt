@@ -15,7 +15,7 @@ use Rattle.table.specs.declared.Group.{Group}
 use Rattle.table.specs.declared.Span.{Span}
 use Rattle.table.specs.declared.Table.{Table}
 use Rattle.table.specs.Refusal.{badGroupCount, badCounts}
-use Rattle.table.specs.Basics.{pick, held, count, within, check, orElse}
+use Rattle.table.specs.Basics.{pick, held, countWhere, within, check, firstFault}
 use Rattle.table.specs.Packed.{pairIn, groupIn}
 use Rattle.table.specs.Group.{GroupPairs, blankPair, listOf, Inside, pairsOf, beforeStore}
 use Rattle.table.specs.Table.{spanMeant, groupAt, meantIn, groupsOf, loadRule, storeRule, pairFault, pairsFault, seeing, countsRight, Seen, noneSeen, seenAfter, groupFault, groupsFault, tableFault}
@@ -79,22 +79,22 @@ group-inside groups i e =
 abbrev offsetAt : List Pair → ℕ → ℕ
 offsetAt l i = getD l i blankPair .offset
 
-pub count-most : {A : Type 0} (p : A → Bool) (l : List A) → count p l ≤ length l
+pub count-most : {A : Type 0} (p : A → Bool) (l : List A) → countWhere p l ≤ length l
 count-most p [] = omega arith
 count-most p (x ∷ xs) = go (p x) (count-most p xs)
   where
-    go : (t : Bool) → count p xs ≤ length xs → pick t (suc (count p xs)) (count p xs) ≤ suc (length xs)
+    go : (t : Bool) → countWhere p xs ≤ length xs → pick t (suc (countWhere p xs)) (countWhere p xs) ≤ suc (length xs)
     go true h = omega arith
     go false h = omega arith
 
-count-step : (j : ℕ) (p : Pair) (ps : List Pair) → count (beforeStore j) (p ∷ ps) ≤ suc (count (beforeStore j) ps)
+count-step : (j : ℕ) (p : Pair) (ps : List Pair) → countWhere (beforeStore j) (p ∷ ps) ≤ suc (countWhere (beforeStore j) ps)
 count-step j p ps = go (leb (p .offset) j)
   where
-    go : (t : Bool) → pick t (suc (count (beforeStore j) ps)) (count (beforeStore j) ps) ≤ suc (count (beforeStore j) ps)
+    go : (t : Bool) → pick t (suc (countWhere (beforeStore j) ps)) (countWhere (beforeStore j) ps) ≤ suc (countWhere (beforeStore j) ps)
     go true = omega arith
     go false = omega arith
 
-rising-none : (j low : ℕ) (l : List Pair) → Rising low l → j < low → count (beforeStore j) l ≡ 0
+rising-none : (j low : ℕ) (l : List Pair) → Rising low l → j < low → countWhere (beforeStore j) l ≡ 0
 rising-none j low [] r h = refl
 rising-none j low (p ∷ ps) r h = rw (lt-leb (p .offset) j (le-trans h (r .0))) (rising-none j (p .offset) ps (r .1) (le-trans h (r .0)))
 
@@ -103,12 +103,12 @@ rising-least low [] o r h = absurd (omega arith)
 rising-least low (p ∷ ps) zero r h = r .0
 rising-least low (p ∷ ps) (suc o) r h = le-trans (r .0) (rising-least (p .offset) ps o (r .1) (omega arith))
 
-pub count-below : (low : ℕ) (l : List Pair) (o j : ℕ) → Rising low l → o < length l → j < offsetAt l o → count (beforeStore j) l ≤ o
+pub count-below : (low : ℕ) (l : List Pair) (o j : ℕ) → Rising low l → o < length l → j < offsetAt l o → countWhere (beforeStore j) l ≤ o
 count-below low [] o j r h k = absurd (omega arith)
 count-below low (p ∷ ps) zero j r h k = rw (lt-leb (p .offset) j k, rising-none j (p .offset) ps (r .1) k) (omega arith)
 count-below low (p ∷ ps) (suc o) j r h k = omega (arith, count-step j p ps, count-below (p .offset) ps o j (r .1) (omega arith) k)
 
-pub count-above : (low : ℕ) (l : List Pair) (o j : ℕ) → Rising low l → o < length l → offsetAt l o ≤ j → o < count (beforeStore j) l
+pub count-above : (low : ℕ) (l : List Pair) (o j : ℕ) → Rising low l → o < length l → offsetAt l o ≤ j → o < countWhere (beforeStore j) l
 count-above low [] o j r h k = absurd (omega arith)
 count-above low (p ∷ ps) zero j r h k = rw (le-leb (p .offset) j k) (omega arith)
 count-above low (p ∷ ps) (suc o) j r h k =
@@ -140,14 +140,14 @@ module _ (places : List ℕ) (loads : Span) (n i : ℕ) (r : Rising 0 (listOf pl
   size : length listed ≡ loads .count
   size = view-length places loads
 
-  pub none-more : loads .count ≤ n → false ≡ ltb n (count (beforeStore i) (listOf places loads))
+  pub none-more : loads .count ≤ n → false ≡ ltb n (countWhere (beforeStore i) (listOf places loads))
   none-more h = sym (le-ltb n _ (omega (arith, size, count-most (beforeStore i) listed)))
 
-  pub more-at : n < loads .count → leb (pairIn (getD places (loads .first + n) 0) .offset) i ≡ ltb n (count (beforeStore i) (listOf places loads))
+  pub more-at : n < loads .count → leb (pairIn (getD places (loads .first + n) 0) .offset) i ≡ ltb n (countWhere (beforeStore i) (listOf places loads))
   more-at h =
       rw (← view-at places loads n h) (go (leb (offsetAt listed n) i) refl)
     where
-      go : (t : Bool) → leb (offsetAt listed n) i ≡ t → leb (offsetAt listed n) i ≡ ltb n (count (beforeStore i) listed)
+      go : (t : Bool) → leb (offsetAt listed n) i ≡ t → leb (offsetAt listed n) i ≡ ltb n (countWhere (beforeStore i) listed)
       go true e = rw (e, lt-ltb n _ (count-above 0 listed n i r (omega (arith, size)) (leb-true _ _ e)))
       go false e = rw (e, le-ltb n _ (count-below 0 listed n i r (omega (arith, size)) (leb-false _ _ e)))
 
@@ -170,10 +170,10 @@ fault-none right seen port e = go right (leb port 31) refl (getD seen port false
     go true false h m f = absurd (omega arith)
     go false t h m f = absurd (omega arith)
 
-or-else-none : (n m : ℕ) → n ≡ 0 → orElse n m ≡ m
+or-else-none : (n m : ℕ) → n ≡ 0 → firstFault n m ≡ m
 or-else-none n m e = rw e
 
-or-else-some : (n m : ℕ) → (n ≡ 0 → ⊥) → orElse n m ≡ n
+or-else-some : (n m : ℕ) → (n ≡ 0 → ⊥) → firstFault n m ≡ n
 or-else-some n m h = rw (ne-eqb n 0 h)
 
 -- the pairs before the ith have no fault, the last of them has the offset `low`, and `marks` are the ports seen after them
@@ -212,7 +212,7 @@ unfolding pairsFault
 rising-checked stores low i seen [] e = tt
 rising-checked stores low i seen (p ∷ ps) e = go (pairFault (loadRule stores low i (p .offset)) seen (p .port)) refl (λ d. rising-checked stores (p .offset) (suc i) (set seen (p .port) true) ps d) e
   where
-    go : (n : ℕ) → pairFault (loadRule stores low i (p .offset)) seen (p .port) ≡ n → (pairsFault (loadRule stores) (p .offset) (suc i) (set seen (p .port) true) ps ≡ 0 → Rising (p .offset) ps) → orElse n (pairsFault (loadRule stores) (p .offset) (suc i) (set seen (p .port) true) ps) ≡ 0 → (low ≤ p .offset) × Rising (p .offset) ps
+    go : (n : ℕ) → pairFault (loadRule stores low i (p .offset)) seen (p .port) ≡ n → (pairsFault (loadRule stores) (p .offset) (suc i) (set seen (p .port) true) ps ≡ 0 → Rising (p .offset) ps) → firstFault n (pairsFault (loadRule stores) (p .offset) (suc i) (set seen (p .port) true) ps) ≡ 0 → (low ≤ p .offset) × Rising (p .offset) ps
     go zero f rest d = (leb-true _ _ (and-left _ _ (fault-none _ seen (p .port) f .0)), rest d)
     go (suc n) f rest d = let q = or-else-some (suc n) (pairsFault (loadRule stores) (p .offset) (suc i) (set seen (p .port) true) ps) (λ z. omega arith) in absurd (omega arith)
 
@@ -298,5 +298,5 @@ module _ (t : Table) where
 
 -- a right offset is at most 16
 pub rule-small : (storing : Bool) (stores : ℕ) (places : List ℕ) (loads : Span) (low i offset : ℕ) → RuleRight storing stores places loads → ruleOf storing stores (listOf places loads) low i offset ≡ true → offset ≤ 16
-rule-small true stores places loads low i offset w e = omega (arith, eqb-true offset (count (beforeStore i) (listOf places loads)) e, count-most (beforeStore i) (listOf places loads), view-length places loads, w .few)
+rule-small true stores places loads low i offset w e = omega (arith, eqb-true offset (countWhere (beforeStore i) (listOf places loads)) e, count-most (beforeStore i) (listOf places loads), view-length places loads, w .few)
 rule-small false stores places loads low i offset w e = omega (arith, leb-true offset stores (and-right (leb low offset) _ e), w .few-stores)

@@ -11,12 +11,12 @@ use lib.ListN.{length, getD, set}
 use borrow.Author.Tests.{le-leb, lt-leb, leb-true, leb-false, eqb-true, ne-eqb}
 use Rattle.table.specs.declared.Pair.{Pair}
 use Rattle.table.specs.Refusal.{badGroupCount, badCounts}
-use Rattle.table.specs.Basics.{pick, count, takeWhile, dropWhile, within, check, orElse}
+use Rattle.table.specs.Basics.{pick, countWhere, frontWhile, afterWhile, within, check, firstFault}
 use Rattle.table.specs.ProgramOrder.{loadPairs, storePairs, OffsetsCountOrder}
 use Rattle.table.specs.Group.{GroupPairs, blankPair, Access, store, asLoad, beforeStore, orderFrom, order}
 use Rattle.table.specs.Table.{loadRule, storeRule, pairFault, pairsFault, countsRight, Seen, noneSeen, seenAfter, groupFault, groupsFault, tableFault}
 use Rattle.table.proofs.CheckLaws.{and-left, and-right, fault-none, counts-few, count-most}
-use Rattle.table.proofs.Order.{takeWhile-dropWhile}
+use Rattle.table.proofs.Order.{frontWhile-afterWhile}
 
 -- ---- loads
 
@@ -37,19 +37,19 @@ loads-first j (l ∷ ls) rest b =
     ap (λ (t : List Pair). record { offset = j; port = l .port } ∷ t) (loads-first j ls rest (lower (l .offset) j j ls (b .0) (b .2)))
     ∙ ap (λ (o : ℕ). record { offset = o; port = l .port } ∷ (ls ++ loadPairs j rest)) (sym e)
 
-between-while : (j low top : ℕ) (ls : List Pair) → j ≤ low → Between low top ls → Between j j (takeWhile (beforeStore j) ls)
+between-while : (j low top : ℕ) (ls : List Pair) → j ≤ low → Between low top ls → Between j j (frontWhile (beforeStore j) ls)
 between-while j low top [] h b = tt
 between-while j low top (p ∷ ps) h b = go (leb (p .offset) j) refl (between-while j (p .offset) top ps (le-trans h (b .0)) (b .2))
   where
-    go : (t : Bool) → leb (p .offset) j ≡ t → Between j j (takeWhile (beforeStore j) ps) → Between j j (pick t (p ∷ takeWhile (beforeStore j) ps) [])
-    go true e r = let k = leb-true (p .offset) j e in (le-trans h (b .0), k, lower j (p .offset) j (takeWhile (beforeStore j) ps) k r)
+    go : (t : Bool) → leb (p .offset) j ≡ t → Between j j (frontWhile (beforeStore j) ps) → Between j j (pick t (p ∷ frontWhile (beforeStore j) ps) [])
+    go true e r = let k = leb-true (p .offset) j e in (le-trans h (b .0), k, lower j (p .offset) j (frontWhile (beforeStore j) ps) k r)
     go false e r = tt
 
-between-rest : (j low top : ℕ) (ls : List Pair) → Between low top ls → Between (suc j) top (dropWhile (beforeStore j) ls)
+between-rest : (j low top : ℕ) (ls : List Pair) → Between low top ls → Between (suc j) top (afterWhile (beforeStore j) ls)
 between-rest j low top [] b = tt
 between-rest j low top (p ∷ ps) b = go (leb (p .offset) j) refl (between-rest j (p .offset) top ps (b .2))
   where
-    go : (t : Bool) → leb (p .offset) j ≡ t → Between (suc j) top (dropWhile (beforeStore j) ps) → Between (suc j) top (pick t (dropWhile (beforeStore j) ps) (p ∷ ps))
+    go : (t : Bool) → leb (p .offset) j ≡ t → Between (suc j) top (afterWhile (beforeStore j) ps) → Between (suc j) top (pick t (afterWhile (beforeStore j) ps) (p ∷ ps))
     go true e r = r
     go false e r = (leb-false (p .offset) j e, b .1, b .2)
 
@@ -60,41 +60,41 @@ loads-from j ls [] b =
 loads-from j ls (s ∷ ss) b =
     let e : j + suc (length ss) ≡ suc j + length ss = omega arith in
     let b′ : Between j (suc j + length ss) ls = rw e at b in
-    loads-first j (takeWhile (beforeStore j) ls) (store (s .port) ∷ orderFrom (suc j) (dropWhile (beforeStore j) ls) ss) (between-while j j (suc j + length ss) ls (omega arith) b′)
-    ∙ ap (λ (t : List Pair). takeWhile (beforeStore j) ls ++ t) (loads-from (suc j) (dropWhile (beforeStore j) ls) ss (between-rest j j (suc j + length ss) ls b′))
-    ∙ takeWhile-dropWhile (beforeStore j) ls
+    loads-first j (frontWhile (beforeStore j) ls) (store (s .port) ∷ orderFrom (suc j) (afterWhile (beforeStore j) ls) ss) (between-while j j (suc j + length ss) ls (omega arith) b′)
+    ∙ ap (λ (t : List Pair). frontWhile (beforeStore j) ls ++ t) (loads-from (suc j) (afterWhile (beforeStore j) ls) ss (between-rest j j (suc j + length ss) ls b′))
+    ∙ frontWhile-afterWhile (beforeStore j) ls
 
 -- ---- stores
 
 -- the offset of each store, from the jth on, counts the loads before it, where `passed` loads come before all of `ls`
 abbrev pub Agree : ℕ → ℕ → List Pair → List Pair → Type 0
 Agree passed j ls [] = Unit {0}
-Agree passed j ls (s ∷ ss) = (s .offset ≡ passed + count (beforeStore j) ls) × Agree passed (suc j) ls ss
+Agree passed j ls (s ∷ ss) = (s .offset ≡ passed + countWhere (beforeStore j) ls) × Agree passed (suc j) ls ss
 
 -- loads before store j are before each later one
-count-while : (j i : ℕ) (ls : List Pair) → j ≤ i → count (beforeStore i) ls ≡ length (takeWhile (beforeStore j) ls) + count (beforeStore i) (dropWhile (beforeStore j) ls)
+count-while : (j i : ℕ) (ls : List Pair) → j ≤ i → countWhere (beforeStore i) ls ≡ length (frontWhile (beforeStore j) ls) + countWhere (beforeStore i) (afterWhile (beforeStore j) ls)
 count-while j i [] h = refl
 count-while j i (p ∷ ps) h = go (leb (p .offset) j) refl (count-while j i ps h)
   where
-    go : (t : Bool) → leb (p .offset) j ≡ t → count (beforeStore i) ps ≡ length (takeWhile (beforeStore j) ps) + count (beforeStore i) (dropWhile (beforeStore j) ps)
-        → count (beforeStore i) (p ∷ ps) ≡ length (pick t (p ∷ takeWhile (beforeStore j) ps) []) + count (beforeStore i) (pick t (dropWhile (beforeStore j) ps) (p ∷ ps))
+    go : (t : Bool) → leb (p .offset) j ≡ t → countWhere (beforeStore i) ps ≡ length (frontWhile (beforeStore j) ps) + countWhere (beforeStore i) (afterWhile (beforeStore j) ps)
+        → countWhere (beforeStore i) (p ∷ ps) ≡ length (pick t (p ∷ frontWhile (beforeStore j) ps) []) + countWhere (beforeStore i) (pick t (afterWhile (beforeStore j) ps) (p ∷ ps))
     go true e r = rw (le-leb (p .offset) i (le-trans (leb-true (p .offset) j e) h), suc-add) (ap suc r)
-    go false e r = sym (zero-add (count (beforeStore i) (p ∷ ps)))
+    go false e r = sym (zero-add (countWhere (beforeStore i) (p ∷ ps)))
 
-none-before : (j low top : ℕ) (ls : List Pair) → j < low → Between low top ls → count (beforeStore j) ls ≡ 0
+none-before : (j low top : ℕ) (ls : List Pair) → j < low → Between low top ls → countWhere (beforeStore j) ls ≡ 0
 none-before j low top [] h b = refl
 none-before j low top (p ∷ ps) h b = rw (lt-leb (p .offset) j (le-trans h (b .0))) (none-before j (p .offset) top ps (le-trans h (b .0)) (b .2))
 
-count-here : (j low top : ℕ) (ls : List Pair) → Between low top ls → count (beforeStore j) ls ≡ length (takeWhile (beforeStore j) ls)
+count-here : (j low top : ℕ) (ls : List Pair) → Between low top ls → countWhere (beforeStore j) ls ≡ length (frontWhile (beforeStore j) ls)
 count-here j low top ls b =
     count-while j j ls (omega arith)
-    ∙ ap (λ (n : ℕ). length (takeWhile (beforeStore j) ls) + n) (none-before j (suc j) top (dropWhile (beforeStore j) ls) (omega arith) (between-rest j low top ls b))
-    ∙ add-zero (length (takeWhile (beforeStore j) ls))
+    ∙ ap (λ (n : ℕ). length (frontWhile (beforeStore j) ls) + n) (none-before j (suc j) top (afterWhile (beforeStore j) ls) (omega arith) (between-rest j low top ls b))
+    ∙ add-zero (length (frontWhile (beforeStore j) ls))
 
-agree-on : (passed j i : ℕ) (ls ss : List Pair) → j ≤ i → Agree passed i ls ss → Agree (passed + length (takeWhile (beforeStore j) ls)) i (dropWhile (beforeStore j) ls) ss
+agree-on : (passed j i : ℕ) (ls ss : List Pair) → j ≤ i → Agree passed i ls ss → Agree (passed + length (frontWhile (beforeStore j) ls)) i (afterWhile (beforeStore j) ls) ss
 agree-on passed j i ls [] h a = tt
 agree-on passed j i ls (s ∷ ss) h a =
-    (a .0 ∙ rw (count-while j i ls h) (sym (add-assoc passed (length (takeWhile (beforeStore j) ls)) (count (beforeStore i) (dropWhile (beforeStore j) ls)))), agree-on passed j (suc i) ls ss (omega arith) (a .1))
+    (a .0 ∙ rw (count-while j i ls h) (sym (add-assoc passed (length (frontWhile (beforeStore j) ls)) (countWhere (beforeStore i) (afterWhile (beforeStore j) ls)))), agree-on passed j (suc i) ls ss (omega arith) (a .1))
 
 no-stores-first : (k : ℕ) (ls : List Pair) (rest : List Access) → storePairs k (map asLoad ls ++ rest) ≡ storePairs (k + length ls) rest
 no-stores-first k [] rest = rw add-zero
@@ -103,19 +103,19 @@ no-stores-first k (l ∷ ls) rest = no-stores-first (suc k) ls rest ∙ rw (suc-
 stores-from : (k j low top : ℕ) (ls ss : List Pair) → Between low top ls → Agree k j ls ss → storePairs k (orderFrom j ls ss) ≡ ss
 stores-from k j low top ls [] b a = ap (storePairs k) (sym (append-nil (map asLoad ls))) ∙ no-stores-first k ls []
 stores-from k j low top ls (s ∷ ss) b a =
-    let n = length (takeWhile (beforeStore j) ls) in
+    let n = length (frontWhile (beforeStore j) ls) in
     let e : s .offset ≡ k + n = a .0 ∙ ap (λ (m : ℕ). k + m) (count-here j low top ls b) in
-    no-stores-first k (takeWhile (beforeStore j) ls) (store (s .port) ∷ orderFrom (suc j) (dropWhile (beforeStore j) ls) ss)
-    ∙ ap (λ (t : List Pair). record { offset = k + n; port = s .port } ∷ t) (stores-from (k + n) (suc j) (suc j) top (dropWhile (beforeStore j) ls) ss (between-rest j low top ls b) (agree-on k j (suc j) ls ss (omega arith) (a .1)))
+    no-stores-first k (frontWhile (beforeStore j) ls) (store (s .port) ∷ orderFrom (suc j) (afterWhile (beforeStore j) ls) ss)
+    ∙ ap (λ (t : List Pair). record { offset = k + n; port = s .port } ∷ t) (stores-from (k + n) (suc j) (suc j) top (afterWhile (beforeStore j) ls) ss (between-rest j low top ls b) (agree-on k j (suc j) ls ss (omega arith) (a .1)))
     ∙ ap (λ (o : ℕ). record { offset = o; port = s .port } ∷ ss) (sym e)
 
 -- ---- from the check
 
-or-else-left : (n m : ℕ) → orElse n m ≡ 0 → n ≡ 0
+or-else-left : (n m : ℕ) → firstFault n m ≡ 0 → n ≡ 0
 or-else-left zero m e = refl
 or-else-left (suc n) m e = rw (ne-eqb (suc n) 0 (λ z. omega arith)) at e
 
-or-else-right : (n m : ℕ) → orElse n m ≡ 0 → m ≡ 0
+or-else-right : (n m : ℕ) → firstFault n m ≡ 0 → m ≡ 0
 or-else-right zero m e = e
 or-else-right (suc n) m e =
     let z : suc n ≡ 0 = or-else-left (suc n) m e in
@@ -186,7 +186,7 @@ module _ (seen : Seen) (g : GroupPairs) (e : groupFault seen g ≡ 0) where
   unfolding groupFault
   few = counts-few _ _ (check-left (countsRight (length (g .loads)) (length (g .stores))) badCounts _ (λ z. omega arith) e)
 
-  pairs-fault : orElse (pairsFault (loadRule (length (g .stores))) 0 0 (seen .loads) (g .loads)) (pairsFault (storeRule (g .loads)) 0 0 (seen .stores) (g .stores)) ≡ 0
+  pairs-fault : firstFault (pairsFault (loadRule (length (g .stores))) 0 0 (seen .loads) (g .loads)) (pairsFault (storeRule (g .loads)) 0 0 (seen .stores) (g .stores)) ≡ 0
   unfolding groupFault
   pairs-fault = check-right (countsRight (length (g .loads)) (length (g .stores))) badCounts _ (λ z. omega arith) e
 

@@ -13,7 +13,7 @@ use lib.Seq.{take-at, drop-at, set-at, append-snoc, drop-append-add, drop-drop}
 use Rattle.table.specs.declared.Pair.{Pair}
 use Rattle.table.specs.declared.read.NewGroup.{NewGroup}
 use Rattle.table.specs.declared.Table.{Table}
-use Rattle.table.specs.Basics.{pick, held, count, flat, within, check}
+use Rattle.table.specs.Basics.{pick, held, countWhere, flat, within, check}
 use Rattle.table.specs.Refusal.{badGroupCount, badCounts}
 use Rattle.table.specs.Packed.{pairIn, packedPair, groupIn, packedGroup, SmallPair, SmallSpan}
 use Rattle.table.specs.Group.{GroupPairs, listOf, beforeStore}
@@ -37,7 +37,7 @@ group-fault seen g e =
 
 -- how many ports have been seen
 abbrev pub marked : List Bool → ℕ
-marked seen = count (λ (b : Bool). b) seen
+marked seen = countWhere (λ (b : Bool). b) seen
 
 marked-more : (seen : List Bool) (port : ℕ) → getD seen port false ≡ false → port < length seen → marked (set seen port true) ≡ suc (marked seen)
 marked-more [] port e h = absurd (omega arith)
@@ -140,7 +140,7 @@ groups-small seen (g ∷ gs) e =
     let (right, ls, ss) = group-fault seen g (f .0) in
     let few = counts-few (length (g .loads)) (length (g .stores)) right in (
       pairs-small (loadRule (length (g .stores))) 16 (omega arith) (λ low i offset r. omega (arith, leb-true offset (length (g .stores)) (and-right (leb low offset) _ r), few .1)) 0 0 (seen .loads) (g .loads) ls,
-      pairs-small (storeRule (g .loads)) 16 (omega arith) (λ low i offset r. omega (arith, eqb-true offset (count (beforeStore i) (g .loads)) r, count-most (beforeStore i) (g .loads), few .0)) 0 0 (seen .stores) (g .stores) ss,
+      pairs-small (storeRule (g .loads)) 16 (omega arith) (λ low i offset r. omega (arith, eqb-true offset (countWhere (beforeStore i) (g .loads)) r, count-most (beforeStore i) (g .loads), few .0)) 0 0 (seen .stores) (g .stores) ss,
       groups-small (seenAfter g seen) gs (f .1),
     )
 

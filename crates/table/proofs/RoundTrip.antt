@@ -13,7 +13,7 @@ use Rattle.table.specs.declared.Event.{Event}
 use Rattle.table.specs.declared.Event.the-variants.{Activate, LoadAddress, StoreAddress, StoreData, Serve, Write, Take}
 use Rattle.table.specs.declared.EventRead.the-variants.{Found}
 use Rattle.table.specs.declared.HeaderRead.the-variants.{Leading}
-use Rattle.table.specs.Basics.{pick, count, flat, within}
+use Rattle.table.specs.Basics.{pick, countWhere, flat, within}
 use Rattle.table.specs.Refusal.{badFields, badGroupCount, badCounts, leftOver, badKind}
 use Rattle.table.specs.Number.{Got, got, bad, andThen, require, readNumber, placeOf, numberBytes, bytesOf}
 use Rattle.table.specs.Group.{GroupPairs, beforeStore}
@@ -323,7 +323,7 @@ fit-group seen g {ns} e w =
     load-small low offset f h = omega (arith, leb-true offset (length (g .stores)) (and-right (leb low offset) _ f))
 
     store-small : (i offset : ℕ) → storeRule (g .loads) 0 i offset ≡ true → length (g .loads) ≤ 16 → offset ≤ 16
-    store-small i offset f h = omega (arith, eqb-true offset (count (beforeStore i) (g .loads)) f, count-most (beforeStore i) (g .loads))
+    store-small i offset f h = omega (arith, eqb-true offset (countWhere (beforeStore i) (g .loads)) f, count-most (beforeStore i) (g .loads))
 
 fit-groups : (seen : Seen) (gs : List GroupPairs) → groupsFault seen gs ≡ 0 → Fit (flat groupNumbers gs)
 unfolding groupsFault

@@ -7,7 +7,7 @@ use native.Mathlib.Omega.{arith}
 use lib.Dec.{leb, ltb}
 use lib.ListN.{length, length-append}
 use borrow.Author.Tests.{le-ltb, le-leb, ltb-true, ltb-false}
-use Rattle.table.specs.Basics.{pick, all}
+use Rattle.table.specs.Basics.{pick, allOf}
 use Rattle.table.specs.Refusal.{tooLarge}
 use Rattle.table.specs.Number.{Got, got, bad, above, numberUpTo, bytesUpTo, numberBytes, spells, isEmpty, valueOf}
 use Rattle.table.specs.RoundTrip.{isByte, NumbersAreSpelled, OnlySpelledNumbers, NumbersReadBack, NumberLength, FewestBytes}
@@ -84,7 +84,7 @@ written-up-to (suc more) n h = go (ltb n 128) refl (written-up-to more (n / 128)
         (rw m (ih .0), value-more (128 + n % 128) more 15 (bytesUpTo more (n / 128)) (ih .0) ∙ rw (ih .1) (omega arith))
 
 -- no bytes that spell a number are fewer than the writer's
-fewest-up-to : (more : ℕ) (bytes : List ℕ) → all isByte bytes ≡ true → spells more 15 bytes ≡ true → length (bytesUpTo more (valueOf bytes)) ≤ length bytes
+fewest-up-to : (more : ℕ) (bytes : List ℕ) → allOf isByte bytes ≡ true → spells more 15 bytes ≡ true → length (bytesUpTo more (valueOf bytes)) ≤ length bytes
 unfolding bytesUpTo spells
 fewest-up-to more [] h e = no e
 fewest-up-to zero (b ∷ bs) h e = omega arith
@@ -102,12 +102,12 @@ fewest-up-to (suc more) (b ∷ bs) h e = go (ltb b 128) refl bs (and-right (isBy
         over true = omega arith
         over false = omega arith
 
-    go : (t : Bool) → ltb b 128 ≡ t → (l : List ℕ) → all isByte l ≡ true → pick t (isEmpty l) (spells more 15 l) ≡ true → (all isByte l ≡ true → spells more 15 l ≡ true → length (bytesUpTo more (valueOf l)) ≤ length l) → length (bytesUpTo (suc more) (valueOf (b ∷ l))) ≤ suc (length l)
+    go : (t : Bool) → ltb b 128 ≡ t → (l : List ℕ) → allOf isByte l ≡ true → pick t (isEmpty l) (spells more 15 l) ≡ true → (allOf isByte l ≡ true → spells more 15 l ≡ true → length (bytesUpTo more (valueOf l)) ≤ length l) → length (bytesUpTo (suc more) (valueOf (b ∷ l))) ≤ suc (length l)
     go true k [] f g ih = rw k (omega arith)
     go true k (c ∷ cs) f g ih = no g
     go false k l f g ih = rw (value-more b more 15 l g) (carry l (valueOf l) k (ih f g))
 
-all-front : {A : Type 0} (p : A → Bool) (xs ys : List A) → all p (xs ++ ys) ≡ true → all p xs ≡ true
+all-front : {A : Type 0} (p : A → Bool) (xs ys : List A) → allOf p (xs ++ ys) ≡ true → allOf p xs ≡ true
 all-front p [] ys e = refl
 all-front p (x ∷ xs) ys e = rw (and-left (p x) _ e, all-front p xs ys (and-right (p x) _ e))
 
@@ -128,6 +128,6 @@ fewest-bytes s rest n b e = go (only-up-to 4 15 s n rest e)
   where
     go : Spelling 4 15 s n rest → length (numberBytes n) + length rest ≤ length s
     go w =
-        let a : all isByte (w .bytes) ≡ true = all-front isByte (w .bytes) rest (rw (w .whole) at b) in
+        let a : allOf isByte (w .bytes) ≡ true = all-front isByte (w .bytes) rest (rw (w .whole) at b) in
         let f = rw (w .value) at (fewest-up-to 4 (w .bytes) a (w .spell)) in
         rw (w .whole, length-append) (omega arith)

@@ -10,7 +10,7 @@ use lib.ListN.{length, getD, take, drop, length-append, take-append-drop}
 use lib.Seq.{take-suc, take-all}
 use Rattle.table.specs.declared.Pair.{Pair}
 use Rattle.table.specs.declared.Group.{Group}
-use Rattle.table.specs.Basics.{flat, check, orElse, splice}
+use Rattle.table.specs.Basics.{flat, check, firstFault, splice}
 use Rattle.table.specs.Group.{GroupPairs, listOf, pairsOf}
 use Rattle.table.specs.TableBytes.{pairNumbers, groupNumbers, tableNumbers}
 use Rattle.table.specs.Number.{numberBytes, bytesOf}
@@ -52,7 +52,7 @@ pub group-length : (g : GroupPairs) → length (bytesOf (groupNumbers g)) ≡ le
 group-length g = rw (length-append, length-append, bytes-append (flat pairNumbers (g .loads)) (flat pairNumbers (g .stores)), length-append) (omega arith)
 
 -- ---- parts of a check with no fault
-pub or-else-both : (n m : ℕ) → orElse n m ≡ 0 → (n ≡ 0) × (m ≡ 0)
+pub or-else-both : (n m : ℕ) → firstFault n m ≡ 0 → (n ≡ 0) × (m ≡ 0)
 or-else-both zero m e = (refl, e)
 or-else-both (suc n) m e = let q = ne-eqb (suc n) 0 (λ z. omega arith) in let d : suc n ≡ 0 = rw q at e in absurd (omega arith)
 

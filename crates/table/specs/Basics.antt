@@ -1,8 +1,7 @@
 -- Words that the definitions are written with. Every one of them computes on closed arguments.
-use Prim.Native.Nat.{ℕ, zero, suc, _+_, _-_}
+use Prim.Native.Nat.{ℕ, suc, _+_, _-_}
 use mathlib.Core.Bool.{Bool, true, false, _&&_, _||_}
 use mathlib.Core.List.{List, [], _∷_, _++_}
-use mathlib.Core.Option.{Option, none, some}
 use lib.Dec.{eqb, leb}
 use lib.ListN.{length, take, drop, replicate}
 
@@ -12,43 +11,37 @@ pick true a b = a
 pick false a b = b
 
 -- does some element pass; does every element pass
-abbrev pub any : {A : Type 0} → (A → Bool) → List A → Bool
-any p [] = false
-any p (x ∷ xs) = p x || any p xs
+abbrev pub anyOf : {A : Type 0} → (A → Bool) → List A → Bool
+anyOf p [] = false
+anyOf p (x ∷ xs) = p x || anyOf p xs
 
-abbrev pub all : {A : Type 0} → (A → Bool) → List A → Bool
-all p [] = true
-all p (x ∷ xs) = p x && all p xs
+abbrev pub allOf : {A : Type 0} → (A → Bool) → List A → Bool
+allOf p [] = true
+allOf p (x ∷ xs) = p x && allOf p xs
 
 -- how many elements pass
-abbrev pub count : {A : Type 0} → (A → Bool) → List A → ℕ
-count p [] = 0
-count p (x ∷ xs) = pick (p x) (suc (count p xs)) (count p xs)
+abbrev pub countWhere : {A : Type 0} → (A → Bool) → List A → ℕ
+countWhere p [] = 0
+countWhere p (x ∷ xs) = pick (p x) (suc (countWhere p xs)) (countWhere p xs)
 
 -- the elements that pass, in order
-abbrev pub filter : {A : Type 0} → (A → Bool) → List A → List A
-filter p [] = []
-filter p (x ∷ xs) = pick (p x) (x ∷ filter p xs) (filter p xs)
+abbrev pub keepWhere : {A : Type 0} → (A → Bool) → List A → List A
+keepWhere p [] = []
+keepWhere p (x ∷ xs) = pick (p x) (x ∷ keepWhere p xs) (keepWhere p xs)
 
 -- the elements at the front that pass; the list from the first that does not
-abbrev pub takeWhile : {A : Type 0} → (A → Bool) → List A → List A
-takeWhile p [] = []
-takeWhile p (x ∷ xs) = pick (p x) (x ∷ takeWhile p xs) []
+abbrev pub frontWhile : {A : Type 0} → (A → Bool) → List A → List A
+frontWhile p [] = []
+frontWhile p (x ∷ xs) = pick (p x) (x ∷ frontWhile p xs) []
 
-abbrev pub dropWhile : {A : Type 0} → (A → Bool) → List A → List A
-dropWhile p [] = []
-dropWhile p (x ∷ xs) = pick (p x) (dropWhile p xs) (x ∷ xs)
+abbrev pub afterWhile : {A : Type 0} → (A → Bool) → List A → List A
+afterWhile p [] = []
+afterWhile p (x ∷ xs) = pick (p x) (afterWhile p xs) (x ∷ xs)
 
 -- what f gives of each element, one after the other
 abbrev pub flat : {A B : Type 0} → (A → List B) → List A → List B
 flat f [] = []
 flat f (x ∷ xs) = f x ++ flat f xs
-
--- the element at a place, or none past the end
-abbrev pub nth : {A : Type 0} → List A → ℕ → Option A
-nth [] n = none
-nth (x ∷ xs) zero = some x
-nth (x ∷ xs) (suc n) = nth xs n
 
 -- is the number from lo to hi
 abbrev pub within : ℕ → ℕ → ℕ → Bool
@@ -64,8 +57,8 @@ abbrev pub check : Bool → ℕ → ℕ → ℕ
 check test number rest = pick test rest number
 
 -- the first refusal of two: the second only where the first is 0
-abbrev pub orElse : ℕ → ℕ → ℕ
-orElse n rest = pick (eqb n 0) rest n
+abbrev pub firstFault : ℕ → ℕ → ℕ
+firstFault n rest = pick (eqb n 0) rest n
 
 -- a buffer with the bytes at a place
 abbrev pub splice : List ℕ → ℕ → List ℕ → List ℕ

@@ -8,7 +8,7 @@ use Rattle.table.specs.declared.Pair.{Pair}
 use Rattle.table.specs.declared.Span.{Span}
 use Rattle.table.specs.declared.Group.{Group}
 use Rattle.table.specs.Packed.{pairIn}
-use Rattle.table.specs.Basics.{held, takeWhile, dropWhile}
+use Rattle.table.specs.Basics.{held, frontWhile, afterWhile}
 
 -- A group as it is meant: its loads and its stores.
 pub record GroupPairs : Type 0 where
@@ -48,7 +48,7 @@ asLoad p = load (p .port)
 -- The accesses from store j on, where `loads` are the loads that no earlier store has passed.
 abbrev pub orderFrom : ℕ → List Pair → List Pair → List Access
 orderFrom j loads [] = map asLoad loads
-orderFrom j loads (s ∷ ss) = map asLoad (takeWhile (beforeStore j) loads) ++ store (s .port) ∷ orderFrom (suc j) (dropWhile (beforeStore j) loads) ss
+orderFrom j loads (s ∷ ss) = map asLoad (frontWhile (beforeStore j) loads) ++ store (s .port) ∷ orderFrom (suc j) (afterWhile (beforeStore j) loads) ss
 
 -- The program order of a group's accesses: "the load offsets fix the order".
 abbrev pub order : GroupPairs → List Access

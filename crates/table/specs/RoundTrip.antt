@@ -11,7 +11,7 @@ use Rattle.table.specs.declared.Event.{Event}
 use Rattle.table.specs.declared.Header.{Header}
 use Rattle.table.specs.declared.EventRead.the-variants.{Found, End}
 use Rattle.table.specs.declared.HeaderRead.the-variants.{Leading}
-use Rattle.table.specs.Basics.{all}
+use Rattle.table.specs.Basics.{allOf}
 use Rattle.table.specs.Number.{got, readNumber, numberBytes, byteCount, significantBits, spells, valueOf}
 use Rattle.table.specs.Group.{GroupPairs}
 use Rattle.table.specs.Table.{groupsOf, tableFault}
@@ -46,7 +46,7 @@ abbrev pub NumberLength : Type 0
 NumberLength = (n : ℕ) → n < 2 ^ 32 → length (numberBytes n) ≡ byteCount (significantBits n)
 
 abbrev pub FewestBytes : Type 0
-FewestBytes = (s rest : List ℕ) (n : ℕ) → all isByte s ≡ true → readNumber s ≡ got n rest → length (numberBytes n) + length rest ≤ length s
+FewestBytes = (s rest : List ℕ) (n : ℕ) → allOf isByte s ≡ true → readNumber s ≡ got n rest → length (numberBytes n) + length rest ≤ length s
 
 -- Reading a table accepts just the bytes that spell the numbers of a right table, and gives that table.
 abbrev pub TablesAreSpelled : Type 0

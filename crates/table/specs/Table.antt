@@ -9,7 +9,7 @@ use Rattle.table.specs.declared.Pair.{Pair}
 use Rattle.table.specs.declared.Group.{Group}
 use Rattle.table.specs.declared.Span.{Span}
 use Rattle.table.specs.declared.Table.{Table}
-use Rattle.table.specs.Basics.{pick, held, count, within, check, orElse}
+use Rattle.table.specs.Basics.{pick, held, countWhere, within, check, firstFault}
 use Rattle.table.specs.Refusal.{badGroupCount, badCounts, badOffset, badPort, portSeen}
 use Rattle.table.specs.Packed.{groupIn}
 use Rattle.table.specs.Group.{GroupPairs, pairsOf, beforeStore}
@@ -44,7 +44,7 @@ loadRule stores low i offset = leb low offset && leb offset stores
 
 -- "Each store's offset must agree": it counts the loads before the store.
 abbrev pub storeRule : List Pair → ℕ → ℕ → ℕ → Bool
-storeRule loads low i offset = eqb offset (count (beforeStore i) loads)
+storeRule loads low i offset = eqb offset (countWhere (beforeStore i) loads)
 
 -- Ports that have been seen: a mark for each port from 0 to 31.
 abbrev pub noPorts : List Bool
@@ -57,7 +57,7 @@ pairFault offsetRight seen port = check offsetRight badOffset (check (leb port 3
 -- The first fault of a group's pairs of one kind, from the ith on, or 0.
 unfoldable pub pairsFault : (ℕ → ℕ → ℕ → Bool) → ℕ → ℕ → List Bool → List Pair → ℕ
 pairsFault rule low i seen [] = 0
-pairsFault rule low i seen (p ∷ ps) = orElse (pairFault (rule low i (p .offset)) seen (p .port)) (pairsFault rule (p .offset) (suc i) (set seen (p .port) true) ps)
+pairsFault rule low i seen (p ∷ ps) = firstFault (pairFault (rule low i (p .offset)) seen (p .port)) (pairsFault rule (p .offset) (suc i) (set seen (p .port) true) ps)
 
 -- the marks after these pairs
 unfoldable pub seeing : List Pair → List Bool → List Bool
@@ -83,13 +83,13 @@ seenAfter g seen = record { loads = seeing (g .loads) (seen .loads); stores = se
 unfoldable pub groupFault : Seen → GroupPairs → ℕ
 groupFault seen g =
     check (countsRight (length (g .loads)) (length (g .stores))) badCounts
-    (orElse (pairsFault (loadRule (length (g .stores))) 0 0 (seen .loads) (g .loads))
+    (firstFault (pairsFault (loadRule (length (g .stores))) 0 0 (seen .loads) (g .loads))
     (pairsFault (storeRule (g .loads)) 0 0 (seen .stores) (g .stores)))
 
 -- The first fault of groups, one after the other: "a port stands once in a table".
 unfoldable pub groupsFault : Seen → List GroupPairs → ℕ
 groupsFault seen [] = 0
-groupsFault seen (g ∷ gs) = orElse (groupFault seen g) (groupsFault (seenAfter g seen) gs)
+groupsFault seen (g ∷ gs) = firstFault (groupFault seen g) (groupsFault (seenAfter g seen) gs)
 
 -- The first of 4, 5, 8, 6, 7 that a table meets, or 0: the table is right.
 unfoldable pub tableFault : List GroupPairs → ℕ

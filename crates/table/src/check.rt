@@ -1,7 +1,7 @@
 // When a table is right: 4, 5, 8, 6, 7 in the order of checking.
 ghost use mathlib.Core.Path.{_≡_};
 ghost use lib.Dec.{ltb};
-ghost use Rattle.table.specs.Basics.{count};
+ghost use Rattle.table.specs.Basics.{countWhere};
 ghost use Rattle.table.specs.Group.{listOf, pairsOf, beforeStore, Inside};
 ghost use Rattle.table.specs.Table.{countsRight, pairFault, tableFault, groupsIn, groupsOf};
 ghost use Rattle.table.specs.Internal.{ruleOf, Rising, RuleRight, PairsChecked, seenIn, GroupChecked, GroupInside};
@@ -19,7 +19,7 @@ use crate::refusal::PORT_SEEN;
 // Do more than n loads come before store i? Their offsets never fall, so it is enough to look at load n.
 fn more_before(places: &[u16; 32], loads: Span, n: u32, i: u32) -> bool
     requires { ⌜ Inside loads × Rising 0 (listOf (now places) loads) ⌝ }
-    ensures { λ r. ⌜ r ≡ ltb n (count (beforeStore i) (listOf (now (places .entry)) loads)) ⌝ }
+    ensures { λ r. ⌜ r ≡ ltb n (countWhere (beforeStore i) (listOf (now (places .entry)) loads)) ⌝ }
 {
     if loads.count as u32 <= n {
         return false;

@@ -6,9 +6,9 @@ use mathlib.Core.Bool.{Bool, true, false}
 use mathlib.Core.List.{List, [], _∷_, _++_, map, map-append, append-nil}
 use mathlib.Core.Option.{none, some}
 use lib.Dec.{leb, eqb}
-use lib.ListN.{length, length-append, length-map}
+use lib.ListN.{length, length-append, length-map, getElem?}
 use borrow.Author.Tests.{leb-true}
-use Rattle.table.specs.Basics.{all, count, nth}
+use Rattle.table.specs.Basics.{allOf, countWhere}
 use Rattle.table.specs.Group.{portOf, GroupPairs, Access, load, store, order}
 use Rattle.table.proofs.Order.{loadPorts, storePorts, order-loads, order-stores}
 use Rattle.queue.specs.Ruled.{accept}
@@ -50,21 +50,21 @@ length-newStores n (load p ∷ new) = length-newStores (suc n) new
 length-newStores n (store p ∷ new) = ap suc (length-newStores n new)
 
 -- new entries are right, have nothing, and are of their accesses
-fresh-loads-right : (words : ℕ) (new : List Access) → all (rightLoad words) (ownIn loads (map fresh new)) ≡ true
+fresh-loads-right : (words : ℕ) (new : List Access) → allOf (rightLoad words) (ownIn loads (map fresh new)) ≡ true
 fresh-loads-right words [] = refl
 fresh-loads-right words (load p ∷ new) = fresh-loads-right words new
 fresh-loads-right words (store p ∷ new) = fresh-loads-right words new
 
-fresh-stores-right : (words : ℕ) (new : List Access) → all (rightStore words) (ownIn stores (map fresh new)) ≡ true
+fresh-stores-right : (words : ℕ) (new : List Access) → allOf (rightStore words) (ownIn stores (map fresh new)) ≡ true
 fresh-stores-right words [] = refl
 fresh-stores-right words (load p ∷ new) = fresh-stores-right words new
 fresh-stores-right words (store p ∷ new) = fresh-stores-right words new
 
-fresh-all : (p : Entry → Bool) → ((a : Access) → p (fresh a) ≡ true) → (new : List Access) → all p (map fresh new) ≡ true
+fresh-all : (p : Entry → Bool) → ((a : Access) → p (fresh a) ≡ true) → (new : List Access) → allOf p (map fresh new) ≡ true
 fresh-all p h [] = refl
 fresh-all p h (a ∷ new) = rw (h a) (fresh-all p h new)
 
-fresh-none : (p : Entry → Bool) → ((a : Access) → p (fresh a) ≡ false) → (new : List Access) → count p (map fresh new) ≡ 0
+fresh-none : (p : Entry → Bool) → ((a : Access) → p (fresh a) ≡ false) → (new : List Access) → countWhere p (map fresh new) ≡ 0
 fresh-none p h [] = refl
 fresh-none p h (a ∷ new) = rw (h a) (fresh-none p h new)
 
@@ -91,7 +91,7 @@ fresh-value port (store p) = refl
 
 module _ (groups : List GroupPairs) (memory : List ℕ) (answered : List Answered) (q : Contents) (m : List ℕ) (log : List Entry)
     (table : q .groups ≡ groups) (h : Holds q m memory log) (seen : Seen groups answered log) (group : ℕ) (g : GroupPairs)
-    (is : nth (q .groups) group ≡ some g) (fits : room q g ≡ true) where
+    (is : getElem? (q .groups) group ≡ some g) (fits : room q g ≡ true) where
   holds-group : Holds (withGroup q g) m memory (log ++ map fresh (order g))
   holds-group = record {
     limits = h .limits;
@@ -147,7 +147,7 @@ pub activate-keeps : (groups : List GroupPairs) (memory : List ℕ) (answered : 
 unfolding activate
 activate-keeps groups memory answered m st group q′ h₀ =
     let (t₁, h₁) = need-accepts (sound q) _ _ h₀ in
-    let (g, is, h₂) = have-accepts (nth (q .groups) group) _ _ h₁ in
+    let (g, is, h₂) = have-accepts (getElem? (q .groups) group) _ _ h₁ in
     let (fits, h₃) = need-accepts (room q g) _ _ h₂ in
     let result : withGroup q g ≡ q′ = cc in
     subst Goal result (record {

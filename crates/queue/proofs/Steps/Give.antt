@@ -8,7 +8,8 @@ use mathlib.Core.List.{List, [], _∷_, _++_}
 use mathlib.Core.Option.{Option, none, some}
 use lib.Dec.{eqb, ltb}
 use borrow.Author.Tests.{eqb-true}
-use Rattle.table.specs.Basics.{pick, any, all, count, nth}
+use lib.ListN.{getElem?}
+use Rattle.table.specs.Basics.{pick, anyOf, allOf, countWhere}
 use Rattle.table.specs.Group.{GroupPairs}
 use Rattle.queue.specs.Ruled.{accept, isSome}
 use Rattle.queue.specs.Contents.{Load, Store, Contents, withLoads, withStores, updateAt, firstPlace}
@@ -36,18 +37,18 @@ record Waiting {A B : Type 0} (K : Kind A) (K′ : Kind B) (S : Slot K) (log : L
   place : Located K K′ log held held′ (firstPlace (lacks S p) held) pre it post
   samePort : eqb (S .port it) p ≡ true
   empty : S .has it ≡ none
-  earlier : all (λ a. not (lacks S p a)) (ownIn K pre) ≡ true
+  earlier : allOf (λ a. not (lacks S p a)) (ownIn K pre) ≡ true
 
 module _ {A B : Type 0} (K : Kind A) (K′ : Kind B) (opposite : Opposite K K′) (S : Slot K) where
   lacks-blind : (p n : ℕ) (a : A) → lacks S p (K .remember n a) ≡ lacks S p a
   lacks-blind p n a = rw (S .portBlind n a, S .hasBlind n a)
 
   waiting : {log : List Entry} {held : List A} {held′ : List B} → Windows K K′ log held held′ → (right : A → Bool)
-      → ((a : A) → right a ≡ true → K .finished a ≡ true → isSome (S .has a) ≡ true) → all right (ownIn K log) ≡ true
-      → (p : ℕ) → any (lacks S p) held ≡ true → Waiting K K′ S log held held′ p
+      → ((a : A) → right a ≡ true → K .finished a ≡ true → isSome (S .has a) ≡ true) → allOf right (ownIn K log) ≡ true
+      → (p : ℕ) → anyOf (lacks S p) held ≡ true → Waiting K K′ S log held held′ p
   waiting {log} {held} {held′} w right has-it rights p h = found (any-first (lacks S p) held h)
     where
-      at : (x : A) → nth held (firstPlace (lacks S p) held) ≡ some x
+      at : (x : A) → getElem? held (firstPlace (lacks S p) held) ≡ some x
           → (pre : List Entry) × (it : A) × (post : List Entry) × Located K K′ log held held′ (firstPlace (lacks S p) held) pre it post → Waiting K K′ S log held held′ p
       at x e (pre, it, post, l) = record {
         pre = pre;
@@ -71,12 +72,12 @@ module _ {A B : Type 0} (K : Kind A) (K′ : Kind B) (opposite : Opposite K K′
               go true = refl
               go false = refl
 
-      found : (x : A) × (nth held (firstPlace (lacks S p) held) ≡ some x) → Waiting K K′ S log held held′ p
+      found : (x : A) × (getElem? held (firstPlace (lacks S p) held) ≡ some x) → Waiting K K′ S log held held′ p
       found (x, e) = at x e (locate K K′ opposite w (firstPlace (lacks S p) held) e)
 
   -- the answers' part
   module _ (groups : List GroupPairs) (answered : List Answered) (pre : List Entry) (it : A) (post : List Entry) (p x : ℕ)
-      (same : eqb (S .port it) p ≡ true) (empty : S .has it ≡ none) (earlier : all (λ a. not (lacks S p a)) (ownIn K pre) ≡ true)
+      (same : eqb (S .port it) p ≡ true) (empty : S .has it ≡ none) (earlier : allOf (λ a. not (lacks S p a)) (ownIn K pre) ≡ true)
       (seen : Seen groups answered (pre ++ K .put it ∷ post)) where
     own-row : (port : ℕ) → Row (given (S .kind) port) (pre ++ K .put (S .fill x it) ∷ post) (rowsOf (told answered) (S .kind) port ++ pick (eqb p port) (x ∷ []) [])
     own-row =
@@ -110,8 +111,8 @@ module _ {A B : Type 0} (K : Kind A) (K′ : Kind B) (opposite : Opposite K K′
         seen-anew groups answered (record { call = Give (S .kind) p x; number = 0; value = none }) pre (K .put it) (K .put (S .fill x it)) post seen (S .accessSame x it) refl
         row
         (λ port. row-kept (valueTaken port) (K .put it) (K .put (S .fill x it)) (S .valueSame port x it) post pre (takenAt port answered) (seen .takes port))
-        (rw (S .servedSame x it) (sym (add-zero (count served (K .put it ∷ [])))))
-        (rw (S .writtenSame x it) (sym (add-zero (count written (K .put it ∷ [])))))
+        (rw (S .servedSame x it) (sym (add-zero (countWhere served (K .put it ∷ [])))))
+        (rw (S .writtenSame x it) (sym (add-zero (countWhere written (K .put it ∷ [])))))
 
 -- ---- the queue's part, by kind
 
@@ -197,17 +198,17 @@ module _ (groups : List GroupPairs) (memory : List ℕ) (answered : List Answere
   unfolding loadAddress storeAddress storeData loadAddresses storeAddresses storeWords Joined
   given-keeps LoadAddress q′ h₀ =
       let (t₁, h₁) = need-accepts (sound q) _ _ h₀ in
-      let (t₂, h₂) = need-accepts (any (isLoadPort p) (q .groups)) _ _ h₁ in
+      let (t₂, h₂) = need-accepts (anyOf (isLoadPort p) (q .groups)) _ _ h₁ in
       let (t₃, h₃) = need-accepts (ltb x (q .memoryLength)) _ _ h₂ in
-      let (t₄, h₄) = need-accepts (any (loadLacksAddress p) (q .loads)) _ _ h₃ in
+      let (t₄, h₄) = need-accepts (anyOf (loadLacksAddress p) (q .loads)) _ _ h₃ in
       let is : withLoads q (updateAt (loadWithAddress x) (firstPlace (loadLacksAddress p) (q .loads)) (q .loads)) ≡ q′ = cc in
       subst (Joined LoadAddress) is
       (load-given t₃ (waiting loads stores loads-stores loadAddresses (h .windows) (rightLoad (q .memoryLength)) load-has (h .rightLoads) p t₄))
   given-keeps StoreAddress q′ h₀ =
       let (t₁, h₁) = need-accepts (sound q) _ _ h₀ in
-      let (t₂, h₂) = need-accepts (any (isStorePort p) (q .groups)) _ _ h₁ in
+      let (t₂, h₂) = need-accepts (anyOf (isStorePort p) (q .groups)) _ _ h₁ in
       let (t₃, h₃) = need-accepts (ltb x (q .memoryLength)) _ _ h₂ in
-      let (t₄, h₄) = need-accepts (any (storeLacksAddress p) (q .stores)) _ _ h₃ in
+      let (t₄, h₄) = need-accepts (anyOf (storeLacksAddress p) (q .stores)) _ _ h₃ in
       let is : withStores q (updateAt (storeWithAddress x) (firstPlace (storeLacksAddress p) (q .stores)) (q .stores)) ≡ q′ = cc in
       subst (Joined StoreAddress) is
       (store-given storeAddresses
@@ -215,8 +216,8 @@ module _ (groups : List GroupPairs) (memory : List ℕ) (answered : List Answere
       (λ n s. refl) (λ s r. right-store-addressed (q .memoryLength) x s t₃ r) (agree-store-addressed x))
   given-keeps StoreData q′ h₀ =
       let (t₁, h₁) = need-accepts (sound q) _ _ h₀ in
-      let (t₂, h₂) = need-accepts (any (isStorePort p) (q .groups)) _ _ h₁ in
-      let (t₄, h₄) = need-accepts (any (storeLacksWord p) (q .stores)) _ _ h₂ in
+      let (t₂, h₂) = need-accepts (anyOf (isStorePort p) (q .groups)) _ _ h₁ in
+      let (t₄, h₄) = need-accepts (anyOf (storeLacksWord p) (q .stores)) _ _ h₂ in
       let is : withStores q (updateAt (storeWithWord x) (firstPlace (storeLacksWord p) (q .stores)) (q .stores)) ≡ q′ = cc in
       subst (Joined StoreData) is
       (store-given storeWords

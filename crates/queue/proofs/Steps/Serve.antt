@@ -5,9 +5,9 @@ use mathlib.Core.Bool.{Bool, true, false, not}
 use mathlib.Core.List.{List, [], _∷_, _++_, map}
 use mathlib.Core.Option.{Option, none, some}
 use lib.Dec.{eqb}
-use lib.ListN.{length, take, getD}
+use lib.ListN.{length, take, getD, getElem?}
 use borrow.Author.Tests.{ltb-true}
-use Rattle.table.specs.Basics.{pick, all, nth}
+use Rattle.table.specs.Basics.{pick, allOf}
 use Rattle.table.specs.Group.{GroupPairs}
 use Rattle.queue.specs.Ruled.{accept, have, isSome}
 use Rattle.queue.specs.Contents.{Load, Store, Contents, withLoads, updateAt, loadPlace}
@@ -32,21 +32,21 @@ record Serving (q : Contents) (m : List ℕ) (i : ℕ) (r : Served) (l : Load) :
   unserved : not (isSome (l .value)) ≡ true
   address : ℕ
   addressed : l .address ≡ some address
-  earlier : all hasAddress (take (l .before) (q .stores)) ≡ true
+  earlier : allOf hasAddress (take (l .before) (q .stores)) ≡ true
   source : Source
   supplied : sourceOf m address (nearest address none (take (l .before) (q .stores))) ≡ accept source
   result : r ≡ record { value = source .value; forwarded = source .forwarded; queue = withLoads q (updateAt (loadWithValue (source .value)) i (q .loads)) }
 
 serve-accepts : (q : Contents) (m : List ℕ) (serial : ℕ) (r : Served) → serve q m serial ≡ accept r
-    → (l : Load) × (nth (q .loads) (loadPlace q serial) ≡ some l) × Serving q m (loadPlace q serial) r l
+    → (l : Load) × (getElem? (q .loads) (loadPlace q serial) ≡ some l) × Serving q m (loadPlace q serial) r l
 unfolding serve
 serve-accepts q m serial r h₀ =
     let (t₁, h₁) = need-accepts (sound q) _ _ h₀ in
     let (t₂, h₂) = need-accepts (eqb (length m) (q .memoryLength)) _ _ h₁ in
-    let (l, at, h₃) = have-accepts (nth (q .loads) (loadPlace q serial)) _ _ h₂ in
+    let (l, at, h₃) = have-accepts (getElem? (q .loads) (loadPlace q serial)) _ _ h₂ in
     let (t₄, h₄) = need-accepts (not (isSome (l .value))) _ _ h₃ in
     let (a, t₅, h₅) = have-accepts (l .address) _ _ h₄ in
-    let (t₆, h₆) = need-accepts (all hasAddress (storesBefore q l)) _ _ h₅ in
+    let (t₆, h₆) = need-accepts (allOf hasAddress (storesBefore q l)) _ _ h₅ in
     let (v, t₇, h₇) = andThen-accepts (sourceOf m a (nearest a none (storesBefore q l))) _ h₆ in
     (l, at, record { unserved = t₄; address = a; addressed = t₅; earlier = t₆; source = v; supplied = t₇; result = cc })
 
@@ -78,10 +78,10 @@ known-shown : (a out : ℕ) (k : Option ℕ) (xs : List (Placed Store)) → know
 known-shown a out k [] = refl
 known-shown a out k (x ∷ xs) = known-shown a out (pick (supplies a (x .entry)) (x .entry .word) k) xs
 
-known-written : (a : ℕ) (k : Option ℕ) (past : List (Placed Store)) (ss : List Store) → all (λ x. x .entry .written) past ≡ true → known a k (map entryOf past ++ ss) ≡ known a k ss
+known-written : (a : ℕ) (k : Option ℕ) (past : List (Placed Store)) (ss : List Store) → allOf (λ x. x .entry .written) past ≡ true → known a k (map entryOf past ++ ss) ≡ known a k ss
 known-written a k [] ss t = refl
 known-written a k (x ∷ past) ss t =
-    rw (and-left (x .entry .written) (all (λ x. x .entry .written) past) t) (known-written a k past ss (and-right (x .entry .written) (all (λ x. x .entry .written) past) t))
+    rw (and-left (x .entry .written) (allOf (λ x. x .entry .written) past) t) (known-written a k past ss (and-right (x .entry .written) (allOf (λ x. x .entry .written) past) t))
 
 known-log : {queued : List Store} {pre : List Entry} → Before stores queued pre → (a : ℕ) (k : Option ℕ) → known a k queued ≡ known a k (ownIn stores pre)
 known-log {queued} {pre} b a k = rw (b .shows, b .parts, known-shown a (b .out) k (b .rest), known-written a k (b .past) (map entryOf (b .rest)) (b .ended))
@@ -140,7 +140,7 @@ module _ (groups : List GroupPairs) (memory : List ℕ) (answered : List Answere
       low : a < length m
       low = rw (h .long) (ltb-true a (q .memoryLength) (rw (s .addressed) at in-range))
 
-      earlier : all settled (ownIn stores pre) ≡ true
+      earlier : allOf settled (ownIn stores pre) ≡ true
       earlier =
           before-log (l .before′) settled (λ n x. refl) (rightStore (q .memoryLength)) (λ x _ f. or-left (x .written) (isSome (x .address)) f)
           (all-left (rightStore (q .memoryLength)) (ownIn stores pre) (ownIn stores post) (rw (l .log-is, ownIn-append stores pre (ofLoad it ∷ post)) at (h .rightStores)))
@@ -169,11 +169,11 @@ serve-keeps groups memory answered m st counts serial r h = at (serve-accepts q 
     Goal : Type 0
     Goal = State groups memory (answered ++ record { call = Serve counts serial; number = 0; value = some (r .value) } ∷ []) (record { queue = r .queue; memory = m .memory })
 
-    found : (l : Load) → nth (q .loads) i ≡ some l → Serving q (m .memory) i r l
+    found : (l : Load) → getElem? (q .loads) i ≡ some l → Serving q (m .memory) i r l
         → (pre : List Entry) × (it : Load) × (post : List Entry) × Located loads stores (st .log) (q .loads) (q .stores) i pre it post → Goal
     found l e s (pre, it, post, place) =
         let same : l ≡ loads .remember (place .number) it = cc (place .at) in
         serve-at groups memory answered q (m .memory) (st .log) (st .table) (st .holds) (st .seen) counts serial i r pre it post place (subst (Serving q (m .memory) i r) same s)
 
-    at : (l : Load) × (nth (q .loads) i ≡ some l) × Serving q (m .memory) i r l → Goal
+    at : (l : Load) × (getElem? (q .loads) i ≡ some l) × Serving q (m .memory) i r l → Goal
     at (l, e, s) = found l e s (locate loads stores loads-stores (st .holds .windows) i e)

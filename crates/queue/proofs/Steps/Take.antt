@@ -7,14 +7,15 @@ use mathlib.Core.List.{List, [], _∷_, _++_}
 use mathlib.Core.Option.{Option, none, some}
 use lib.Dec.{eqb}
 use borrow.Author.Tests.{not-true, eqb-true}
-use Rattle.table.specs.Basics.{pick, any, all, count, nth}
+use lib.ListN.{getElem?}
+use Rattle.table.specs.Basics.{pick, anyOf, allOf, countWhere}
 use Rattle.table.specs.Group.{GroupPairs}
 use Rattle.queue.specs.Ruled.{accept, isSome}
 use Rattle.queue.specs.Contents.{Load, Contents, withLoads, updateAt, firstPlace}
 use Rattle.queue.specs.Sound.{sound}
 use Rattle.queue.specs.Arguments.{isLoadPort}
 use Rattle.queue.specs.Write.{settle}
-use Rattle.queue.specs.Take.{Taken, untaken, loadTaken, take}
+use Rattle.queue.specs.Take.{Taken, untaken, loadTaken, takeRule}
 use Rattle.queue.specs.Calls.{Argument, LoadAddress, StoreAddress, StoreData, Take}
 use Rattle.queue.specs.Call.{Machine, Answered}
 use Rattle.queue.specs.Plain.{rowsOf}
@@ -34,13 +35,13 @@ record Taking (q : Contents) (i : ℕ) (r : Taken) (l : Load) : Type 0 where
   has : l .value ≡ some value
   result : r ≡ record { value = value; queue = settle (withLoads q (updateAt loadTaken i (q .loads))) }
 
-take-accepts : (q : Contents) (port : ℕ) (r : Taken) → take q port ≡ accept r
-    → (l : Load) × (nth (q .loads) (firstPlace (untaken port) (q .loads)) ≡ some l) × Taking q (firstPlace (untaken port) (q .loads)) r l
-unfolding take
+take-accepts : (q : Contents) (port : ℕ) (r : Taken) → takeRule q port ≡ accept r
+    → (l : Load) × (getElem? (q .loads) (firstPlace (untaken port) (q .loads)) ≡ some l) × Taking q (firstPlace (untaken port) (q .loads)) r l
+unfolding takeRule
 take-accepts q port r h₀ =
     let (t₁, h₁) = need-accepts (sound q) _ _ h₀ in
-    let (t₂, h₂) = need-accepts (any (isLoadPort port) (q .groups)) _ _ h₁ in
-    let (l, at, h₃) = have-accepts (nth (q .loads) (firstPlace (untaken port) (q .loads))) _ _ h₂ in
+    let (t₂, h₂) = need-accepts (anyOf (isLoadPort port) (q .groups)) _ _ h₁ in
+    let (l, at, h₃) = have-accepts (getElem? (q .loads) (firstPlace (untaken port) (q .loads))) _ _ h₂ in
     let (v, t₄, h₄) = have-accepts (l .value) _ _ h₃ in
     (l, at, record { value = v; has = t₄; result = cc })
 
@@ -65,7 +66,7 @@ waits-not words port l t r = go (eqb (l .port) port) (l .taken) (l .value) t (ta
 module _ (groups : List GroupPairs) (memory : List ℕ) (answered : List Answered) (q : Contents) (m : List ℕ) (log : List Entry)
     (table : q .groups ≡ groups) (h : Holds q m memory log) (seen : Seen groups answered log) where
   take-at : (port i : ℕ) (r : Taken) (pre : List Entry) (it : Load) (post : List Entry) (l : Located loads stores log (q .loads) (q .stores) i pre it post)
-      → untaken port it ≡ true → all (λ x. not (untaken port x)) (lib.ListN.take i (q .loads)) ≡ true
+      → untaken port it ≡ true → allOf (λ x. not (untaken port x)) (lib.ListN.take i (q .loads)) ≡ true
       → Taking q i r (loads .remember (l .number) it)
       → State groups memory (answered ++ record { call = Take port; number = 0; value = some (r .value) } ∷ []) (record { queue = r .queue; memory = m })
   take-at port i r pre it post l first earlier s = rw (s .result) (record {
@@ -76,7 +77,7 @@ module _ (groups : List GroupPairs) (memory : List ℕ) (answered : List Answere
         seen-anew groups answered (record { call = Take port; number = 0; value = some v }) pre (ofLoad it) (ofLoad (loadTaken it)) post seen′ refl refl
         (λ kind p. row-kept (given kind p) (ofLoad it) (ofLoad (loadTaken it)) (take-given it kind p) post pre (rowsOf (told answered) kind p) (seen′ .rows kind p))
         (row-of-port valueTaken (ofLoad it) (ofLoad (loadTaken it)) v port pre post waits filled none-waiting other (λ p. takenAt p answered) (seen′ .takes))
-        (sym (add-zero (count served (ofLoad it ∷ []))))
+        (sym (add-zero (countWhere served (ofLoad it ∷ []))))
         refl;
   })
     where
@@ -92,7 +93,7 @@ module _ (groups : List GroupPairs) (memory : List ℕ) (answered : List Answere
       fresh : it .taken ≡ false
       fresh = not-true (it .taken) (and-right (eqb (it .port) port) (not (it .taken)) first)
 
-      rightLoads : all (rightLoad (q .memoryLength)) (ownIn loads pre ++ it ∷ ownIn loads post) ≡ true
+      rightLoads : allOf (rightLoad (q .memoryLength)) (ownIn loads pre ++ it ∷ ownIn loads post) ≡ true
       rightLoads = rw (l .log-is, ownIn-append loads pre (ofLoad it ∷ post)) at (h .rightLoads)
 
       right-it : rightLoad (q .memoryLength) it ≡ true
@@ -107,10 +108,10 @@ module _ (groups : List GroupPairs) (memory : List ℕ) (answered : List Answere
       filled : valueTaken port (ofLoad (loadTaken it)) ≡ some (some v)
       filled = take-cell it port v same-port (s .has)
 
-      rightBefore : all (rightLoad (q .memoryLength)) (ownIn loads pre) ≡ true
+      rightBefore : allOf (rightLoad (q .memoryLength)) (ownIn loads pre) ≡ true
       rightBefore = all-left (rightLoad (q .memoryLength)) (ownIn loads pre) (it ∷ ownIn loads post) rightLoads
 
-      none-waiting : all (λ d. not (lacking (valueTaken port d))) pre ≡ true
+      none-waiting : allOf (λ d. not (lacking (valueTaken port d))) pre ≡ true
       none-waiting =
           none-waits loads (valueTaken port) store-waits-not pre
           (all-weaken₂ (λ x. not (untaken port x)) (rightLoad (q .memoryLength)) (λ x. not (lacking (valueTaken port (ofLoad x)))) (waits-not (q .memoryLength) port) (ownIn loads pre)
@@ -132,7 +133,7 @@ module _ (groups : List GroupPairs) (memory : List ℕ) (answered : List Answere
 
 -- An accepted take keeps the invariant.
 pub take-keeps : (groups : List GroupPairs) (memory : List ℕ) (answered : List Answered) (m : Machine) → State groups memory answered m
-    → (port : ℕ) (r : Taken) → take (m .queue) port ≡ accept r
+    → (port : ℕ) (r : Taken) → takeRule (m .queue) port ≡ accept r
     → State groups memory (answered ++ record { call = Take port; number = 0; value = some (r .value) } ∷ []) (record { queue = r .queue; memory = m .memory })
 take-keeps groups memory answered m st port r h = at (take-accepts q port r h)
   where
@@ -145,12 +146,12 @@ take-keeps groups memory answered m st port r h = at (take-accepts q port r h)
     Goal : Type 0
     Goal = State groups memory (answered ++ record { call = Take port; number = 0; value = some (r .value) } ∷ []) (record { queue = r .queue; memory = m .memory })
 
-    found : (l : Load) → nth (q .loads) i ≡ some l → Taking q i r l
+    found : (l : Load) → getElem? (q .loads) i ≡ some l → Taking q i r l
         → (pre : List Entry) × (it : Load) × (post : List Entry) × Located loads stores (st .log) (q .loads) (q .stores) i pre it post → Goal
     found l e s (pre, it, post, place) =
         let same : l ≡ loads .remember (place .number) it = cc (place .at) in
         take-at groups memory answered q (m .memory) (st .log) (st .table) (st .holds) (st .seen) port i r pre it post place
         (rw same at (first-passes (untaken port) (q .loads) e)) (first-before (untaken port) (q .loads)) (subst (Taking q i r) same s)
 
-    at : (l : Load) × (nth (q .loads) i ≡ some l) × Taking q i r l → Goal
+    at : (l : Load) × (getElem? (q .loads) i ≡ some l) × Taking q i r l → Goal
     at (l, e, s) = found l e s (locate loads stores loads-stores (st .holds .windows) i e)

@@ -5,9 +5,9 @@ use mathlib.Core.Bool.{true, false, not, _&&_}
 use mathlib.Core.List.{List, [], _∷_, _++_}
 use mathlib.Core.Option.{none, some}
 use lib.Dec.{eqb}
-use lib.ListN.{length, take, set, length-set}
+use lib.ListN.{length, take, set, length-set, getElem?}
 use borrow.Author.Tests.{not-true}
-use Rattle.table.specs.Basics.{all, nth}
+use Rattle.table.specs.Basics.{allOf}
 use Rattle.table.specs.Group.{GroupPairs}
 use Rattle.queue.specs.Ruled.{accept, isSome}
 use Rattle.queue.specs.Contents.{Store, Contents, withStores, updateAt, storePlace}
@@ -33,22 +33,22 @@ record Writing (q : Contents) (m : List ℕ) (i : ℕ) (r : Written) (s : Store)
   addressed : s .address ≡ some address
   word : ℕ
   worded : s .word ≡ some word
-  loadsApart : all (loadGivesWay address) (take (s .before) (q .loads)) ≡ true
-  storesApart : all (storeGivesWay address) (take i (q .stores)) ≡ true
+  loadsApart : allOf (loadGivesWay address) (take (s .before) (q .loads)) ≡ true
+  storesApart : allOf (storeGivesWay address) (take i (q .stores)) ≡ true
   result : r ≡ record { memory = set m address word; queue = settle (withStores q (updateAt storeDone i (q .stores))) }
 
 write-accepts : (q : Contents) (m : List ℕ) (serial : ℕ) (r : Written) → write q m serial ≡ accept r
-    → (s : Store) × (nth (q .stores) (storePlace q serial) ≡ some s) × Writing q m (storePlace q serial) r s
+    → (s : Store) × (getElem? (q .stores) (storePlace q serial) ≡ some s) × Writing q m (storePlace q serial) r s
 unfolding write
 write-accepts q m serial r h₀ =
     let (t₁, h₁) = need-accepts (sound q) _ _ h₀ in
     let (t₂, h₂) = need-accepts (eqb (length m) (q .memoryLength)) _ _ h₁ in
-    let (s, at, h₃) = have-accepts (nth (q .stores) (storePlace q serial)) _ _ h₂ in
+    let (s, at, h₃) = have-accepts (getElem? (q .stores) (storePlace q serial)) _ _ h₂ in
     let (t₄, h₄) = need-accepts (not (s .written)) _ _ h₃ in
     let (a, t₅, h₅) = have-accepts (s .address) _ _ h₄ in
     let (w, t₆, h₆) = have-accepts (s .word) _ _ h₅ in
-    let (t₇, h₇) = need-accepts (all (loadGivesWay a) (take (s .before) (q .loads))) _ _ h₆ in
-    let (t₈, h₈) = need-accepts (all (storeGivesWay a) (take (storePlace q serial) (q .stores))) _ _ h₇ in
+    let (t₇, h₇) = need-accepts (allOf (loadGivesWay a) (take (s .before) (q .loads))) _ _ h₆ in
+    let (t₈, h₈) = need-accepts (allOf (storeGivesWay a) (take (storePlace q serial) (q .stores))) _ _ h₇ in
     (s, at, record { unwritten = t₄; address = a; addressed = t₅; word = w; worded = t₆; loadsApart = t₇; storesApart = t₈; result = cc })
 
 write-given : (s : Store) (kind : Argument) (port : ℕ) → given kind port (ofStore s) ≡ given kind port (ofStore (storeDone s))
@@ -85,10 +85,10 @@ module _ (groups : List GroupPairs) (memory : List ℕ) (answered : List Answere
       unwritten : it .written ≡ false
       unwritten = not-true (it .written) (s .unwritten)
 
-      rightStores : all (rightStore (q .memoryLength)) (ownIn stores pre ++ it ∷ ownIn stores post) ≡ true
+      rightStores : allOf (rightStore (q .memoryLength)) (ownIn stores pre ++ it ∷ ownIn stores post) ≡ true
       rightStores = rw (l .log-is, ownIn-append stores pre (ofStore it ∷ post)) at (h .rightStores)
 
-      rightLoads : all (rightLoad (q .memoryLength)) (ownIn loads pre ++ ownIn loads post) ≡ true
+      rightLoads : allOf (rightLoad (q .memoryLength)) (ownIn loads pre ++ ownIn loads post) ≡ true
       rightLoads = rw (l .log-is, ownIn-append loads pre (ofStore it ∷ post)) at (h .rightLoads)
 
       right : rightStore (q .memoryLength) (storeDone it) ≡ true
@@ -96,13 +96,13 @@ module _ (groups : List GroupPairs) (memory : List ℕ) (answered : List Answere
           and-both {a = isSome (it .address) && isSome (it .word)} (rw (s .addressed, s .worded))
           (store-in-range (q .memoryLength) it (all-middle (rightStore (q .memoryLength)) (ownIn stores pre) (ownIn stores post) it rightStores))
 
-      loadsApart : all (loadGivesWay a) (ownIn loads pre) ≡ true
+      loadsApart : allOf (loadGivesWay a) (ownIn loads pre) ≡ true
       loadsApart =
           before-log (l .before′) (loadGivesWay a) (λ n x. refl) (rightLoad (q .memoryLength))
           (λ x t f. or-left (isSome (x .value)) (addressApart a (x .address)) (implied (x .taken) (isSome (x .value)) (taken-served (q .memoryLength) x t) f))
           (all-left (rightLoad (q .memoryLength)) (ownIn loads pre) (ownIn loads post) rightLoads) (s .loadsApart)
 
-      storesApart : all (storeGivesWay a) (ownIn stores pre) ≡ true
+      storesApart : allOf (storeGivesWay a) (ownIn stores pre) ≡ true
       storesApart =
           before-log (l .before) (storeGivesWay a) (λ n x. refl) (rightStore (q .memoryLength)) (λ x t f. or-left (x .written) (addressApart a (x .address)) f)
           (all-left (rightStore (q .memoryLength)) (ownIn stores pre) (it ∷ ownIn stores post) rightStores) (s .storesApart)
@@ -125,11 +125,11 @@ write-keeps groups memory answered m st serial r h = at (write-accepts q (m .mem
     Goal : Type 0
     Goal = State groups memory (answered ++ record { call = Write serial; number = 0; value = none } ∷ []) (record { queue = r .queue; memory = r .memory })
 
-    found : (s : Store) → nth (q .stores) i ≡ some s → Writing q (m .memory) i r s
+    found : (s : Store) → getElem? (q .stores) i ≡ some s → Writing q (m .memory) i r s
         → (pre : List Entry) × (it : Store) × (post : List Entry) × Located stores loads (st .log) (q .stores) (q .loads) i pre it post → Goal
     found s e facts (pre, it, post, place) =
         let same : s ≡ stores .remember (place .number) it = cc (place .at) in
         write-at groups memory answered q (m .memory) (st .log) (st .table) (st .holds) (st .seen) serial i r pre it post place (subst (Writing q (m .memory) i r) same facts)
 
-    at : (s : Store) × (nth (q .stores) i ≡ some s) × Writing q (m .memory) i r s → Goal
+    at : (s : Store) × (getElem? (q .stores) i ≡ some s) × Writing q (m .memory) i r s → Goal
     at (s, e, facts) = found s e facts (locate stores loads stores-loads (turned (st .holds .windows)) i e)

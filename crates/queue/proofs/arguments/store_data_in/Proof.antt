@@ -2,7 +2,7 @@
 use mathlib.Core.Path.{_≡_, refl, sym, _∙_}
 use mathlib.Core.Bool.{true}
 use borrow.Author.Tests.{not-true, not-false}
-use Rattle.table.specs.Basics.{any}
+use Rattle.table.specs.Basics.{anyOf}
 use Rattle.table.specs.Table.{groupsOf}
 use Rattle.queue.specs.declared.Queue.{Queue}
 use Rattle.queue.specs.declared.arguments.Argument.the-variants.{Word}
@@ -34,7 +34,7 @@ good c = fit (queue (c .before)) (c .before .sound-in .ensures) (c .if1 .left)
 abbrev sure : tie.After-has-port → tie.Else1
 sure c = c .before
 
-port : (c : tie.Else2) → let p = sure (c .before) .before in any (isStorePort (start p .args .port)) (groupsOf (queue p .frame .table)) ≡ true
+port : (c : tie.Else2) → let p = sure (c .before) .before in anyOf (isStorePort (start p .args .port)) (groupsOf (queue p .frame .table)) ≡ true
 port c = sym (c .before .has-port .ensures) ∙ not-false _ (c .if2 .left)
 
 sound-in-requires : tie.Need-sound-in-requires

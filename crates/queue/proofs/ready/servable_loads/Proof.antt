@@ -5,7 +5,7 @@ use mathlib.Core.Bool.{true}
 use mathlib.Core.Path.{_≡_, refl, sym, ap, subst, _∙_}
 use lib.ListN.{getD}
 use borrow.Author.Needs.{needs}
-use Rattle.table.specs.Basics.{filter}
+use Rattle.table.specs.Basics.{keepWhere}
 use Rattle.queue.specs.declared.Entry.{Entry}
 use Rattle.table.specs.declared.Table.{Table}
 use Rattle.queue.specs.declared.Queue.{Queue}
@@ -104,7 +104,7 @@ returns c t right =
     let s = start o in
     let i = c .before .loop .inv in
     let passed = gathering-end (i .1) (c .loop-test .left) (wouldServe (contentsOf (queueWith t s))) (λ j k. ap (λ (x : ℕ). wouldServe (contentsOf (queueWith t s)) (after x j)) (o .oldest-serial .ensures) ∙ agrees s t right j k) in
-    servable-record (queueWith t s) (passed ∙ ap (λ (x : ℕ). filter (wouldServe (contentsOf (queueWith t s))) (serials x (s .args .outline .loads .count))) (o .oldest-serial .ensures))
+    servable-record (queueWith t s) (passed ∙ ap (λ (x : ℕ). keepWhere (wouldServe (contentsOf (queueWith t s))) (serials x (s .args .outline .loads .count))) (o .oldest-serial .ensures))
     (omega (arith, i .1 .few, i .0, loads-few (queueWith t s) right)) (i .1 .long)
 
 pub servable-loads-spec : {M : Type 1} → statement M

@@ -6,7 +6,7 @@ use mathlib.Core.Path.{_≡_, refl, sym, ap, subst, _∙_}
 use lib.Dec.{eqb}
 use lib.ListN.{getD}
 use borrow.Author.Needs.{needs}
-use Rattle.table.specs.Basics.{filter}
+use Rattle.table.specs.Basics.{keepWhere}
 use Rattle.table.specs.declared.Table.{Table}
 use Rattle.queue.specs.declared.Queue.{Queue}
 use Rattle.queue.specs.Entry.{entryOf}
@@ -89,7 +89,7 @@ returns c t right =
     let s = start o in
     let i = c .before .loop .inv in
     let passed = gathering-end (i .1) (c .loop-test .left) (wouldWrite (contentsOf (queueWith t s))) (λ j k. ap (λ (x : ℕ). wouldWrite (contentsOf (queueWith t s)) (after x j)) (o .oldest-serial .ensures) ∙ agrees s t right j k) in
-    writable-record (queueWith t s) (passed ∙ ap (λ (x : ℕ). filter (wouldWrite (contentsOf (queueWith t s))) (serials x (s .args .outline .stores .count))) (o .oldest-serial .ensures))
+    writable-record (queueWith t s) (passed ∙ ap (λ (x : ℕ). keepWhere (wouldWrite (contentsOf (queueWith t s))) (serials x (s .args .outline .stores .count))) (o .oldest-serial .ensures))
     (omega (arith, i .1 .few, i .0, stores-few (queueWith t s) right)) (i .1 .long)
 
 pub writable-stores-spec : {M : Type 1} → statement M

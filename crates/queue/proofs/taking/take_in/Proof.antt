@@ -5,14 +5,14 @@ use mathlib.Core.Path.{_≡_, refl, sym, ap, _∙_}
 use mathlib.Core.Bool.{true}
 use lib.ListN.{length, getD, length-set}
 use borrow.Author.Tests.{not-true, not-false}
-use Rattle.table.specs.Basics.{any}
+use Rattle.table.specs.Basics.{anyOf}
 use Rattle.table.specs.Table.{groupsOf}
 use Rattle.queue.specs.declared.Queue.{Queue}
 use Rattle.queue.specs.declared.entries.Mark.the-variants.{Finished}
 use Rattle.queue.specs.Contents.{loadOf, loadIn, contentsOf, firstPlace}
 use Rattle.queue.specs.Arguments.{isLoadPort}
 use Rattle.queue.specs.Write.{settle}
-use Rattle.queue.specs.Take.{untaken, loadTaken, take}
+use Rattle.queue.specs.Take.{untaken, loadTaken, takeRule}
 use Rattle.queue.specs.Parts.{frameOf, queueOf}
 use Rattle.queue.specs.Internal.{loadsIn, lacks}
 use Rattle.queue.proofs.EntryLaws.{done-number, load-untaken, side-place-same}
@@ -44,7 +44,7 @@ sure c = c .before
 abbrev known : tie.After-oldest-without → tie.Else2
 known c = c .before .before .before
 
-port : (c : tie.Else2) → let s = sure (c .before) .before in any (isLoadPort (start s .args .port)) (groupsOf (queue s .frame .table)) ≡ true
+port : (c : tie.Else2) → let s = sure (c .before) .before in anyOf (isLoadPort (start s .args .port)) (groupsOf (queue s .frame .table)) ≡ true
 port c = sym (c .before .has-port .ensures) ∙ not-false _ (c .if2 .left)
 
 place : (c : tie.After-oldest-without) → let s = sure (known c .before) .before in
@@ -86,7 +86,7 @@ returns : tie.Need-returns
 returns c =
     let s = c .before .before in
     let q = queue s in
-    rw (unfit q (take (contentsOf q) (start s .args .port)) (c .before .before .sound-in .ensures) (c .before .if1 .taken) (take-unsound q (start s .args .port)), c .refused .ensures)
+    rw (unfit q (takeRule (contentsOf q) (start s .args .port)) (c .before .before .sound-in .ensures) (c .before .if1 .taken) (take-unsound q (start s .args .port)), c .refused .ensures)
 
 has-port-requires : tie.Need-has-port-requires
 has-port-requires c κs = groups-few (queue (c .before) .frame .table) (table-right (queue (c .before)) (good c .right))

@@ -4,7 +4,7 @@ use mathlib.Core.Path.{_≡_, sym, ap, _∙_}
 use mathlib.Core.List.{List}
 use borrow.Author.Needs.{needs}
 use borrow.Author.Tests.{not-true, not-false}
-use Rattle.table.specs.Basics.{all}
+use Rattle.table.specs.Basics.{allOf}
 use Rattle.queue.specs.declared.Entry.{Entry}
 use Rattle.queue.specs.declared.entries.Mark.the-variants.{Filled, Finished}
 use Rattle.queue.specs.Ruled.{number}
@@ -33,13 +33,13 @@ told u n e = rw (← u .unpack .ensures) e
 
 -- do the loads, the stores, before it give way?
 loads-way : (c : tie.After-all-give-way) → let u = c .before .before .before .before .before .before .before in
-    c .all-give-way .result ≡ all (loadGivesWay (store u .address)) (loads u)
+    c .all-give-way .result ≡ allOf (loadGivesWay (store u .address)) (loads u)
 loads-way c =
     let u = c .before .before .before .before .before .before .before in
     c .all-give-way .ensures ∙ sym (side-all-same loadOf (loadGivesWay (store u .address)) (givesWay Filled (store u .address)) (λ e. load-gives-way e (store u .address)) (store u .before) (u .before .before .before .before .args .load-entries .now))
 
 stores-way : (c : tie.After-all-give-way2) → let u = c .before .before .before .before .before .before .before .before .before in
-    c .all-give-way2 .result ≡ all (storeGivesWay (store u .address)) (stores u)
+    c .all-give-way2 .result ≡ allOf (storeGivesWay (store u .address)) (stores u)
 stores-way c =
     let u = c .before .before .before .before .before .before .before .before .before in
     c .all-give-way2 .ensures ∙ sym (side-all-same storeOf (storeGivesWay (store u .address)) (givesWay Finished (store u .address)) (λ e. store-gives-way e (store u .address)) (u .before .before .before .before .args .at) (u .before .before .before .before .args .store-entries .now))

@@ -1,6 +1,6 @@
 use mathlib.Core.Path.{sym, _∙_}
 use borrow.Author.Tests.{le-leb, lt-leb}
-use Rattle.table.specs.Basics.{count}
+use Rattle.table.specs.Basics.{countWhere}
 use Rattle.table.specs.Group.{listOf, beforeStore}
 use Rattle.table.proofs.CheckLaws.{agrees-more, agrees-none, agrees-some}
 use borrow.Author.Needs.{needs}
@@ -13,7 +13,7 @@ more-before-requires c κs = let s = c .before in (s .pre .inside, s .pre .risin
 returns : tie.Need-returns
 returns c =
     let s = c .before .before .before in
-    rw (c .before .before .if1 .taken) (agrees-more (s .args .offset) (count (beforeStore (s .args .i)) (listOf (s .args .places .now) (s .args .loads))) (sym (c .before .more-before .ensures) ∙ c .if2 .taken))
+    rw (c .before .before .if1 .taken) (agrees-more (s .args .offset) (countWhere (beforeStore (s .args .i)) (listOf (s .args .places .now) (s .args .loads))) (sym (c .before .more-before .ensures) ∙ c .if2 .taken))
 
 returns-2 : tie.Need-returns-2
 returns-2 c = let m = c .before .before in rw (m .before .if1 .taken) (agrees-none _ _ (sym (m .more-before .ensures) ∙ c .before .if2 .left) (c .if3 .taken))

@@ -12,10 +12,9 @@ use lib.Count.{leadingZeros, leading-length}
 use lib.Pow.{pow-mono}
 use native.Mathlib.Nat.{le-trans, pow-suc, add-mul, mul-assoc, mul-comm, mul-le-mul-left, mul-le-mul-right}
 use borrow.Author.Tests.{lt-ltb, le-ltb, le-leb, lt-leb, ltb-true, ltb-false, leb-true, leb-false}
-use Rattle.table.specs.declared.NumberRead.the-variants.{Number, Refused}
 use Rattle.table.specs.Basics.{pick}
 use Rattle.table.specs.Refusal.{ended, tooLarge}
-use Rattle.table.specs.Number.{Got, got, bad, above, numberUpTo, readNumber, numberAnswer, placeOf, significantBits, byteCount, bytesUpTo, numberBytes}
+use Rattle.table.specs.Number.{Got, got, bad, above, numberUpTo, readNumber, placeOf, accepts, refuses, reading, readIn, significantBits, byteCount, bytesUpTo, numberBytes}
 
 -- the place where what is left after `at` bytes begins
 pub place-drop : (s : List ℕ) (at : ℕ) → at ≤ length s → placeOf s (drop at s) ≡ at
@@ -97,11 +96,11 @@ module _ (scale : ℕ) where
   not-fifth (suc more) r h = omega arith
 
 module _ {s : List ℕ} {at value scale place : ℕ} (w : NumberSoFar s at value scale place) where
-  pub number-ended : length s ≤ place → Refused ended ≡ numberAnswer s (readNumber (drop at s))
+  pub number-ended : length s ≤ place → refuses ended ≡ readIn s (readNumber (drop at s))
   number-ended h = rw (w .is, up-ended s place (w .more) h)
 
   -- a group that ends the number
-  ends : place < length s → numberUpTo (w .more) 15 (drop place s) ≡ got (getD s place 0) (drop (place + 1) s) → Number (value + getD s place 0 * scale) (place + 1) ≡ numberAnswer s (readNumber (drop at s))
+  ends : place < length s → numberUpTo (w .more) 15 (drop place s) ≡ got (getD s place 0) (drop (place + 1) s) → accepts (reading (value + getD s place 0 * scale) (place + 1)) ≡ readIn s (readNumber (drop at s))
   ends h e = rw (w .is, e, place-drop s (place + 1) (omega arith))
 
   module _ (t : scale < 2 ^ 28) where
@@ -115,7 +114,7 @@ module _ {s : List ℕ} {at value scale place : ℕ} (w : NumberSoFar s at value
     group-fits b k = (omega (arith, w .below, mul-le-mul-right {m = b} {n = 127} scale (omega arith)), scale-most scale (w .more - 1) room-left)
 
     module _ (h : place < length s) where
-      pub number-one : getD s place 0 < 128 → Number (value + getD s place 0 * scale) (place + 1) ≡ numberAnswer s (readNumber (drop at s))
+      pub number-one : getD s place 0 < 128 → accepts (reading (value + getD s place 0 * scale) (place + 1)) ≡ readIn s (readNumber (drop at s))
       number-one k = ends h (up-one s place h some k)
 
       pub number-more : 128 ≤ getD s place 0 → getD s place 0 < 256 → NumberSoFar s at (value + (getD s place 0 - 128) * scale) (scale * 128) (place + 1)
@@ -137,10 +136,10 @@ module _ {s : List ℕ} {at value scale place : ℕ} (w : NumberSoFar s at value
         omega (arith, w .below, mul-le-mul-right {m = b} {n = 15} scale k)
 
     module _ (h : place < length s) where
-      pub number-last : getD s place 0 ≤ 15 → Number (value + getD s place 0 * scale) (place + 1) ≡ numberAnswer s (readNumber (drop at s))
+      pub number-last : getD s place 0 ≤ 15 → accepts (reading (value + getD s place 0 * scale) (place + 1)) ≡ readIn s (readNumber (drop at s))
       number-last k = ends h (rw none (up-last s place h k))
 
-      pub number-too-large : 15 < getD s place 0 → Refused tooLarge ≡ numberAnswer s (readNumber (drop at s))
+      pub number-too-large : 15 < getD s place 0 → refuses tooLarge ≡ readIn s (readNumber (drop at s))
       number-too-large k = rw (w .is, none, up-too-large s place h k)
 
 -- ---- how long a number is
@@ -219,10 +218,10 @@ pub record NumberGot (s : List ℕ) (place v next : ℕ) : Type 0 where
   pub later : place < next
   pub inside : next ≤ length s
 
-pub number-got : (s : List ℕ) (place : ℕ) {v next : ℕ} → Number v next ≡ numberAnswer s (readNumber (drop place s)) → NumberGot s place v next
+pub number-got : (s : List ℕ) (place : ℕ) {v next : ℕ} → accepts (reading v next) ≡ readIn s (readNumber (drop place s)) → NumberGot s place v next
 number-got s place {v} {next} e = go (readNumber (drop place s)) refl e
   where
-    at-place : (n : ℕ) (rest : List ℕ) → readNumber (drop place s) ≡ got n rest → Number v next ≡ Number n (placeOf s rest) → (k : ℕ) × (rest ≡ drop (suc k) (drop place s)) × (suc k ≤ length (drop place s)) → NumberGot s place v next
+    at-place : (n : ℕ) (rest : List ℕ) → readNumber (drop place s) ≡ got n rest → accepts (reading v next) ≡ accepts (reading n (placeOf s rest)) → (k : ℕ) × (rest ≡ drop (suc k) (drop place s)) × (suc k ≤ length (drop place s)) → NumberGot s place v next
     at-place n rest f d (k, q, h) =
         let l : length (drop place s) ≡ length s - place = length-drop place s in
         let r : rest ≡ drop (place + suc k) s = q ∙ drop-drop (suc k) place s in
@@ -232,13 +231,13 @@ number-got s place {v} {next} e = go (readNumber (drop place s)) refl e
         let w : next ≡ place + suc k = x ∙ m in
         record { is = f ∙ cc; later = omega arith; inside = omega arith }
 
-    go : (g : Got ℕ) → readNumber (drop place s) ≡ g → Number v next ≡ numberAnswer s g → NumberGot s place v next
+    go : (g : Got ℕ) → readNumber (drop place s) ≡ g → accepts (reading v next) ≡ readIn s g → NumberGot s place v next
     go (bad n) f d = let z : _≡_ {A = ℕ} 0 1 = cc in absurd (omega arith)
     go (got n rest) f d = at-place n rest f d (number-suffix 4 15 (drop place s) f)
 
-pub number-bad : (s : List ℕ) (place : ℕ) {k : ℕ} → Refused k ≡ numberAnswer s (readNumber (drop place s)) → readNumber (drop place s) ≡ bad k
+pub number-bad : (s : List ℕ) (place : ℕ) {k : ℕ} → refuses k ≡ readIn s (readNumber (drop place s)) → readNumber (drop place s) ≡ bad k
 number-bad s place {k} e = go (readNumber (drop place s)) e
   where
-    go : (g : Got ℕ) → Refused k ≡ numberAnswer s g → g ≡ bad k
+    go : (g : Got ℕ) → refuses k ≡ readIn s g → g ≡ bad k
     go (got n rest) d = let z : _≡_ {A = ℕ} 0 1 = cc in absurd (omega arith)
     go (bad n) d = cc

@@ -19,12 +19,12 @@ use Rattle.table.specs.declared.read.GroupRead.{GroupRead}
 use Rattle.table.specs.declared.read.GroupsRead.{GroupsRead}
 use Rattle.table.specs.Basics.{pick}
 use Rattle.table.specs.Refusal.{tooLarge, badCounts}
-use Rattle.table.specs.Number.{Got, got, bad, andThen, require, above, numberUpTo, readNumber, numberAnswer, placeOf}
+use Rattle.table.specs.Number.{Got, got, bad, andThen, require, above, numberUpTo, readNumber, placeOf, accepts, refuses, reading, readIn}
 use Rattle.table.specs.Packed.{pairIn, packedPair, SmallPair}
 use Rattle.table.specs.Group.{GroupPairs}
 use Rattle.table.specs.Table.{loadRule, storeRule, pairFault, pairsFault, seeing, countsRight, Seen, noneSeen, seenAfter, groupFault}
 use Rattle.table.specs.TableBytes.{unless, pair, before, readPairs, readGroup, readGroups, pack}
-use Rattle.table.specs.Internal.{Two, two, readTwo, twoAnswer, pairsIn, packPairs, PairsFound, PairsResult, found, none, seenOf, groupMade, GroupFound, GroupResult, group-found, group-none, Growing, Grown, GroupsFound, GroupsResult, groups-found, groups-none}
+use Rattle.table.specs.Internal.{Two, two, readTwo, pairsIn, packPairs, PairsFound, PairsResult, found, none, seenOf, groupMade, GroupFound, GroupResult, group-found, group-none, Growing, Grown, GroupsFound, GroupsResult, groups-found, groups-none}
 use Rattle.table.proofs.NumberLaws.{NumberGot, number-got}
 use Rattle.table.proofs.PackedLaws.{pairs-read-back, map-append}
 use Rattle.table.proofs.CheckLaws.{held-few}
@@ -53,32 +53,33 @@ unfolding readTwo
 two-got s place a b = record { is = rw (a .is, b .is); inside = b .inside }
 
 -- the same, read off the call's answer
-pub two-answer : (s : List ℕ) (place : ℕ) {x y next : ℕ} → TwoRead.Two x y next ≡ twoAnswer s (readTwo (drop place s)) → TwoGot s place x y next
+pub two-answer : (s : List ℕ) (place : ℕ) {x y next : ℕ} → accepts (reading (two x y) next) ≡ readIn s (readTwo (drop place s)) → TwoGot s place x y next
 unfolding readTwo
 two-answer s place {x} {y} {next} e = first (readNumber (drop place s)) refl e
   where
-    both : (a b m n : ℕ) → NumberGot s place a m → NumberGot s m b n → TwoRead.Two x y next ≡ TwoRead.Two a b n → TwoGot s place x y next
+    both : (a b m n : ℕ) → NumberGot s place a m → NumberGot s m b n → accepts (reading (two x y) next) ≡ accepts (reading (two a b) n) → TwoGot s place x y next
     both a b m n f g d =
-        let p : x ≡ a = cc in
-        let q : y ≡ b = cc in
+        let t : two x y ≡ two a b = cc in
+        let p : x ≡ a = ap (λ (w : Two). w .first) t in
+        let q : y ≡ b = ap (λ (w : Two). w .second) t in
         let r : next ≡ n = cc in
         rw (p, q, r) (two-got s place f g)
 
-    second : (a m : ℕ) → NumberGot s place a m → (h : Got ℕ) → readNumber (drop m s) ≡ h → TwoRead.Two x y next ≡ twoAnswer s (andThen h λ b s₂. got (two a b) s₂) → TwoGot s place x y next
-    second a m f (got b s₂) g d = both a b m (placeOf s s₂) f (number-got s m (sym (ap (numberAnswer s) g))) d
+    second : (a m : ℕ) → NumberGot s place a m → (h : Got ℕ) → readNumber (drop m s) ≡ h → accepts (reading (two x y) next) ≡ readIn s (andThen h λ b s₂. got (two a b) s₂) → TwoGot s place x y next
+    second a m f (got b s₂) g d = both a b m (placeOf s s₂) f (number-got s m (sym (ap (readIn s) g))) d
     second a m f (bad n) g d = let z : _≡_ {A = ℕ} 0 1 = cc in absurd (omega arith)
 
-    first : (g : Got ℕ) → readNumber (drop place s) ≡ g → TwoRead.Two x y next ≡ twoAnswer s (andThen g λ a s₁. andThen (readNumber s₁) λ b s₂. got (two a b) s₂) → TwoGot s place x y next
+    first : (g : Got ℕ) → readNumber (drop place s) ≡ g → accepts (reading (two x y) next) ≡ readIn s (andThen g λ a s₁. andThen (readNumber s₁) λ b s₂. got (two a b) s₂) → TwoGot s place x y next
     first (got a s₁) f d =
-        let w = number-got s place (sym (ap (numberAnswer s) f)) in
+        let w = number-got s place (sym (ap (readIn s) f)) in
         let t : s₁ ≡ drop (placeOf s s₁) s = cc (w .is) in
-        second a (placeOf s s₁) w (readNumber (drop (placeOf s s₁) s)) refl (d ∙ ap (λ l. twoAnswer s (andThen (readNumber l) λ b s₂. got (two a b) s₂)) t)
+        second a (placeOf s s₁) w (readNumber (drop (placeOf s s₁) s)) refl (d ∙ ap (λ l. readIn s (andThen (readNumber l) λ b s₂. got (two a b) s₂)) t)
     first (bad n) f d = let z : _≡_ {A = ℕ} 0 1 = cc in absurd (omega arith)
 
-pub two-bad : (s : List ℕ) (place : ℕ) {k : ℕ} → TwoRead.NoTwo k ≡ twoAnswer s (readTwo (drop place s)) → readTwo (drop place s) ≡ bad k
+pub two-bad : (s : List ℕ) (place : ℕ) {k : ℕ} → refuses k ≡ readIn s (readTwo (drop place s)) → readTwo (drop place s) ≡ bad k
 two-bad s place {k} e = go (readTwo (drop place s)) e
   where
-    go : (g : Got Two) → TwoRead.NoTwo k ≡ twoAnswer s g → g ≡ bad k
+    go : (g : Got Two) → refuses k ≡ readIn s g → g ≡ bad k
     go (got t rest) d = let z : _≡_ {A = ℕ} 0 1 = cc in absurd (omega arith)
     go (bad n) d = cc
 

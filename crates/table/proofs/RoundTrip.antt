@@ -11,15 +11,13 @@ use borrow.Author.Tests.{ne-eqb, leb-true, eqb-true}
 use Rattle.table.specs.declared.Pair.{Pair}
 use Rattle.table.specs.declared.Event.{Event}
 use Rattle.table.specs.declared.Event.the-variants.{Activate, LoadAddress, StoreAddress, StoreData, Serve, Write, Take}
-use Rattle.table.specs.declared.EventRead.the-variants.{Found}
-use Rattle.table.specs.declared.HeaderRead.the-variants.{Leading}
 use Rattle.table.specs.Basics.{pick, countWhere, flat, within}
 use Rattle.table.specs.Refusal.{badFields, badGroupCount, badCounts, leftOver, badKind}
-use Rattle.table.specs.Number.{Got, got, bad, andThen, require, readNumber, placeOf, numberBytes, bytesOf}
+use Rattle.table.specs.Number.{Got, got, bad, andThen, require, readNumber, placeOf, accepts, reading, readIn, numberBytes, bytesOf}
 use Rattle.table.specs.Group.{GroupPairs, beforeStore}
 use Rattle.table.specs.Table.{loadRule, storeRule, pairFault, pairsFault, countsRight, Seen, noneSeen, seenAfter, groupFault, groupsFault, tableFault}
 use Rattle.table.specs.TableBytes.{unless, pair, before, readPairs, readGroup, readGroups, readTable, pairNumbers, groupNumbers, tableNumbers, tableBytes}
-use Rattle.table.specs.Event.{eventNumbers, hasSecond, eventOf, readKind, readEvent, eventAt, eventBytes, eventsBytes, headerBytes, headerAnswer, readHeader}
+use Rattle.table.specs.Event.{eventNumbers, hasSecond, eventOf, readKind, readEvent, yielded, atEnd, eventAt, eventBytes, eventsBytes, headerBytes, readHeader}
 use Rattle.table.specs.RoundTrip.{Spelled, nothing, next, Fit, none, one, TablesAreSpelled, OnlyRightTables, TablesReadBack, RecordsHoldGroups, EventsAreSpelled, OnlySpelledEvents, Yields, ends, yields, HeadersAreSpelled, OnlySpelledHeaders, AllFit, no-more, and-more, TracesReadBack}
 use Rattle.table.proofs.CheckLaws.{and-right, fault-none, counts-few, count-most}
 use Rattle.table.proofs.SpliceLaws.{bytes-some}
@@ -495,7 +493,7 @@ yields-from prefix (ev ∷ es) (and-more f w) s e =
     some-bytes : 0 < length (eventBytes ev)
     some-bytes = event-some ev
 
-    found : readEvent (eventBytes ev ++ eventsBytes es) ≡ got ev (eventsBytes es) → eventAt s (length prefix) ≡ Found ev (length prefix + length (eventBytes ev))
+    found : readEvent (eventBytes ev ++ eventsBytes es) ≡ got ev (eventsBytes es) → eventAt s (length prefix) ≡ accepts (yielded ev (length prefix + length (eventBytes ev)))
     found r =
         let d : drop (length prefix) s ≡ eventBytes ev ++ eventsBytes es = rw e (drop-append-seam prefix (eventBytes ev ++ eventsBytes es)) in
         event-at-inside s (length prefix) (rw (e, length-append, length-append) (omega (arith, some-bytes))) ∙ rw (d, r, rest-place)
@@ -541,7 +539,7 @@ only-spelled-headers s rest h e =
 pub traces-read-back : TracesReadBack
 traces-read-back h es f w = (length (headerBytes h), header (headerBytes h) (eventsBytes es) (headers-are-spelled h (headerBytes h) (eventsBytes es) (written f)), yields-from (headerBytes h) es w (headerBytes h ++ eventsBytes es) refl)
   where
-    header : (bytes rest : List ℕ) → readHeader (bytes ++ rest) ≡ got h rest → headerAnswer (bytes ++ rest) (readHeader (bytes ++ rest)) ≡ Leading h (length bytes)
+    header : (bytes rest : List ℕ) → readHeader (bytes ++ rest) ≡ got h rest → readIn (bytes ++ rest) (readHeader (bytes ++ rest)) ≡ accepts (reading h (length bytes))
     header bytes rest e =
         let k : placeOf (bytes ++ rest) rest ≡ length bytes = rw length-append (omega arith) in
         rw (e, k)

@@ -10,10 +10,9 @@ use lib.ListN.{length, getD, take, drop, set, length-append, length-drop, length
 use lib.Seq.{length-take-le, take-suc-set, drop-set-lt, take-at, drop-append-add, drop-drop, take-suc, take-take}
 use borrow.Author.Tests.{lt-ltb, le-ltb, lt-leb, le-leb}
 use lib.Dec.{ltb}
-use Rattle.table.specs.declared.Written.the-variants.{Bytes, Unwritten}
 use Rattle.table.specs.Basics.{pick, splice}
 use Rattle.table.specs.Refusal.{tooShort}
-use Rattle.table.specs.Number.{bytesUpTo, numberBytes, bytesOf, wrote}
+use Rattle.table.specs.Number.{bytesUpTo, numberBytes, bytesOf, accepts, wrote, unwritten}
 use Rattle.table.proofs.NumberLaws.{numberBound}
 
 pub splice-none : (d : List ℕ) (p : ℕ) → splice d p [] ≡ d
@@ -41,11 +40,11 @@ pub splice-front : (d bs : List ℕ) → splice d 0 bs ≡ bs ++ drop (length bs
 splice-front d bs = rw zero-add
 
 -- what a writer leaves, where its bytes are too many for the buffer and where they fit
-pub wrote-short : (bytes buffer : List ℕ) → length buffer < length bytes → wrote bytes buffer ≡ record { answer = Unwritten tooShort; buffer = buffer }
+pub wrote-short : (bytes buffer : List ℕ) → length buffer < length bytes → wrote bytes buffer ≡ unwritten tooShort buffer
 unfolding wrote
 wrote-short bytes buffer h = rw (lt-leb _ _ h)
 
-pub wrote-fits : (bytes buffer : List ℕ) → length bytes ≤ length buffer → wrote bytes buffer ≡ record { answer = Bytes (length bytes); buffer = splice buffer 0 bytes }
+pub wrote-fits : (bytes buffer : List ℕ) → length bytes ≤ length buffer → wrote bytes buffer ≡ record { answer = accepts (length bytes); buffer = splice buffer 0 bytes }
 unfolding wrote
 wrote-fits bytes buffer h = rw (le-leb _ _ h, zero-add)
 

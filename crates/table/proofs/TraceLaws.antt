@@ -4,13 +4,13 @@ use mathlib.Core.Path.{_≡_}
 use mathlib.Core.List.{List}
 use lib.ListN.{length, drop, drop-of-length-le}
 use lib.Seq.{drop-cons}
-use Rattle.table.specs.declared.EventRead.the-variants.{End}
-use Rattle.table.specs.Event.{eventAnswer, eventAt, readEvent}
+use Rattle.table.specs.Number.{accepts}
+use Rattle.table.specs.Event.{atEnd, eventReadIn, eventAt, readEvent}
 
-pub event-at-end : (s : List ℕ) (place : ℕ) → length s ≤ place → eventAt s place ≡ End
+pub event-at-end : (s : List ℕ) (place : ℕ) → length s ≤ place → eventAt s place ≡ accepts atEnd
 unfolding eventAt
 event-at-end s place h = rw (drop-of-length-le s h)
 
-pub event-at-inside : (s : List ℕ) (place : ℕ) → place < length s → eventAt s place ≡ eventAnswer s (readEvent (drop place s))
+pub event-at-inside : (s : List ℕ) (place : ℕ) → place < length s → eventAt s place ≡ eventReadIn s (readEvent (drop place s))
 unfolding eventAt
 event-at-inside s place h = rw (drop-cons s place 0 h)

@@ -3,6 +3,7 @@
 use Prim.Native.Nat.{ℕ}
 use mathlib.Core.Bool.{Bool}
 use mathlib.Core.List.{List, [], _∷_}
+use mathlib.Core.Path.{_≡_}
 use lib.Dec.{eqb, leb}
 use lib.ListN.{drop}
 use Rattle.table.specs.declared.Event.{Event}
@@ -13,10 +14,9 @@ use Rattle.table.specs.declared.HeaderRead.the-variants.{Leading, NoHead
 use Rattle.table.specs.declared.EventRead.{EventRead}
 use Rattle.table.specs.declared.EventRead.the-variants.{Found, End, NoEvent}
 use Rattle.table.specs.declared.Stepped.{Stepped}
-use Rattle.table.specs.declared.Written.the-variants.{Unwritten}
 use Rattle.table.specs.Basics.{pick, flat, within}
 use Rattle.table.specs.Refusal.{badKind}
-use Rattle.table.specs.Number.{Got, got, bad, andThen, require, readNumber, placeOf, bytesOf, Wrote, wrote}
+use Rattle.table.specs.Number.{Got, got, bad, andThen, require, readNumber, placeOf, Reply, accepts, refuses, Reading, reading, bytesOf, Wrote, wrote, unwritten}
 
 -- "0 activate (group), 1 load address (port, address), 2 store address (port, address), 3 store data (port, word), 4 serve
 -- load (serial), 5 write store (serial), 6 take (port)": an event's numbers, its kind first.
@@ -57,36 +57,48 @@ readKind kind s =
 unfoldable pub readEvent : List ℕ → Got Event
 readEvent s = andThen (readNumber s) readKind
 
--- the answer of a call that reads an event of s: the event and the place after it, or the refusal
-abbrev pub eventAnswer : List ℕ → Got Event → EventRead
-eventAnswer s (got e rest) = Found e (placeOf s rest)
-eventAnswer s (bad k) = NoEvent k
+-- what a reader yields: an event and the place after it, or the end
+pub data Yield : Type 0 where
+  yielded : Event → ℕ → Yield
+  atEnd : Yield
+
+-- the number and the values of each case of `EventRead`
+abbrev pub eventReply : EventRead → Reply Yield
+eventReply (Found e next) = accepts (yielded e next)
+eventReply End = accepts atEnd
+eventReply (NoEvent k) = refuses k
+
+-- the reply of a call that reads an event in s
+abbrev pub eventReadIn : List ℕ → Got Event → Reply Yield
+eventReadIn s (got e rest) = accepts (yielded e (placeOf s rest))
+eventReadIn s (bad k) = refuses k
 
 -- the same at a part of s: "at the end of the bytes it answers "end""
-abbrev pub eventIn : List ℕ → List ℕ → EventRead
-eventIn s [] = End
-eventIn s (b ∷ rest) = eventAnswer s (readEvent (b ∷ rest))
+abbrev pub eventIn : List ℕ → List ℕ → Reply Yield
+eventIn s [] = accepts atEnd
+eventIn s (b ∷ rest) = eventReadIn s (readEvent (b ∷ rest))
 
 -- at a place of s: "a place past the end counts as the end"
-unfoldable pub eventAt : List ℕ → ℕ → EventRead
+unfoldable pub eventAt : List ℕ → ℕ → Reply Yield
 eventAt s place = eventIn s (drop place s)
 
 -- where a reader stands after it has read: past the event, or where it was
-abbrev pub placeAfter : ℕ → EventRead → ℕ
-placeAfter place (Found e next) = next
-placeAfter place End = place
-placeAfter place (NoEvent k) = place
+abbrev pub placeAfter : ℕ → Reply Yield → ℕ
+placeAfter place (accepts (yielded e next)) = next
+placeAfter place (accepts atEnd) = place
+placeAfter place (refuses k) = place
 
 -- one step of a reader at a place of s: what it yields, and where it stands then
-abbrev pub stepAt : List ℕ → ℕ → Stepped
-stepAt s place = record { read = eventAt s place; next = placeAfter place (eventAt s place) }
+pub record Steps (s : List ℕ) (place : ℕ) (r : Stepped) : Type 0 where
+  pub read : eventReply (r .read) ≡ eventAt s place
+  pub next : r .next ≡ placeAfter place (eventAt s place)
 
 abbrev pub eventBytes : Event → List ℕ
 eventBytes e = bytesOf (eventNumbers e)
 
 -- writing an event by its kind and its numbers: 35 kind above 6, then 10; a kind with one number leaves the second alone
 abbrev pub wroteEventOf : ℕ → ℕ → ℕ → List ℕ → Wrote
-wroteEventOf kind x y buffer = pick (leb kind 6) (wrote (eventBytes (eventOf kind x y)) buffer) (record { answer = Unwritten badKind; buffer = buffer })
+wroteEventOf kind x y buffer = pick (leb kind 6) (wrote (eventBytes (eventOf kind x y)) buffer) (unwritten badKind buffer)
 
 abbrev pub eventsBytes : List Event → List ℕ
 eventsBytes = flat eventBytes
@@ -106,6 +118,7 @@ readHeader s =
     andThen (readNumber s₃) λ words s₄.
     got (record { loads = loads; stores = stores; serial = serial; words = words }) s₄
 
-abbrev pub headerAnswer : List ℕ → Got Header → HeaderRead
-headerAnswer s (got h rest) = Leading h (placeOf s rest)
-headerAnswer s (bad k) = NoHeader k
+-- the number and the values of each case of `HeaderRead`
+abbrev pub headerReply : HeaderRead → Reply (Reading Header)
+headerReply (Leading h next) = accepts (reading h next)
+headerReply (NoHeader k) = refuses k

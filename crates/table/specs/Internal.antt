@@ -15,7 +15,7 @@ use Rattle.table.specs.declared.read.NewGroup.{NewGroup}
 use Rattle.table.specs.declared.read.PairsRead.{PairsRead}
 use Rattle.table.specs.declared.read.GroupRead.{GroupRead}
 use Rattle.table.specs.declared.read.GroupsRead.{GroupsRead}
-use Rattle.table.specs.Number.{Got, got, bad, andThen, readNumber, placeOf}
+use Rattle.table.specs.Number.{Got, got, bad, andThen, readNumber, Reply, accepts, refuses, replyNumber, Reading, reading}
 use Rattle.table.specs.TableBytes.{filled, pack}
 use Rattle.table.specs.Packed.{packedGroup}
 use Rattle.table.specs.Basics.{pick}
@@ -72,13 +72,13 @@ two x y = record { first = x; second = y }
 unfoldable pub readTwo : List ℕ → Got Two
 readTwo s = andThen (readNumber s) λ x s₁. andThen (readNumber s₁) λ y s₂. got (two x y) s₂
 
-abbrev pub twoAnswer : List ℕ → Got Two → TwoRead
-twoAnswer s (got t rest) = TwoRead.Two (t .first) (t .second) (placeOf s rest)
-twoAnswer s (bad k) = TwoRead.NoTwo k
+-- the number and the values of each case of `TwoRead`
+abbrev pub twoReply : TwoRead → Reply (Reading Two)
+twoReply (TwoRead.Two x y next) = accepts (reading (two x y) next)
+twoReply (TwoRead.NoTwo k) = refuses k
 
 abbrev pub twoRefusal : TwoRead → ℕ
-twoRefusal (TwoRead.Two x y next) = 0
-twoRefusal (TwoRead.NoTwo k) = k
+twoRefusal read = replyNumber (twoReply read)
 
 -- the ports that a record of marks says were seen
 abbrev pub seenOf : Ports → Seen

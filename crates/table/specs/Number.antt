@@ -46,15 +46,32 @@ readNumber = numberUpTo 4 15
 abbrev pub placeOf : List ℕ → List ℕ → ℕ
 placeOf s rest = length s - length rest
 
--- the answer of a call that reads a number of s: the value and the place after it, or the refusal
-abbrev pub numberAnswer : List ℕ → Got ℕ → NumberRead
-numberAnswer s (got n rest) = Number n (placeOf s rest)
-numberAnswer s (bad k) = Refused k
+-- "When an answer is an enum, a definition gives this paper's number and values for each enum case. The promises use this
+-- definition." A reply is 0 with values ("accepted is 0"), or the refusal number: "a refusal returns its number and no value".
+pub data Reply (A : Type 0) : Type 0 where
+  accepts : A → Reply A
+  refuses : ℕ → Reply A
 
--- the paper's number for such an answer
+abbrev pub replyNumber : {A : Type 0} → Reply A → ℕ
+replyNumber (accepts a) = 0
+replyNumber (refuses k) = k
+
+-- what was read, and the place after it
+pub data Reading (A : Type 0) : Type 0 where
+  reading : A → ℕ → Reading A
+
+-- the reply of a call that reads in s
+abbrev pub readIn : {A : Type 0} → List ℕ → Got A → Reply (Reading A)
+readIn s (got a rest) = accepts (reading a (placeOf s rest))
+readIn s (bad k) = refuses k
+
+-- the number and the values of each case of `NumberRead`
+abbrev pub numberReply : NumberRead → Reply (Reading ℕ)
+numberReply (Number n next) = accepts (reading n next)
+numberReply (Refused k) = refuses k
+
 abbrev pub numberRefusal : NumberRead → ℕ
-numberRefusal (Number n next) = 0
-numberRefusal (Refused k) = k
+numberRefusal read = replyNumber (numberReply read)
 
 -- "Significant bits are 32 less the leading zeros, and the byte count comes from a table of 33 entries indexed by significant
 -- bits: 1 for 0 to 7, then 2 to 14, 3 to 21, 4 to 28, 5 to 32."
@@ -77,18 +94,27 @@ abbrev pub bytesOf : List ℕ → List ℕ
 bytesOf [] = []
 bytesOf (n ∷ ns) = numberBytes n ++ bytesOf ns
 
+-- the number of each case of `Written`, and how many bytes were written
+abbrev pub writtenReply : Written → Reply ℕ
+writtenReply (Bytes n) = accepts n
+writtenReply (Unwritten k) = refuses k
+
 -- what a writer answers, and the buffer that it leaves
 pub record Wrote : Type 0 where
-  pub answer : Written
+  pub answer : Reply ℕ
   pub buffer : List ℕ
+
+-- nothing is written
+abbrev pub unwritten : ℕ → List ℕ → Wrote
+unwritten k buffer = record { answer = refuses k; buffer = buffer }
 
 -- "10 the buffer is too short", and then nothing is written; else the bytes stand at the buffer's front, and those beyond
 -- keep their contents.
 unfoldable pub wrote : List ℕ → List ℕ → Wrote
 wrote bytes buffer =
     pick (leb (length bytes) (length buffer))
-    (record { answer = Bytes (length bytes); buffer = bytes ++ drop (length bytes) buffer })
-    (record { answer = Unwritten tooShort; buffer = buffer })
+    (record { answer = accepts (length bytes); buffer = bytes ++ drop (length bytes) buffer })
+    (unwritten tooShort buffer)
 
 -- Bytes that spell a number, padding or not: all but the last have bit 7, and the last of the most there may be is at most `top`.
 abbrev pub isEmpty : List ℕ → Bool

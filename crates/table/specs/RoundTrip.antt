@@ -9,14 +9,12 @@ use lib.Dec.{ltb}
 use lib.ListN.{length}
 use Rattle.table.specs.declared.Event.{Event}
 use Rattle.table.specs.declared.Header.{Header}
-use Rattle.table.specs.declared.EventRead.the-variants.{Found, End}
-use Rattle.table.specs.declared.HeaderRead.the-variants.{Leading}
 use Rattle.table.specs.Basics.{allOf}
-use Rattle.table.specs.Number.{got, readNumber, numberBytes, byteCount, significantBits, spells, valueOf}
+use Rattle.table.specs.Number.{got, readNumber, accepts, reading, readIn, numberBytes, byteCount, significantBits, spells, valueOf}
 use Rattle.table.specs.Group.{GroupPairs}
 use Rattle.table.specs.Table.{groupsOf, tableFault}
 use Rattle.table.specs.TableBytes.{readTable, pack, loadsIn, storesIn, tableNumbers, tableBytes}
-use Rattle.table.specs.Event.{eventNumbers, readEvent, eventAt, eventsBytes, headerNumbers, headerBytes, headerAnswer, readHeader}
+use Rattle.table.specs.Event.{eventNumbers, readEvent, yielded, atEnd, eventAt, eventsBytes, headerNumbers, headerBytes, readHeader}
 
 -- Bytes that spell numbers, one after the other, padded or not.
 pub data Spelled : List ℕ → List ℕ → Type 0 where
@@ -82,8 +80,8 @@ OnlySpelledHeaders = (s rest : List ℕ) (h : Header) → readHeader s ≡ got h
 
 -- the events that reading yields from a place on, and then the end
 pub data Yields (s : List ℕ) : ℕ → List Event → Type 0 where
-  ends : {place : ℕ} → eventAt s place ≡ End → Yields s place []
-  yields : {place next : ℕ} {e : Event} {es : List Event} → eventAt s place ≡ Found e next → Yields s next es → Yields s place (e ∷ es)
+  ends : {place : ℕ} → eventAt s place ≡ accepts atEnd → Yields s place []
+  yields : {place next : ℕ} {e : Event} {es : List Event} → eventAt s place ≡ accepts (yielded e next) → Yields s next es → Yields s place (e ∷ es)
 
 pub data AllFit : List Event → Type 0 where
   no-more : AllFit []
@@ -93,4 +91,4 @@ pub data AllFit : List Event → Type 0 where
 abbrev pub TracesReadBack : Type 0
 TracesReadBack =
     (h : Header) (es : List Event) → Fit (headerNumbers h) → AllFit es →
-    (place : ℕ) × (headerAnswer (headerBytes h ++ eventsBytes es) (readHeader (headerBytes h ++ eventsBytes es)) ≡ Leading h place) × Yields (headerBytes h ++ eventsBytes es) place es
+    (place : ℕ) × (readIn (headerBytes h ++ eventsBytes es) (readHeader (headerBytes h ++ eventsBytes es)) ≡ accepts (reading h place)) × Yields (headerBytes h ++ eventsBytes es) place es

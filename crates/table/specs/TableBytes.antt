@@ -9,10 +9,9 @@ use Rattle.table.specs.declared.Pair.{Pair}
 use Rattle.table.specs.declared.Group.{Group}
 use Rattle.table.specs.declared.Table.{Table}
 use Rattle.table.specs.declared.TableRead.{TableRead}
-use Rattle.table.specs.declared.Written.the-variants.{Unwritten}
 use Rattle.table.specs.Basics.{pick, flat, within}
 use Rattle.table.specs.Refusal.{badFields, badGroupCount, badCounts, leftOver}
-use Rattle.table.specs.Number.{Got, got, bad, andThen, require, readNumber, bytesOf, Wrote, wrote}
+use Rattle.table.specs.Number.{Got, got, bad, andThen, require, readNumber, bytesOf, Wrote, wrote, unwritten}
 use Rattle.table.specs.Packed.{packedPair, packedGroup}
 use Rattle.table.specs.Group.{GroupPairs}
 use Rattle.table.specs.Table.{loadRule, storeRule, pairFault, countsRight, Seen, noneSeen, seenAfter, tableFault}
@@ -104,4 +103,4 @@ tableBytes gs = bytesOf (tableNumbers gs)
 
 -- "Writing a table: 4, 5, 8, 6, 7 in the same order, then 10 the buffer is too short."
 unfoldable pub wroteTable : List GroupPairs → List ℕ → Wrote
-wroteTable gs buffer = pick (eqb (tableFault gs) 0) (wrote (tableBytes gs) buffer) (record { answer = Unwritten (tableFault gs); buffer = buffer })
+wroteTable gs buffer = pick (eqb (tableFault gs) 0) (wrote (tableBytes gs) buffer) (unwritten (tableFault gs) buffer)

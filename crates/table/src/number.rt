@@ -2,7 +2,7 @@
 ghost use mathlib.Core.Path.{_≡_};
 ghost use Prim.Native.Nat.{_+_, _≤_};
 ghost use lib.ListN.{length, drop};
-ghost use Rattle.table.specs.Number.{readNumber, numberAnswer, numberRefusal, numberBytes, byteCount, significantBits, wrote};
+ghost use Rattle.table.specs.Number.{readNumber, readIn, numberReply, numberRefusal, numberBytes, byteCount, significantBits, writtenReply, wrote};
 ghost use Rattle.table.specs.Basics.{splice};
 use crate::NumberRead;
 use crate::Written;
@@ -52,7 +52,7 @@ const FIFTH: u32 = 268435456;
 
 // Reads the number at a place, byte by byte: each counts 128 times what the one before it does. A place past the end is the end.
 pub fn read_number(bytes: &[u8], at: usize) -> NumberRead
-    ensures { λ r. ⌜ r ≡ numberAnswer (now (bytes .entry)) (readNumber (drop at (now (bytes .entry)))) ⌝ }
+    ensures { λ r. ⌜ numberReply r ≡ readIn (now (bytes .entry)) (readNumber (drop at (now (bytes .entry)))) ⌝ }
 {
     let mut value: u32 = 0;
     let mut scale: u32 = 1;
@@ -122,7 +122,7 @@ pub(crate) fn put_number(out: &mut [u8], at: usize, value: u32) -> usize
 
 // Writes a number at the front of a buffer, in the fewest bytes.
 pub fn write_number(value: u32, out: &mut [u8]) -> Written
-    ensures { λ r. ⌜ (r ≡ wrote (numberBytes value) (now (out .entry)) .answer) × (now (out .exit) ≡ wrote (numberBytes value) (now (out .entry)) .buffer) ⌝ }
+    ensures { λ r. ⌜ (writtenReply r ≡ wrote (numberBytes value) (now (out .entry)) .answer) × (now (out .exit) ≡ wrote (numberBytes value) (now (out .entry)) .buffer) ⌝ }
 {
     let length = number_length(value);
     if out.len() < length {

@@ -3,10 +3,10 @@ ghost use mathlib.Core.Path.{_≡_};
 ghost use Prim.Native.Nat.{_+_, _≤_};
 ghost use lib.ListN.{length, drop};
 ghost use Rattle.table.specs.TableBytes.{readPairs, readGroup, readGroups, readTable, tableAnswer, pack};
-ghost use Rattle.table.specs.Internal.{readTwo, twoAnswer, twoRefusal, ruleOf, RuleRight, front, pairsIn, packPairs, PairsResult, seenOf, groupMade, GroupResult, putIn, Growing, Grown, GroupsResult};
+ghost use Rattle.table.specs.Internal.{readTwo, twoReply, twoRefusal, ruleOf, RuleRight, front, pairsIn, packPairs, PairsResult, seenOf, groupMade, GroupResult, putIn, Growing, Grown, GroupsResult};
 ghost use mathlib.Core.List.{[]};
 ghost use Rattle.table.specs.Table.{noneSeen};
-ghost use Rattle.table.specs.Number.{bad};
+ghost use Rattle.table.specs.Number.{readIn, bad};
 use crate::Group;
 use crate::NumberRead;
 use crate::Pair;
@@ -78,7 +78,7 @@ pub struct GroupsRead {
 
 // Reads two numbers.
 fn read_two(bytes: &[u8], at: usize) -> TwoRead
-    ensures { λ r. ⌜ r ≡ twoAnswer (now (bytes .entry)) (readTwo (drop at (now (bytes .entry)))) ⌝ }
+    ensures { λ r. ⌜ twoReply r ≡ readIn (now (bytes .entry)) (readTwo (drop at (now (bytes .entry)))) ⌝ }
 {
     let read = read_number(bytes, at);
     let NumberRead::Number {

@@ -2,8 +2,8 @@
 ghost use mathlib.Core.Path.{_≡_};
 ghost use Prim.Native.Nat.{_+_, _≤_};
 ghost use lib.ListN.{length, take, drop};
-ghost use Rattle.table.specs.Number.{bytesOf, wrote};
-ghost use Rattle.table.specs.Event.{readHeader, headerAnswer, headerBytes, eventOf, readKind, eventAnswer, eventAt, stepAt, eventNumbers, eventBytes, wroteEventOf};
+ghost use Rattle.table.specs.Number.{readIn, bytesOf, writtenReply, wrote};
+ghost use Rattle.table.specs.Event.{readHeader, headerReply, headerBytes, eventOf, readKind, eventReply, eventReadIn, eventAt, placeAfter, Steps, eventNumbers, eventBytes, wroteEventOf};
 ghost use Rattle.table.specs.Reader.{movedTo};
 ghost use Rattle.table.specs.Basics.{splice};
 ghost use Rattle.table.specs.Internal.{listed};
@@ -29,7 +29,7 @@ pub struct Numbers {
 
 // Reads the four leading numbers of a trace.
 pub fn read_header(bytes: &[u8]) -> HeaderRead
-    ensures { λ r. ⌜ r ≡ headerAnswer (now (bytes .entry)) (readHeader (now (bytes .entry))) ⌝ }
+    ensures { λ r. ⌜ headerReply r ≡ readIn (now (bytes .entry)) (readHeader (now (bytes .entry))) ⌝ }
 {
     let first = read_number(bytes, 0);
     let NumberRead::Number {
@@ -98,7 +98,7 @@ fn event_of(kind: u32, first: u32, second: u32) -> Event
 
 // Reads what follows an event's kind.
 fn read_kind(bytes: &[u8], kind: u32, at: usize) -> EventRead
-    ensures { λ r. ⌜ r ≡ eventAnswer (now (bytes .entry)) (readKind kind (drop at (now (bytes .entry)))) ⌝ }
+    ensures { λ r. ⌜ eventReply r ≡ eventReadIn (now (bytes .entry)) (readKind kind (drop at (now (bytes .entry)))) ⌝ }
 {
     if 6 < kind {
         return EventRead::NoEvent(BAD_KIND);
@@ -130,7 +130,7 @@ fn read_kind(bytes: &[u8], kind: u32, at: usize) -> EventRead
 
 // Reads the event at a place; a place past the end is the end.
 pub fn read_event(bytes: &[u8], at: usize) -> EventRead
-    ensures { λ r. ⌜ r ≡ eventAt (now (bytes .entry)) at ⌝ }
+    ensures { λ r. ⌜ eventReply r ≡ eventAt (now (bytes .entry)) at ⌝ }
 {
     if bytes.len() <= at {
         return EventRead::End;
@@ -148,7 +148,7 @@ pub fn read_event(bytes: &[u8], at: usize) -> EventRead
 
 // One step of a reader that stands at a place: it moves past an event, and stays at the end or where it is refused.
 pub fn step_at(bytes: &[u8], at: usize) -> Stepped
-    ensures { λ r. ⌜ r ≡ stepAt (now (bytes .entry)) at ⌝ }
+    ensures { λ r. ⌜ Steps (now (bytes .entry)) at r ⌝ }
 {
     let read = read_event(bytes, at);
     match read {
@@ -190,7 +190,7 @@ fn put_numbers(numbers: Numbers, out: &mut [u8])
 // Writes the numbers at the front of a buffer.
 fn write_numbers(numbers: Numbers, out: &mut [u8]) -> Written
     requires { ⌜ numbers .count ≤ 4 ⌝ }
-    ensures { λ r. ⌜ (r ≡ wrote (bytesOf (listed numbers)) (now (out .entry)) .answer) × (now (out .exit) ≡ wrote (bytesOf (listed numbers)) (now (out .entry)) .buffer) ⌝ }
+    ensures { λ r. ⌜ (writtenReply r ≡ wrote (bytesOf (listed numbers)) (now (out .entry)) .answer) × (now (out .exit) ≡ wrote (bytesOf (listed numbers)) (now (out .entry)) .buffer) ⌝ }
 {
     let length = numbers_length(numbers);
     if out.len() < length {
@@ -238,7 +238,7 @@ fn numbers_of(event: Event) -> Numbers
 
 // Writes an event at the front of a buffer.
 pub fn write_event(event: Event, out: &mut [u8]) -> Written
-    ensures { λ r. ⌜ (r ≡ wrote (eventBytes event) (now (out .entry)) .answer) × (now (out .exit) ≡ wrote (eventBytes event) (now (out .entry)) .buffer) ⌝ }
+    ensures { λ r. ⌜ (writtenReply r ≡ wrote (eventBytes event) (now (out .entry)) .answer) × (now (out .exit) ≡ wrote (eventBytes event) (now (out .entry)) .buffer) ⌝ }
 {
     write_numbers(numbers_of(event), out)
 }
@@ -246,7 +246,7 @@ pub fn write_event(event: Event, out: &mut [u8]) -> Written
 // Writes an event, by its kind and its numbers, at the front of a buffer: 35, then 10. A kind with one number leaves the second
 // alone.
 pub fn write_event_of(kind: u32, first: u32, second: u32, out: &mut [u8]) -> Written
-    ensures { λ r. ⌜ (r ≡ wroteEventOf kind first second (now (out .entry)) .answer) × (now (out .exit) ≡ wroteEventOf kind first second (now (out .entry)) .buffer) ⌝ }
+    ensures { λ r. ⌜ (writtenReply r ≡ wroteEventOf kind first second (now (out .entry)) .answer) × (now (out .exit) ≡ wroteEventOf kind first second (now (out .entry)) .buffer) ⌝ }
 {
     if 6 < kind {
         return Written::Unwritten(BAD_KIND);
@@ -257,7 +257,7 @@ pub fn write_event_of(kind: u32, first: u32, second: u32, out: &mut [u8]) -> Wri
 
 // Writes a trace's leading numbers at the front of a buffer.
 pub fn write_header(header: Header, out: &mut [u8]) -> Written
-    ensures { λ r. ⌜ (r ≡ wrote (headerBytes header) (now (out .entry)) .answer) × (now (out .exit) ≡ wrote (headerBytes header) (now (out .entry)) .buffer) ⌝ }
+    ensures { λ r. ⌜ (writtenReply r ≡ wrote (headerBytes header) (now (out .entry)) .answer) × (now (out .exit) ≡ wrote (headerBytes header) (now (out .entry)) .buffer) ⌝ }
 {
     let loads = header.loads;
     let stores = header.stores;
@@ -279,8 +279,8 @@ pub struct Reader<'a> {
 impl<'a> Reader<'a> {
     // Yields one event, and moves past it; it stays at the end and where it is refused.
     pub fn step(&mut self) -> EventRead
-        ensures { λ x. ⌜ (x ≡ stepAt (now (now (self .entry) .bytes)) (now (self .entry) .at) .read)
-            × (now (self .exit) ≡ movedTo (now (self .entry)) (stepAt (now (now (self .entry) .bytes)) (now (self .entry) .at) .next)) ⌝ }
+        ensures { λ x. ⌜ (eventReply x ≡ eventAt (now (now (self .entry) .bytes)) (now (self .entry) .at))
+            × (now (self .exit) ≡ movedTo (now (self .entry)) (placeAfter (now (self .entry) .at) (eventAt (now (now (self .entry) .bytes)) (now (self .entry) .at)))) ⌝ }
     {
         let stepped = step_at(self.bytes, self.at);
         self.at = stepped.next;

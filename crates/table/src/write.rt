@@ -3,7 +3,7 @@ ghost use mathlib.Core.Path.{_≡_};
 ghost use Prim.Native.Nat.{_+_, _≤_};
 ghost use lib.ListN.{length};
 ghost use Rattle.table.specs.Basics.{flat, splice};
-ghost use Rattle.table.specs.Number.{bytesOf};
+ghost use Rattle.table.specs.Number.{bytesOf, writtenReply};
 ghost use Rattle.table.specs.Group.{listOf, pairsOf, Inside};
 ghost use Rattle.table.specs.Table.{groupsIn, groupsOf};
 ghost use Rattle.table.specs.TableBytes.{pairNumbers, groupNumbers, tableNumbers, wroteTable};
@@ -129,7 +129,7 @@ fn put_table<'a>(
 
 // Writes a table at the front of a buffer: 4, 5, 8, 6, 7, then 10.
 pub fn write_table(table: Table, out: &mut [u8]) -> Written
-    ensures { λ r. ⌜ (r ≡ wroteTable (groupsOf table) (now (out .entry)) .answer) × (now (out .exit) ≡ wroteTable (groupsOf table) (now (out .entry)) .buffer) ⌝ }
+    ensures { λ r. ⌜ (writtenReply r ≡ wroteTable (groupsOf table) (now (out .entry)) .answer) × (now (out .exit) ≡ wroteTable (groupsOf table) (now (out .entry)) .buffer) ⌝ }
 {
     let fault = table_fault(table);
     if fault != 0 {

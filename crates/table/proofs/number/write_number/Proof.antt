@@ -4,8 +4,7 @@ use mathlib.Core.Path.{_≡_, refl, ap}
 use native.Mathlib.Omega.{arith}
 use lib.ListN.{length}
 use borrow.Author.Needs.{needs}
-use Rattle.table.specs.declared.Written.the-variants.{Bytes}
-use Rattle.table.specs.Number.{numberBytes}
+use Rattle.table.specs.Number.{accepts, numberBytes}
 use Rattle.table.proofs.SpliceLaws.{wrote-short, wrote-fits}
 use Rattle.table.proofs.number.write_number.Statement.{statement}
 use Rattle.table.proofs.number.write_number.Tie as tie
@@ -32,7 +31,7 @@ same-length c = search needs
 returns-2 : tie.Need-returns-2
 returns-2 c =
     let e = c .before .before .before .before in
-    rw (wrote-fits (numberBytes (e .before .before .before .args .value)) (e .before .before .before .args .out .now) (fits e)) (ap Bytes (long (e .before)), c .before .before .put-number .ensures .1)
+    rw (wrote-fits (numberBytes (e .before .before .before .args .value)) (e .before .before .before .args .out .now) (fits e)) (ap accepts (long (e .before)), c .before .before .put-number .ensures .1)
 
 pub write-number-spec : {M : Type 1} → statement M
 write-number-spec =

@@ -7,7 +7,7 @@ use lib.ListN.{length, drop}
 use borrow.Author.Tests.{not-true, not-false}
 use Rattle.table.specs.Table.{loadRule, pairsFault, countsRight}
 use Rattle.table.specs.TableBytes.{readPairs}
-use Rattle.table.specs.Internal.{twoRefusal, seenOf, group-none, group-found}
+use Rattle.table.specs.Internal.{twoReply, twoRefusal, seenOf, group-none, group-found}
 use Rattle.table.proofs.CheckLaws.{counts-few, rising-checked}
 use Rattle.table.proofs.ReadLaws.{TwoGot, two-answer, two-bad, two-refused, pairs-bad, PairsGot, pairs-got, read-right, group-refused, group-counts-bad, group-loads-bad, group-stores-bad, group-read, same-stores, group-made}
 use borrow.Author.Needs.{needs}
@@ -15,7 +15,7 @@ use Rattle.table.proofs.read.read_group.Statement.{statement}
 use Rattle.table.proofs.read.read_group.Tie as tie
 
 counts : (c : tie.After-read) → TwoGot (c .before .before .before .before .args .bytes .now) (c .before .before .before .before .args .at) (c .read .given .0 .0) (c .read .given .0 .1 .0) (c .read .given .0 .1 .1 .0)
-counts c = two-answer _ _ (sym (c .read .given .1) ∙ c .before .before .read-two .ensures)
+counts c = two-answer _ _ (sym (ap twoReply (c .read .given .1)) ∙ c .before .before .read-two .ensures)
 
 right : (c : tie.Else1) → countsRight (c .before .before .before .read .given .0 .0) (c .before .before .before .read .given .0 .1 .0) ≡ true
 right c = sym (c .before .counts-right .ensures) ∙ not-false _ (c .if1 .left)
@@ -41,7 +41,7 @@ no-group-requires c κs = search needs
 returns : tie.Need-returns
 returns c =
     let t = c .before .before in
-    let e = two-bad (t .before .before .before .before .args .bytes .now) (t .before .before .before .before .args .at) (sym (t .enum-told .given .1) ∙ t .before .before .read-two .ensures) in
+    let e = two-bad (t .before .before .before .before .args .bytes .now) (t .before .before .before .before .args .at) (sym (ap twoReply (t .enum-told .given .1)) ∙ t .before .before .read-two .ensures) in
     rw (group-refused _ _ e) (group-none (record { is = c .no-group .ensures ∙ c .before .two-refusal .ensures ∙ ap twoRefusal (t .enum-told .given .1); some = two-refused _ e }))
 
 counts-right-requires : tie.Need-counts-right-requires

@@ -10,7 +10,7 @@ use Rattle.table.specs.Packed.{SmallPair}
 use Rattle.table.specs.Group.{listOf}
 use Rattle.table.specs.Table.{pairFault}
 use Rattle.table.specs.TableBytes.{pair}
-use Rattle.table.specs.Internal.{ruleOf, front, twoRefusal}
+use Rattle.table.specs.Internal.{ruleOf, front, twoReply, twoRefusal}
 use Rattle.table.proofs.CheckLaws.{fault-none, rule-small}
 use Rattle.table.proofs.ReadLaws.{TwoGot, two-answer, two-bad, two-refused, Reading, reading-none, reading-refused, reading-fault, reading-more, reading-end, packed, held-pairs, pairs-refused, pairs-found}
 use Rattle.table.proofs.read.read_pairs.Statement.{statement}
@@ -51,7 +51,7 @@ returns : tie.Need-returns Inv-loop μ-loop
 returns c =
     let t = c .before .before in
     let l = t .before .before .before in
-    let e = two-bad (start (l .before) .args .bytes .now) (l .before .loop .place) (sym (t .enum-told .given .1) ∙ t .before .before .read-two .ensures) in
+    let e = two-bad (start (l .before) .args .bytes .now) (l .before .loop .place) (sym (ap twoReply (t .enum-told .given .1)) ∙ t .before .before .read-two .ensures) in
     pairs-refused (reading-refused (l .before .loop .inv .1) (l .loop-test .taken) e) (c .no-pairs-read .ensures ∙ c .before .two-refusal .ensures ∙ ap twoRefusal (t .enum-told .given .1)) (two-refused _ e)
 
 offset-right-requires : tie.Need-offset-right-requires Inv-loop μ-loop
@@ -61,7 +61,7 @@ pair-fault-requires : tie.Need-pair-fault-requires Inv-loop μ-loop
 pair-fault-requires c κs = search needs
 
 two : (c : tie.After-read Inv-loop μ-loop) → TwoGot (start (c .before .before .before .before) .args .bytes .now) (c .before .before .before .before .loop .place) (c .read .given .0 .0) (c .read .given .0 .1 .0) (c .read .given .0 .1 .1 .0)
-two c = two-answer _ _ (sym (c .read .given .1) ∙ c .before .before .read-two .ensures)
+two c = two-answer _ _ (sym (ap twoReply (c .read .given .1)) ∙ c .before .before .read-two .ensures)
 
 -- the pair's offset by the rule, and its fault
 abbrev rightOf : tie.After-read Inv-loop μ-loop → Bool

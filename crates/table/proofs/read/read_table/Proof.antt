@@ -6,7 +6,7 @@ use lib.ListN.{length, drop, length-drop}
 use borrow.Author.Tests.{le-leb, lt-leb, eq-eqb, ne-eqb}
 use Rattle.table.specs.declared.Table.{Table}
 use Rattle.table.specs.declared.TableRead.{TableRead}
-use Rattle.table.specs.Number.{got, bad, readNumber, numberRefusal}
+use Rattle.table.specs.Number.{got, bad, readNumber, numberReply, numberRefusal}
 use Rattle.table.specs.Table.{noneSeen}
 use Rattle.table.specs.TableBytes.{readGroups, readTable}
 use Rattle.table.proofs.NumberLaws.{NumberGot, number-got, number-bad}
@@ -34,7 +34,7 @@ abbrev accepted : Table → TableRead
 accepted t = record { answer = 0; table = t }
 
 fields-got : (c : tie.After-read) → NumberGot (c .before .before .before .before .args .bytes .now) 0 (c .read .given .0 .0) (c .read .given .0 .1 .0)
-fields-got c = number-got _ _ (sym (c .read .given .1) ∙ c .before .before .read-number .ensures)
+fields-got c = number-got _ _ (sym (ap numberReply (c .read .given .1)) ∙ c .before .before .read-number .ensures)
 
 fields-are : (c : tie.After-read) → readNumber (c .before .before .before .before .args .bytes .now) ≡ got (c .read .given .0 .0) (drop (c .read .given .0 .1 .0) (c .before .before .before .before .args .bytes .now))
 fields-are c = fields-got c .is
@@ -43,7 +43,7 @@ returns : tie.Need-returns
 unfolding readTable
 returns c =
     let t = c .before .before in
-    let e : readNumber (t .before .before .before .before .args .bytes .now) ≡ bad (t .enum-told .given .0 .0) = number-bad (t .before .before .before .before .args .bytes .now) 0 (sym (t .enum-told .given .1) ∙ t .before .before .read-number .ensures) in
+    let e : readNumber (t .before .before .before .before .args .bytes .now) ≡ bad (t .enum-told .given .0 .0) = number-bad (t .before .before .before .before .args .bytes .now) 0 (sym (ap numberReply (t .enum-told .given .1)) ∙ t .before .before .read-number .ensures) in
     rw (c .refused .ensures, c .before .number-refusal .ensures ∙ ap numberRefusal (t .enum-told .given .1), e)
 
 refused-requires-2 : tie.Need-refused-requires-2
@@ -71,7 +71,7 @@ refused-requires-3 : tie.Need-refused-requires-3
 refused-requires-3 c κs = search needs
 
 count-got : (c : tie.After-read2) → NumberGot (c .before .before .before .before .before .before .before .before .before .args .bytes .now) (c .before .before .before .before .before .read .given .0 .1 .0) (c .read2 .given .0 .0) (c .read2 .given .0 .1 .0)
-count-got c = number-got _ _ (sym (c .read2 .given .1) ∙ c .before .before .read-number2 .ensures)
+count-got c = number-got _ _ (sym (ap numberReply (c .read2 .given .1)) ∙ c .before .before .read-number2 .ensures)
 
 returns-3 : tie.Need-returns-3
 unfolding readTable
@@ -79,7 +79,7 @@ returns-3 c =
     let t = c .before .before in
     let r = t .before .before in
     let g = r .before .before .before in
-    rw (c .refused3 .ensures, c .before .number-refusal2 .ensures ∙ ap numberRefusal (t .enum-told2 .given .1), fields-are g, eq-eqb _ _ (r .before .if1 .left), number-bad _ _ (sym (t .enum-told2 .given .1) ∙ r .read-number2 .ensures))
+    rw (c .refused3 .ensures, c .before .number-refusal2 .ensures ∙ ap numberRefusal (t .enum-told2 .given .1), fields-are g, eq-eqb _ _ (r .before .if1 .left), number-bad _ _ (sym (ap numberReply (t .enum-told2 .given .1)) ∙ r .read-number2 .ensures))
 
 refused-requires-4 : tie.Need-refused-requires-4
 refused-requires-4 c κs = search needs

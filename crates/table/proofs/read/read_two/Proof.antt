@@ -1,5 +1,5 @@
 use mathlib.Core.Path.{sym, ap, _∙_}
-use Rattle.table.specs.Number.{numberRefusal}
+use Rattle.table.specs.Number.{numberReply, numberRefusal}
 use Rattle.table.specs.Internal.{readTwo}
 use Rattle.table.proofs.NumberLaws.{place-drop, NumberGot, number-got, number-bad}
 use borrow.Author.Needs.{needs}
@@ -19,11 +19,11 @@ number-refusal-requires : tie.Need-number-refusal-requires
 number-refusal-requires c κs = search needs
 
 first-got : (c : tie.After-read) → NumberGot (c .before .before .before .before .args .bytes .now) (c .before .before .before .before .args .at) (c .read .given .0 .0) (c .read .given .0 .1 .0)
-first-got c = number-got _ _ (sym (c .read .given .1) ∙ c .before .before .read-number .ensures)
+first-got c = number-got _ _ (sym (ap numberReply (c .read .given .1)) ∙ c .before .before .read-number .ensures)
 
 returns : tie.Need-returns
 unfolding readTwo
-returns c = rw (c .number-refusal .ensures ∙ ap numberRefusal (c .before .enum-told .given .1), number-bad _ _ (sym (c .before .enum-told .given .1) ∙ c .before .before .before .read-number .ensures))
+returns c = rw (c .number-refusal .ensures ∙ ap numberRefusal (c .before .enum-told .given .1), number-bad _ _ (sym (ap numberReply (c .before .enum-told .given .1)) ∙ c .before .before .before .read-number .ensures))
 
 read-number-requires-2 : tie.Need-read-number-requires-2
 read-number-requires-2 c κs = search needs
@@ -38,11 +38,11 @@ number-refusal-requires-2 : tie.Need-number-refusal-requires-2
 number-refusal-requires-2 c κs = search needs
 
 second-got : (c : tie.After-read2) → NumberGot (c .before .before .before .before .before .before .before .before .args .bytes .now) (c .before .before .before .before .read .given .0 .1 .0) (c .read2 .given .0 .0) (c .read2 .given .0 .1 .0)
-second-got c = number-got _ _ (sym (c .read2 .given .1) ∙ c .before .before .read-number2 .ensures)
+second-got c = number-got _ _ (sym (ap numberReply (c .read2 .given .1)) ∙ c .before .before .read-number2 .ensures)
 
 returns-2 : tie.Need-returns-2
 unfolding readTwo
-returns-2 c = rw (c .number-refusal2 .ensures ∙ ap numberRefusal (c .before .enum-told2 .given .1), first-got (c .before .before .before .before .before) .is, number-bad _ _ (sym (c .before .enum-told2 .given .1) ∙ c .before .before .before .read-number2 .ensures))
+returns-2 c = rw (c .number-refusal2 .ensures ∙ ap numberRefusal (c .before .enum-told2 .given .1), first-got (c .before .before .before .before .before) .is, number-bad _ _ (sym (ap numberReply (c .before .enum-told2 .given .1)) ∙ c .before .before .before .read-number2 .ensures))
 
 returns-3 : tie.Need-returns-3
 unfolding readTwo

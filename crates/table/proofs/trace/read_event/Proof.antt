@@ -1,5 +1,5 @@
 use mathlib.Core.Path.{sym, ap, _∙_}
-use Rattle.table.specs.Number.{numberRefusal}
+use Rattle.table.specs.Number.{numberReply, numberRefusal}
 use Rattle.table.specs.Event.{readEvent}
 use Rattle.table.proofs.NumberLaws.{NumberGot, number-got, number-bad}
 use Rattle.table.proofs.TraceLaws.{event-at-end, event-at-inside}
@@ -29,13 +29,13 @@ number-refusal-requires c κs = search needs
 
 -- src/trace.rt:143:9
 kind-got : (c : tie.After-read) → NumberGot (c .before .before .before .before .before .args .bytes .now) (c .before .before .before .before .before .args .at) (c .read .given .0 .0) (c .read .given .0 .1 .0)
-kind-got c = number-got _ _ (sym (c .read .given .1) ∙ c .before .before .read-number .ensures)
+kind-got c = number-got _ _ (sym (ap numberReply (c .read .given .1)) ∙ c .before .before .read-number .ensures)
 
 returns-2 : tie.Need-returns-2
 unfolding readEvent
 returns-2 c =
     let r = c .before .before .before in
-    rw (event-at-inside _ _ (r .before .if1 .left), c .number-refusal .ensures ∙ ap numberRefusal (c .before .enum-told .given .1), number-bad _ _ (sym (c .before .enum-told .given .1) ∙ r .read-number .ensures))
+    rw (event-at-inside _ _ (r .before .if1 .left), c .number-refusal .ensures ∙ ap numberRefusal (c .before .enum-told .given .1), number-bad _ _ (sym (ap numberReply (c .before .enum-told .given .1)) ∙ r .read-number .ensures))
 
 -- src/trace.rt:145:5
 read-kind-requires : tie.Need-read-kind-requires

@@ -1,7 +1,7 @@
 -- What follows a kind is read number by number: `got` and `bad` say of each number what the call that read it found.
 use mathlib.Core.Path.{sym, ap, _∙_}
 use borrow.Author.Tests.{le-leb, lt-leb}
-use Rattle.table.specs.Number.{numberRefusal}
+use Rattle.table.specs.Number.{numberReply, numberRefusal}
 use Rattle.table.proofs.NumberLaws.{place-drop, NumberGot, number-got, number-bad}
 use borrow.Author.Needs.{needs}
 use Rattle.table.proofs.trace.read_kind.Statement.{statement}
@@ -29,12 +29,12 @@ number-refusal-requires c κs = search needs
 
 -- src/trace.rt:111:9
 first-got : (c : tie.After-read) → NumberGot (c .before .before .before .before .before .args .bytes .now) (c .before .before .before .before .before .args .at) (c .read .given .0 .0) (c .read .given .0 .1 .0)
-first-got c = number-got _ _ (sym (c .read .given .1) ∙ c .before .before .read-number .ensures)
+first-got c = number-got _ _ (sym (ap numberReply (c .read .given .1)) ∙ c .before .before .read-number .ensures)
 
 returns-2 : tie.Need-returns-2
 returns-2 c =
     let r = c .before .before .before in
-    rw (c .number-refusal .ensures ∙ ap numberRefusal (c .before .enum-told .given .1), le-leb _ _ (r .before .if1 .left), number-bad _ _ (sym (c .before .enum-told .given .1) ∙ r .read-number .ensures))
+    rw (c .number-refusal .ensures ∙ ap numberRefusal (c .before .enum-told .given .1), le-leb _ _ (r .before .if1 .left), number-bad _ _ (sym (ap numberReply (c .before .enum-told .given .1)) ∙ r .read-number .ensures))
 
 -- src/trace.rt:114:33
 event-of-requires : tie.Need-event-of-requires
@@ -74,13 +74,13 @@ number-refusal-requires-2 c κs = search needs
 
 -- src/trace.rt:125:9
 second-got : (c : tie.After-read2) → NumberGot (c .before .before .before .before .before .before .before .before .before .before .before .args .bytes .now) (c .before .before .before .before .before .before .read .given .0 .1 .0) (c .read2 .given .0 .0) (c .read2 .given .0 .1 .0)
-second-got c = number-got _ _ (sym (c .read2 .given .1) ∙ c .before .before .read-number2 .ensures)
+second-got c = number-got _ _ (sym (ap numberReply (c .read2 .given .1)) ∙ c .before .before .read-number2 .ensures)
 
 returns-5 : tie.Need-returns-5
 returns-5 c =
     let r = c .before .before .before in
     let g = r .before .before .before .before in
-    rw (c .number-refusal2 .ensures ∙ ap numberRefusal (c .before .enum-told2 .given .1), le-leb _ _ (g .before .before .before .if1 .left), first-got g .is, le-leb _ _ (r .before .before .if2 .left), le-leb _ _ (r .before .if3 .left), number-bad _ _ (sym (c .before .enum-told2 .given .1) ∙ r .read-number2 .ensures))
+    rw (c .number-refusal2 .ensures ∙ ap numberRefusal (c .before .enum-told2 .given .1), le-leb _ _ (g .before .before .before .if1 .left), first-got g .is, le-leb _ _ (r .before .before .if2 .left), le-leb _ _ (r .before .if3 .left), number-bad _ _ (sym (ap numberReply (c .before .enum-told2 .given .1)) ∙ r .read-number2 .ensures))
 
 -- src/trace.rt:127:22
 event-of-requires-3 : tie.Need-event-of-requires-3

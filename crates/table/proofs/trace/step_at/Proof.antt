@@ -1,4 +1,5 @@
-use mathlib.Core.Path.{sym, _∙_}
+use mathlib.Core.Path.{sym, ap, _∙_}
+use Rattle.table.specs.Event.{eventReply, placeAfter}
 use borrow.Author.Needs.{needs}
 use Rattle.table.proofs.trace.step_at.Statement.{statement}
 use Rattle.table.proofs.trace.step_at.Tie as tie
@@ -21,15 +22,22 @@ enum-told-2 c = search needs
 
 -- src/trace.rt:149:1
 returns : tie.Need-returns
-returns c = rw (sym (c .before .before .before .read-event .ensures) ∙ c .before .read .given .1)
+returns c =
+    let r = c .before .before .before in
+    let e = sym (ap eventReply (c .before .read .given .1)) ∙ r .read-event .ensures in
+    record { read = e; next = ap (placeAfter (r .before .before .args .at)) e }
 
 -- src/trace.rt:149:1
 returns-2 : tie.Need-returns-2
-returns-2 c = rw (c .before .before .read-event .ensures, sym (c .before .before .read-event .ensures) ∙ c .enum-told .given .1)
+returns-2 c =
+    let r = c .before .before in
+    record { read = r .read-event .ensures; next = ap (placeAfter (r .before .before .args .at)) (sym (ap eventReply (c .enum-told .given .1)) ∙ r .read-event .ensures) }
 
 -- src/trace.rt:149:1
 returns-3 : tie.Need-returns-3
-returns-3 c = rw (c .before .before .read-event .ensures, sym (c .before .before .read-event .ensures) ∙ c .enum-told2 .given .1)
+returns-3 c =
+    let r = c .before .before in
+    record { read = r .read-event .ensures; next = ap (placeAfter (r .before .before .args .at)) (sym (ap eventReply (c .enum-told2 .given .1)) ∙ r .read-event .ensures) }
 
 pub step-at-spec : {M : Type 1} → statement M
 step-at-spec =

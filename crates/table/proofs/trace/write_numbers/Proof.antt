@@ -1,7 +1,6 @@
 use mathlib.Core.Path.{refl, ap}
 use native.Mathlib.Omega.{arith}
-use Rattle.table.specs.declared.Written.the-variants.{Bytes}
-use Rattle.table.specs.Number.{bytesOf}
+use Rattle.table.specs.Number.{accepts, bytesOf}
 use Rattle.table.specs.Internal.{listed}
 use Rattle.table.proofs.SpliceLaws.{wrote-short, wrote-fits}
 use borrow.Author.Needs.{needs}
@@ -28,7 +27,7 @@ same-length c = search needs
 returns-2 : tie.Need-returns-2
 returns-2 c =
     let e = c .before .before .before .before in
-    rw (wrote-fits (bytesOf (listed (e .before .before .before .args .numbers))) (e .before .before .before .args .out .now) (omega arith)) (ap Bytes (e .before .numbers-length .ensures), c .before .before .put-numbers .ensures)
+    rw (wrote-fits (bytesOf (listed (e .before .before .before .args .numbers))) (e .before .before .before .args .out .now) (omega arith)) (ap accepts (e .before .numbers-length .ensures), c .before .before .put-numbers .ensures)
 
 pub write-numbers-spec : {M : Type 1} → statement M
 write-numbers-spec =

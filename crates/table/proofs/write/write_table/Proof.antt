@@ -3,7 +3,7 @@ use Prim.Native.Nat.{_≤_}
 use mathlib.Core.Path.{_≡_, refl, sym, ap, _∙_}
 use native.Mathlib.Omega.{arith}
 use borrow.Author.Tests.{eq-eqb, ne-eqb}
-use Rattle.table.specs.declared.Written.the-variants.{Bytes}
+use Rattle.table.specs.Number.{accepts}
 use Rattle.table.specs.Table.{groupsOf, tableFault}
 use Rattle.table.specs.TableBytes.{tableBytes, wroteTable}
 use Rattle.table.proofs.CheckLaws.{groups-size}
@@ -56,7 +56,7 @@ returns-3 c =
     let l = p .before .before .before .before .before .before .before in
     let e = l .before .before .before .before .before in
     let a = e .before .before .before .args in
-    rw (eq-eqb (tableFault (groupsOf (a .t1))) 0 (right e), wrote-fits (tableBytes (groupsOf (a .t1))) (a .out .now) (omega (arith, l .table-length .ensures))) (ap Bytes (l .table-length .ensures), p .put-table .ensures)
+    rw (eq-eqb (tableFault (groupsOf (a .t1))) 0 (right e), wrote-fits (tableBytes (groupsOf (a .t1))) (a .out .now) (omega (arith, l .table-length .ensures))) (ap accepts (l .table-length .ensures), p .put-table .ensures)
 
 pub write-table-spec : {M : Type 1} → statement M
 write-table-spec =

@@ -42,7 +42,7 @@ use denote.Triple.Spec.{Meets, tripleOf}
 use denote.Triple.Table.{entered, cited}
 use denote.Triple.Walked.{says, Stays, stay-ref, walkOf, goes-ref, Walks, ends-at, walked, walk-meets}
 use denote.Triple.Clauses.{ensured, lasts}
-use Rattle.table.specs.Event.{stepAt}
+use Rattle.table.specs.Event.{Steps}
 use Rattle.table.specs.Reader.{movedTo}
 use Rattle.table.specs.declared.trace.Reader.{Reader}
 use Rattle.table.specs.declared.Stepped.{Stepped}
@@ -101,8 +101,9 @@ module _ {M : Type 1} (𝓤 : URA M) (H : Heap 𝓤) (A : Atoms 𝓤) (W : Given
   abbrev mach : Val
   mach = T′.lowered h
 
-  abbrev found : Stepped
-  found = stepAt (h .bytes .now) (h .at)
+  -- what the callee promises of its answer
+  abbrev Found : Stepped → Type 0
+  Found k = Steps (h .bytes .now) (h .at) k
 
   abbrev Post : Val → SProp 𝓤
   Post = walkOf 𝓤 H A step.ended stayed (step.clauses 𝓤 H A at-mem run) .post (((κ, (κ′, tt)), (q, (q′, tt)), bounds, x, at), tt)
@@ -120,19 +121,19 @@ module _ {M : Type 1} (𝓤 : URA M) (H : Heap 𝓤) (A : Atoms 𝓤) (W : Given
   goes : ent 𝓤 (⋆ 𝓤 H A ((‵ (flft κ′ q′) ⊛ ‵ ftrue) ∷ ‵ (owns (ShrSlice (named 0) κ′ u8 ∷ usize ∷ []) (h .bytes, (h .at, tt)) passed) ∷ [])) (Inner 𝓤 H A at-mem run .pre to)
   goes = qed W ((‵ (flft κ′ q′) ⊛ ‵ ftrue) ∷ ‵ (owns (ShrSlice (named 0) κ′ u8 ∷ usize ∷ []) (h .bytes, (h .at, tt)) passed) ∷ []) ∵ join ! $ frame ! $ done !
 
-  said : (k : Stepped) → ent 𝓤 (ensured 𝓤 H A inner.ended (inner.clauses 𝓤 H A at-mem run) (κ′, tt) (h .bytes, (h .at, tt)) tt k) (fact 𝓤 (k ≡ found))
-  said k = exE 𝓤 _ (λ ws. snd∗ 𝓤 (sem 𝓤 H A (lasts inner.ended (κ′, tt) (h .bytes, (h .at, tt)) ws)) (fact 𝓤 (k ≡ found)))
+  said : (k : Stepped) → ent 𝓤 (ensured 𝓤 H A inner.ended (inner.clauses 𝓤 H A at-mem run) (κ′, tt) (h .bytes, (h .at, tt)) tt k) (fact 𝓤 (Found k))
+  said k = exE 𝓤 _ (λ ws. snd∗ 𝓤 (sem 𝓤 H A (lasts inner.ended (κ′, tt) (h .bytes, (h .at, tt)) ws)) (fact 𝓤 (Found k)))
 
   -- what bytes owns is kept, and at's facts are made anew
   again : (n : ℕ) → n < 2 ^ 64 → ent 𝓤 (sem 𝓤 H A Own) (sem 𝓤 H A (B κ′ .own (movedTo h n) (T′.lowered (movedTo h n) ∷ [])))
   again n ok = qed W (‵ Own ∷ []) ∵ owned ! usize (Is usize) (uint-makes 𝓤 H A W w64) n _ (refl, ok) $ move ! (1 ∷ 0 ∷ []) $ by ! (own-put 𝓤 H A W (T.the-type (α κ′)) (T′.the-laws (α κ′)) 1 (h .bytes, (h .at, tt)) n mach)
 
-  exits : (k : Stepped) → Is S.the-row (k .read) (rval k ∷ []) → k ≡ found
+  exits : (k : Stepped) → Is S.the-row (k .read) (rval k ∷ []) → Found k
       → ent 𝓤 (⋆ 𝓤 H A (‵ (fobs γ (B κ′ .coded .code (movedTo h (k .next)))) ∷ ‵ (fbor κ (Body (mem (B κ′)) b o γ)) ∷ ‵ (flft κ q) ∷ (‵ (flft κ′ q′) ⊛ ‵ ftrue) ∷ [])) (Post (rval k))
   exits k r-is e =
       qed W (‵ (fobs γ (B κ′ .coded .code (movedTo h (k .next)))) ∷ ‵ (fbor κ (Body (mem (B κ′)) b o γ)) ∷ ‵ (flft κ q) ∷ (‵ (flft κ′ q′) ⊛ ‵ ftrue) ∷ []) ∵
       suffices ! _ (ends-at 𝓤 H A step.ended stayed (step.clauses 𝓤 H A at-mem run) W (((κ, (κ′, tt)), (q, (q′, tt)), bounds, x, at), tt) (rval k) (k .read) (movedTo h (k .next), tt) (tt, tt)) $
-      says ! (ap (λ (j : Stepped). j .read) e, ap (λ (j : Stepped). movedTo h (j .next)) e) $
+      says ! (e .read, ap (movedTo h) (e .next)) $
       move ! (2 ∷ 3 ∷ []) $ join ! $ frame ! $ feqI ! (List Val) (vptr b o ∷ []) (vptr b o ∷ []) refl $ fjoin3 ! $ nothing ! $ move ! (1 ∷ 0 ∷ []) $ fjoin ! $
       owned ! S.the-row (Is S.the-row) (EL.makes S.the-type S′.the-plain 𝓤 H A) (k .read) _ r-is $ move ! (1 ∷ 0 ∷ []) $ done !
 
@@ -154,7 +155,7 @@ module _ {M : Type 1} (𝓤 : URA M) (H : Heap 𝓤) (A : Atoms 𝓤) (W : Given
         -- [pre; what a Reader owns; the struct's cell; the open borrow; obs; auth; true; _4 at 7; …]
         calls-at ! fm (Inner 𝓤 H A at-mem run) known to (and-then ! (load ! (from ! (stop !)) (look ! 9 refl)) (and-then ! (load ! (from ! (stop !)) (look ! 7 refl)) (no-more !))) (λ u.
         use1 W (later (some (λ (k : Stepped). ((‵ (flft κ′ q′) ⊛ ‵ ftrue) ⊛ ‵ (K.the-row .own k (u ∷ []))) ⊛ raw (ensured 𝓤 H A inner.ended (inner.clauses 𝓤 H A at-mem run) (κ′, tt) (h .bytes, (h .at, tt)) tt k)))) (id⊢ 𝓤 _) $ await ! tt $ pick ! (λ k.
-        split ! $ move ! (1 ∷ []) $ use1 W (raw (fact 𝓤 (k ≡ found))) (said k) $ heard ! (k ≡ found) (λ e. split ! $ move ! (1 ∷ []) $
+        split ! $ move ! (1 ∷ []) $ use1 W (raw (fact 𝓤 (Found k))) (said k) $ heard ! (Found k) (λ e. split ! $ move ! (1 ∷ []) $
         peeks ! K.the-row (Is K.the-row) (shows 𝓤 H A K.the-row) k (u ∷ []) (λ is. drop ! $
         -- ['a's tokens; what a Reader owns; the struct's cell; the open borrow; obs; auth; true; _4 at 7; …]
         land ! (from ! (stop !)) (init ! 11 refl (LL.lawful K.the-type K′.the-laws 𝓤 H A W .typed k _ is .0)) $ rewrite ! 11 (λ (w : Val). ‵ (fat fullShare K′.mir l₂ 0 w)) (ap only (LL.tells K.the-type K′.the-laws k _ is)) refl $

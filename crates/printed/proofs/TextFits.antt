@@ -84,7 +84,7 @@ step-long p (StoreAddress q a) = moved-long (p .machine) (give Argument.StoreAdd
 step-long p (StoreData q w) = moved-long (p .machine) (give Argument.StoreData (p .machine .queue) q w)
 step-long p (Serve s) = served-long (p .machine) (serve (p .machine .queue) (p .machine .memory) s)
 step-long p (Write s) = written-long (p .machine) (write (p .machine .queue) (p .machine .memory) s) (write-keeps (p .machine .queue) (p .machine .memory) s)
-step-long p (Take q) = taken-long (p .machine) (Takes.take (p .machine .queue) q)
+step-long p (Take q) = taken-long (p .machine) (Takes.takeRule (p .machine .queue) q)
 
 played-long : (p : Playing) (es : List Event) → length (playedAll p es .machine .memory) ≡ length (p .machine .memory)
 played-long p [] = refl

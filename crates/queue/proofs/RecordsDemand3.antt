@@ -200,11 +200,12 @@ frames-demand3 table loadDepth storeDepth first memory o serial opens accepted l
     })
 
 pub alike-records : AlikeRecords
-alike-records table memory o₁ o₂ w₁ w₂ calls₁ calls₂ log₁ log₂ q₁ q₂ left₁ left₂ run₁ run₂ =
+alike-records table₁ table₂ same memory o₁ o₂ w₁ w₂ calls₁ calls₂ log₁ log₂ q₁ q₂ left₁ left₂ run₁ run₂ =
     let a = runs-agree run₁ in
     let b = runs-agree run₂ in
+    let w : Opening (groupsOf table₁) memory (machineOf (o₂ .queue) memory) = rw same (opening w₂) in
     rw (← a .says, ← b .says)
-    (alike (groupsOf table) memory (machineOf (o₁ .queue) memory) (machineOf (o₂ .queue) memory) (opening w₁) (opening w₂) calls₁ calls₂)
+    (alike (groupsOf table₁) memory (machineOf (o₁ .queue) memory) (machineOf (o₂ .queue) memory) (opening w₁) w calls₁ calls₂)
 
 pub records-sound : RecordsSound
 records-sound table memory o w calls log q left run =

@@ -122,10 +122,12 @@ FramesDemand3 =
     (fill : Filling) → ((k : ℕ) → fill .address k < length memory) →
     Sequential (groupsOf table) memory log (machineOf q left) fill
 
--- The corollary for two lists, of records.
+-- The corollary for two lists, of records: "two lists alike in table", so of tables that mean the same groups, whatever else
+-- their records hold.
 abbrev pub AlikeRecords : Type 0
 AlikeRecords =
-    (table : Table) (memory : List ℕ) (o₁ o₂ : Opened) → OpenedRecord table memory o₁ → OpenedRecord table memory o₂ →
+    (table₁ table₂ : Table) → groupsOf table₁ ≡ groupsOf table₂ →
+    (memory : List ℕ) (o₁ o₂ : Opened) → OpenedRecord table₁ memory o₁ → OpenedRecord table₂ memory o₂ →
     (calls₁ calls₂ : List Call) (log₁ log₂ : List Answered) (q₁ q₂ : Queue) (left₁ left₂ : List ℕ) →
     Runs (o₁ .queue) memory calls₁ log₁ q₁ left₁ → Runs (o₂ .queue) memory calls₂ log₂ q₂ left₂ → Alike (told log₁) (told log₂) →
     (port n v w : ℕ) → getElem? (takenAt port log₁) n ≡ some v → getElem? (takenAt port log₂) n ≡ some w → v ≡ w

@@ -18,6 +18,7 @@ use Rattle.queue.specs.declared.Opened.{Opened}
 use Rattle.queue.specs.declared.Counted.{Counted}
 use Rattle.queue.specs.declared.Readied.{Readied}
 use Rattle.queue.specs.declared.opening.OpenedFrame.{OpenedFrame}
+use Rattle.queue.specs.Ruled.{number}
 use Rattle.queue.specs.Contents.{contentsOf}
 use Rattle.queue.specs.Open.{openQueue}
 use Rattle.queue.specs.Activate.{activate}
@@ -25,10 +26,11 @@ use Rattle.queue.specs.Serve.{serve}
 use Rattle.queue.specs.Write.{write}
 use Rattle.queue.specs.Take.{takeRule}
 use Rattle.queue.specs.Outcome.{Moves, Takes, Serves, Writes, Opens}
-use Rattle.queue.specs.ReadyOutcome.{Readies}
+use Rattle.queue.specs.ServeLent.{withCounts, withoutCounts}
+use Rattle.queue.specs.ReadyOutcome.{Readies, Fronts}
 use Rattle.queue.specs.NoQueue.{freshFrame}
-use Rattle.queue.specs.Parts.{queueOf, OpensFrame}
-use Rattle.queue.specs.Calls.{Argument, Side, Call, Activate, Give, Serve, Write, Take, Ready}
+use Rattle.queue.specs.Parts.{queueOf, answered, OpensFrame}
+use Rattle.queue.specs.Calls.{Side, Call, Activate, Give, Serve, Write, Take, Ready}
 use Rattle.queue.specs.Call.{give, ready, Machine, Answered}
 use Rattle.queue.specs.Plain.{Filling}
 use Rattle.queue.specs.Sound.{sound}
@@ -39,18 +41,52 @@ valueIn (Word w) = some w
 valueIn Nothing = none
 
 -- a call with the answer and the value that it handed back
-abbrev pub answered : Call → ℕ → Value → Answered
-answered c n v = record { call = c; number = n; value = valueIn v }
+abbrev pub logged : Call → Outcome → Answered
+logged c r = record { call = c; number = r .answer; value = valueIn (r .value) }
+
+-- What each call hands over, as its contract says: its answer, its value and the queue that follows, and beside them the memory
+-- that it leaves. "A call that isn't lent the memory leaves it as it was." Of the counts that a serve leaves, and of the run of
+-- numbers that a ready call leaves, the next call is told nothing.
+abbrev pub Hands : Queue → List ℕ → Call → Outcome → List ℕ → Type 0
+Hands q m (Activate g) r left = Moves q (activate (contentsOf q) g) r × (left ≡ m)
+Hands q m (Give kind port x) r left = Moves q (give kind (contentsOf q) port x) r × (left ≡ m)
+Hands q m (Serve lent s) r left = ((counts : Counts) × Serves q lent (serve (contentsOf q) m s) (withCounts r counts)) × (left ≡ m)
+Hands q m (Write s) r left = Writes q m (write (contentsOf q) m s) r left
+Hands q m (Take p) r left = Takes q (takeRule (contentsOf q) p) r × (left ≡ m)
+Hands q m (Ready side run) r left = (r ≡ answered (number (ready side (contentsOf q) run)) q) × (left ≡ m)
 
 -- Calls on a queue and a memory, with their answers, up to the queue and the memory that they leave.
 pub data Runs : Queue → List ℕ → List Call → List Answered → Queue → List ℕ → Type 0 where
   done : {q : Queue} {m : List ℕ} → Runs q m [] [] q m
-  activates : {q q₂ : Queue} {m m₂ : List ℕ} {g : ℕ} {cs : List Call} {log : List Answered} (r : Outcome) → Moves q (activate (contentsOf q) g) r → Runs (r .queue) m cs log q₂ m₂ → Runs q m (Activate g ∷ cs) (answered (Activate g) (r .answer) (r .value) ∷ log) q₂ m₂
-  gives : {q q₂ : Queue} {m m₂ : List ℕ} {kind : Argument} {port x : ℕ} {cs : List Call} {log : List Answered} (r : Outcome) → Moves q (give kind (contentsOf q) port x) r → Runs (r .queue) m cs log q₂ m₂ → Runs q m (Give kind port x ∷ cs) (answered (Give kind port x) (r .answer) (r .value) ∷ log) q₂ m₂
-  serves : {q q₂ : Queue} {m m₂ : List ℕ} {c : Counts} {s : ℕ} {cs : List Call} {log : List Answered} (r : Counted) → Serves q c (serve (contentsOf q) m s) r → Runs (r .queue) m cs log q₂ m₂ → Runs q m (Serve c s ∷ cs) (answered (Serve c s) (r .answer) (r .value) ∷ log) q₂ m₂
-  writes : {q q₂ : Queue} {m m₁ m₂ : List ℕ} {s : ℕ} {cs : List Call} {log : List Answered} (r : Outcome) → Writes q m (write (contentsOf q) m s) r m₁ → Runs (r .queue) m₁ cs log q₂ m₂ → Runs q m (Write s ∷ cs) (answered (Write s) (r .answer) (r .value) ∷ log) q₂ m₂
-  takes : {q q₂ : Queue} {m m₂ : List ℕ} {p : ℕ} {cs : List Call} {log : List Answered} (r : Outcome) → Takes q (takeRule (contentsOf q) p) r → Runs (r .queue) m cs log q₂ m₂ → Runs q m (Take p ∷ cs) (answered (Take p) (r .answer) (r .value) ∷ log) q₂ m₂
-  readies : {q q₂ : Queue} {m m₂ : List ℕ} {side : Side} {run : List ℕ} {cs : List Call} {log : List Answered} (left : List ℕ) (r : Readied) → Readies q run (ready side (contentsOf q) run) r left → Runs (r .queue) m cs log q₂ m₂ → Runs q m (Ready side run ∷ cs) (answered (Ready side run) (r .answer) Nothing ∷ log) q₂ m₂
+  next : {q q₂ : Queue} {m m₁ m₂ : List ℕ} {c : Call} {cs : List Call} {log : List Answered} (r : Outcome)
+      → Hands q m c r m₁ → Runs (r .queue) m₁ cs log q₂ m₂ → Runs q m (c ∷ cs) (logged c r ∷ log) q₂ m₂
+
+-- Two calls serve, and two for each side tell what is ready; both contracts give the same premise. The contracts' own words
+-- stand before the last arrow: of `serve_counted`, of `serve`, of `ready_loads_into` and `ready_stores_into`, and of
+-- `ready_loads` and `ready_stores`. The proofs are in proofs/RecordsDemand3.antt.
+abbrev pub ServeCountedHands : Type 0
+ServeCountedHands =
+    (q : Queue) (m : List ℕ) (lent : Counts) (serial : ℕ) (r : Counted) →
+    Serves q lent (serve (contentsOf q) m serial) r →
+    Hands q m (Serve lent serial) (withoutCounts r) m
+
+abbrev pub ServeHands : Type 0
+ServeHands =
+    (q : Queue) (m : List ℕ) (lent left : Counts) (serial : ℕ) (r : Outcome) →
+    Serves q lent (serve (contentsOf q) m serial) (withCounts r left) →
+    Hands q m (Serve lent serial) r m
+
+abbrev pub ReadyIntoHands : Type 0
+ReadyIntoHands =
+    (q : Queue) (m run left : List ℕ) (side : Side) (r : Readied) →
+    Readies q run (ready side (contentsOf q) run) r left →
+    Hands q m (Ready side run) (answered (r .answer) (r .queue)) m
+
+abbrev pub ReadyHands : Type 0
+ReadyHands =
+    (q : Queue) (m run serials : List ℕ) (side : Side) (answer : ℕ) (queue : Queue) →
+    Fronts q (ready side (contentsOf q) run) answer serials queue →
+    Hands q m (Ready side run) (answered answer queue) m
 
 abbrev pub machineOf : Queue → List ℕ → Machine
 machineOf q m = record { queue = contentsOf q; memory = m }
@@ -77,20 +113,28 @@ RecordsDemand3 =
 abbrev pub FramesDemand3 : Type 0
 FramesDemand3 =
     (table : Table) (loadDepth storeDepth first : ℕ) (memory : List ℕ) (o : OpenedFrame) → first < 2 ^ 32 →
-    OpensFrame (freshFrame table loadDepth storeDepth first (length memory)) (openQueue (groupsOf table) loadDepth storeDepth first (length memory)) o → o .answer ≡ 0 →
-    (loads stores : List ℕ) (calls : List Call) (log : List Answered) (q : Queue) (left : List ℕ) → Runs (queueOf (o .frame) loads stores) memory calls log q left →
+    OpensFrame
+    (freshFrame table loadDepth storeDepth first (length memory))
+    (openQueue (groupsOf table) loadDepth storeDepth first (length memory))
+    o → o .answer ≡ 0 →
+    (loads stores : List ℕ) (calls : List Call) (log : List Answered) (q : Queue) (left : List ℕ) →
+    Runs (queueOf (o .frame) loads stores) memory calls log q left →
     (fill : Filling) → ((k : ℕ) → fill .address k < length memory) →
     Sequential (groupsOf table) memory log (machineOf q left) fill
 
--- The corollary for two lists, of records; and no record that is handed back is refused for what it holds.
+-- The corollary for two lists, of records: "two lists alike in table", so of tables that mean the same groups, whatever else
+-- their records hold.
 abbrev pub AlikeRecords : Type 0
 AlikeRecords =
-    (table : Table) (memory : List ℕ) (o₁ o₂ : Opened) → OpenedRecord table memory o₁ → OpenedRecord table memory o₂ →
+    (table₁ table₂ : Table) → groupsOf table₁ ≡ groupsOf table₂ →
+    (memory : List ℕ) (o₁ o₂ : Opened) → OpenedRecord table₁ memory o₁ → OpenedRecord table₂ memory o₂ →
     (calls₁ calls₂ : List Call) (log₁ log₂ : List Answered) (q₁ q₂ : Queue) (left₁ left₂ : List ℕ) →
     Runs (o₁ .queue) memory calls₁ log₁ q₁ left₁ → Runs (o₂ .queue) memory calls₂ log₂ q₂ left₂ → Alike (told log₁) (told log₂) →
     (port n v w : ℕ) → getElem? (takenAt port log₁) n ≡ some v → getElem? (takenAt port log₂) n ≡ some w → v ≡ w
 
+-- No record that is handed back is refused for what it holds.
 abbrev pub RecordsSound : Type 0
 RecordsSound =
     (table : Table) (memory : List ℕ) (o : Opened) → OpenedRecord table memory o →
-    (calls : List Call) (log : List Answered) (q : Queue) (left : List ℕ) → Runs (o .queue) memory calls log q left → sound (contentsOf q) ≡ true
+    (calls : List Call) (log : List Answered) (q : Queue) (left : List ℕ) → Runs (o .queue) memory calls log q left →
+    sound (contentsOf q) ≡ true

@@ -21,40 +21,43 @@ use Rattle.queue.specs.Contents.{Contents}
 use Rattle.queue.specs.Serve.{Served}
 use Rattle.queue.specs.Write.{Written}
 use Rattle.queue.specs.Take.{Taken}
-use Rattle.queue.specs.Records.{valueIn}
-use Rattle.queue.specs.Outcome.{Accepted, Moves, Takes, Writes, Serves}
+use Rattle.queue.specs.Outcome.{valueIn, Handed, HandedCounts, Accepted, Moves, Takes, Writes, Serves}
 use Rattle.replay.specs.Playing.{givenIn, wordIn, afterServe}
 use Rattle.live.specs.Internal.{toldOf, toldServed}
 use Rattle.live.specs.Calls as Live
 use Rattle.live.specs.Calls.{Tells, moved, took, written, served, memoryAfter}
 
-accepted-tells : {v : Value} {q : Contents} {o : Outcome} → Accepted v q o → Live.Accepted (record { value = valueIn v; queue = q }) (toldOf o)
+accepted-tells : {v : Option ℕ} {q : Contents} {o : Outcome} → Accepted v q o → Live.Accepted (record { value = v; queue = q }) (toldOf o)
 accepted-tells a = record {
   answer = a .answer;
-  given = ap (λ (x : Value). givenIn (valueIn x)) (a .gives);
-  value = ap (λ (x : Value). wordIn (valueIn x)) (a .gives);
+  given = ap givenIn (a .gives);
+  value = ap wordIn (a .gives);
   holds = a .holds;
 }
 
+-- what was handed back, as a live call tells it
+abbrev toldHanded : Handed → Live.Told
+toldHanded h = record { answer = h .answer; given = givenIn (h .value); value = wordIn (h .value); queue = h .queue }
+
 module _ (q : Queue) (o : Outcome) where
   pub moves-tell : (rule : Ruled Contents) → Moves q rule o → Tells q (andThen rule moved) (toldOf o)
-  moves-tell (refuse n) e = ap toldOf e
+  moves-tell (refuse n) e = ap toldHanded e
   moves-tell (accept c) a = accepted-tells a
 
   pub takes-tell : (rule : Ruled Taken) → Takes q rule o → Tells q (andThen rule took) (toldOf o)
-  takes-tell (refuse n) e = ap toldOf e
+  takes-tell (refuse n) e = ap toldHanded e
   takes-tell (accept t) a = accepted-tells a
 
   pub writes-tell : (lent left : List ℕ) (rule : Ruled Written) → Writes q lent rule o left
       → Tells q (andThen rule written) (toldOf o) × (left ≡ memoryAfter lent rule)
-  writes-tell lent left (refuse n) u = (ap toldOf (u .outcome), u .memory-is)
+  writes-tell lent left (refuse n) u = (ap toldHanded (u .outcome), u .memory-is)
   writes-tell lent left (accept w) a = (accepted-tells (a .outcome), a .memory-is)
 
 pub serves-tell : (q : Queue) (c : Counts) (o : Counted) (rule : Ruled Served) → Serves q c rule o
     → Tells q (andThen rule served) (toldServed o) × (o .counts ≡ afterServe c rule)
-serves-tell q c o (refuse n) e = (ap toldServed e, ap (λ (x : Counted). x .counts) e)
+serves-tell q c o (refuse n) e = (ap (λ (x : HandedCounts). toldHanded (x .outcome)) e, ap (λ (x : HandedCounts). x .counts) e)
 serves-tell q c o (accept s) a = (
-  record { answer = a .answer; given = ap (λ (x : Value). givenIn (valueIn x)) (a .gives); value = ap (λ (x : Value). wordIn (valueIn x)) (a .gives); holds = a .holds },
+  record { answer = a .answer; given = ap givenIn (a .gives); value = ap wordIn (a .gives); holds = a .holds },
   a .counts,
 )
 

@@ -4,7 +4,7 @@ use Rattle.queue.specs.declared.Outcome.{Outcome}
 use Rattle.queue.specs.declared.Counted.{Counted}
 use Rattle.queue.specs.declared.answering.Step.{Step}
 use Rattle.queue.specs.declared.serving.Service.{Service}
-use Rattle.queue.specs.Records.{valueIn}
+use Rattle.queue.specs.Outcome.{valueIn}
 use Rattle.replay.specs.Playing.{givenIn, wordIn}
 use Rattle.live.specs.declared.calls.LiveStep.{LiveStep}
 use Rattle.live.specs.declared.calls.LiveService.{LiveService}

@@ -28,14 +28,14 @@ use Rattle.queue.specs.Activate.{activate}
 use Rattle.queue.specs.Serve.{Served, serve}
 use Rattle.queue.specs.Write.{Written, write}
 use Rattle.queue.specs.Take.{Taken, takeRule}
-use Rattle.queue.specs.Outcome.{refused, Accepted, ServedWell, Moves, Takes, Serves, Writes, Opens}
+use Rattle.queue.specs.Outcome.{valueIn, Handed, handed, noValue, Accepted, HandedCounts, ServedWell, Moves, Takes, Serves, Writes, Opens}
 use Rattle.queue.specs.ServeLent.{withCounts, withoutCounts}
 use Rattle.queue.specs.ReadyOutcome.{Readies}
 use Rattle.queue.specs.NoQueue.{freshFrame}
 use Rattle.queue.specs.Parts.{queueOf, answered, OpensFrame}
 use Rattle.queue.specs.Calls.{Call, Activate, Give, Serve, Write, Take, Ready}
 use Rattle.queue.specs.Call.{Machine, Step, moved, served, written, taken, give, ready, step, Answered, answers, leaves}
-use Rattle.queue.specs.Records.{valueIn, logged, Hands, Runs, done, next, machineOf, OpenedRecord}
+use Rattle.queue.specs.Records.{logged, Hands, Runs, done, next, machineOf, OpenedRecord}
 use Rattle.queue.specs.Records.{ServeCountedHands, ServeHands, ReadyIntoHands, ReadyHands}
 use Rattle.queue.specs.Records.{RecordsDemand3, FramesDemand3, AlikeRecords, RecordsSound}
 use Rattle.queue.specs.Demand3.{Opening}
@@ -50,20 +50,18 @@ record Same (s : Step) (r : Outcome) (left : List ℕ) : Type 0 where
   pub queue : s .machine .queue ≡ contentsOf (r .queue)
   pub memory : s .machine .memory ≡ left
 
--- the value that an accepted call gives
-given : {v : Value} {c : Contents} {r : Outcome} → Accepted v c r → valueIn v ≡ valueIn (r .value)
-given w = ap valueIn (sym (w .gives))
-
-given-served : {s : Served} {c : Counts} {r : Counted} → ServedWell s c r → some (s .value) ≡ valueIn (r .value)
-given-served w = ap valueIn (sym (w .gives))
-
-accepted-same : {v : Value} {c : Contents} {r : Outcome} (left : List ℕ) → Accepted v c r
-    → Same (record { number = 0; value = valueIn v; machine = record { queue = c; memory = left } }) r left
-accepted-same left w = record { number = sym (w .answer); value = given w; queue = sym (w .holds); memory = refl }
+accepted-same : {v : Option ℕ} {c : Contents} {r : Outcome} (left : List ℕ) → Accepted v c r
+    → Same (record { number = 0; value = v; machine = record { queue = c; memory = left } }) r left
+accepted-same left w = record { number = sym (w .answer); value = sym (w .gives); queue = sym (w .holds); memory = refl }
 
 module _ (q : Queue) (m : List ℕ) where
-  refused-same : {n : ℕ} {r : Outcome} → r ≡ refused n q → Same (record { number = n; value = none; machine = machineOf q m }) r m
-  refused-same e = rw e (record { number = refl; value = refl; queue = refl; memory = refl })
+  refused-same : {n : ℕ} {r : Outcome} → handed r ≡ noValue n q → Same (record { number = n; value = none; machine = machineOf q m }) r m
+  refused-same e = record {
+    number = sym (ap (λ (x : Handed). x .answer) e);
+    value = sym (ap (λ (x : Handed). x .value) e);
+    queue = sym (ap (λ (x : Handed). contentsOf (x .queue)) e);
+    memory = refl;
+  }
 
   moves-same : (rule : Ruled Contents) (r : Outcome) → Moves q rule r → Same (moved (machineOf q m) rule) r m
   moves-same (refuse n) r e = refused-same e
@@ -74,8 +72,8 @@ module _ (q : Queue) (m : List ℕ) where
   takes-same (accept t) r w = accepted-same m w
 
   serves-same : (rule : Ruled Served) (lent left : Counts) (r : Outcome) → Serves q lent rule (withCounts r left) → Same (served (machineOf q m) rule) r m
-  serves-same (refuse n) lent left r e = refused-same (ap withoutCounts e)
-  serves-same (accept s) lent left r w = record { number = sym (w .answer); value = given-served w; queue = sym (w .holds); memory = refl }
+  serves-same (refuse n) lent left r e = refused-same (ap (λ (x : HandedCounts). x .outcome) e)
+  serves-same (accept s) lent left r w = record { number = sym (w .answer); value = sym (w .gives); queue = sym (w .holds); memory = refl }
 
   writes-same : (rule : Ruled Written) (r : Outcome) (left : List ℕ) → Writes q m rule r left → Same (written (machineOf q m) rule) r left
   writes-same (refuse n) r left w = rw (w .memory-is) (refused-same (w .outcome))
@@ -103,12 +101,12 @@ serve-hands q m lent left serial r w = ((left, w), refl)
 pub ready-into-hands : ReadyIntoHands
 ready-into-hands q m run left side r w = (go (ready side (contentsOf q) run) w, refl)
   where
-    go : (rule : Ruled (List ℕ)) → Readies q run rule r left → answered (r .answer) (r .queue) ≡ answered (number rule) q
-    go (refuse n) w = ap (λ (x : Readied). answered (x .answer) (x .queue)) (w .outcome)
-    go (accept found) w = ap (λ (x : Readied). answered (x .answer) (x .queue)) (w .outcome)
+    go : (rule : Ruled (List ℕ)) → Readies q run rule r left → noValue (r .answer) (r .queue) ≡ noValue (number rule) q
+    go (refuse n) w = ap (λ (x : Readied). noValue (x .answer) (x .queue)) (w .outcome)
+    go (accept found) w = ap (λ (x : Readied). noValue (x .answer) (x .queue)) (w .outcome)
 
 pub ready-hands : ReadyHands
-ready-hands q m run serials side answer queue w = (ap₂ answered (w .answer-is) (w .queue-is), refl)
+ready-hands q m run serials side answer queue w = (ap₂ noValue (w .answer-is) (w .queue-is), refl)
 
 -- ---- a run's answers and what it leaves
 pub record Agrees (m : Machine) (calls : List Call) (log : List Answered) (left : Machine) : Type 0 where

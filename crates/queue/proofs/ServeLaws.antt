@@ -19,7 +19,7 @@ use Rattle.queue.specs.Contents.{Store, Contents, loadOf, loadIn, storeI
 use Rattle.queue.specs.Entry.{entryOf}
 use Rattle.queue.specs.Sound.{sound}
 use Rattle.queue.specs.Serve.{Served, hasAddress, nearest, sourceOf, loadWithValue, serve}
-use Rattle.queue.specs.Outcome.{ServedWell}
+use Rattle.queue.specs.Outcome.{valueIn, ServedWell}
 use Rattle.queue.specs.Parts.{queueOf, countedOf}
 use Rattle.queue.specs.Internal.{storesIn, Whole}
 use Rattle.queue.specs.InternalServe.{wordIn, supplyOf, supplyFrom, servedAs, Filled, servedWith, serveAt}
@@ -75,7 +75,7 @@ served-well q counts place word forwarded {r} {left} whole few k e f =
     let w : q .frame .loads .count ≤ length (q .«load_entries») = rw whole few in
     record {
       answer = ap (λ (s : Service). s .answer) e;
-      gives = ap (λ (s : Service). s .value) e;
+      gives = ap (λ (s : Service). valueIn (s .value)) e;
       holds = ap (λ (l : List ℕ). contentsOf (queueOf (q .frame) l (q .«store_entries»))) (f .leaves) ∙ load-anew q (loadWithValue word) place (f .number) w k (f .holds);
       counts = ap (λ (s : Service). s .counts) e;
     }

@@ -4,6 +4,7 @@
 use Prim.Native.Nat.{ℕ}
 use mathlib.Core.Path.{_≡_}
 use mathlib.Core.List.{List}
+use mathlib.Core.Option.{Option, none, some}
 use Rattle.queue.specs.declared.Value.{Value}
 use Rattle.queue.specs.declared.Value.the-variants.{Word, Nothing}
 use Rattle.queue.specs.declared.Queue.{Queue}
@@ -18,44 +19,67 @@ use Rattle.queue.specs.Write.{Written}
 use Rattle.queue.specs.Take.{Taken}
 use Rattle.queue.specs.Counts.{counted}
 
--- a refused call
-abbrev pub refused : ℕ → Queue → Outcome
-refused n q = record { answer = n; value = Nothing; queue = q }
+-- "When an answer is an enum, a definition gives this paper's number and values for each enum case": the value of each case of
+-- `Value`, or none.
+abbrev pub valueIn : Value → Option ℕ
+valueIn (Word w) = some w
+valueIn Nothing = none
 
--- an accepted call, which gives this value and a queue that holds this
-pub record Accepted (value : Value) (queue : Contents) (r : Outcome) : Type 0 where
+-- what a call hands back in the paper's terms: its number, its value or none, and the queue that follows
+pub record Handed : Type 0 where
+  pub answer : ℕ
+  pub value : Option ℕ
+  pub queue : Queue
+
+abbrev pub handed : Outcome → Handed
+handed r = record { answer = r .answer; value = valueIn (r .value); queue = r .queue }
+
+-- this number, no value, and this very queue: what a refused call hands back
+abbrev pub noValue : ℕ → Queue → Handed
+noValue n q = record { answer = n; value = none; queue = q }
+
+-- an accepted call, which gives this value, or none, and a queue that holds this
+pub record Accepted (value : Option ℕ) (queue : Contents) (r : Outcome) : Type 0 where
   pub answer : r .answer ≡ 0
-  pub gives : r .value ≡ value
+  pub gives : valueIn (r .value) ≡ value
   pub holds : contentsOf (r .queue) ≡ queue
 
 -- a call that gives no value: activate and the three argument calls
 abbrev pub Moves : Queue → Ruled Contents → Outcome → Type 0
-Moves q (refuse n) r = r ≡ refused n q
-Moves q (accept next) r = Accepted Nothing next r
+Moves q (refuse n) r = handed r ≡ noValue n q
+Moves q (accept next) r = Accepted none next r
 
 -- take
 abbrev pub Takes : Queue → Ruled Taken → Outcome → Type 0
-Takes q (refuse n) r = r ≡ refused n q
-Takes q (accept t) r = Accepted (Word (t .value)) (t .queue) r
+Takes q (refuse n) r = handed r ≡ noValue n q
+Takes q (accept t) r = Accepted (some (t .value)) (t .queue) r
 
 -- serve, with the counts that were lent
 pub record ServedWell (s : Served) (c : Counts) (r : Counted) : Type 0 where
   pub answer : r .answer ≡ 0
-  pub gives : r .value ≡ Word (s .value)
+  pub gives : valueIn (r .value) ≡ some (s .value)
   pub holds : contentsOf (r .queue) ≡ s .queue
   pub counts : r .counts ≡ counted (s .forwarded) c
 
+-- the same, with the counts that follow
+pub record HandedCounts : Type 0 where
+  pub outcome : Handed
+  pub counts : Counts
+
+abbrev pub handedCounts : Counted → HandedCounts
+handedCounts r = record { outcome = record { answer = r .answer; value = valueIn (r .value); queue = r .queue }; counts = r .counts }
+
 abbrev pub Serves : Queue → Counts → Ruled Served → Counted → Type 0
-Serves q c (refuse n) r = r ≡ record { answer = n; value = Nothing; queue = q; counts = c }
+Serves q c (refuse n) r = handedCounts r ≡ record { outcome = noValue n q; counts = c }
 Serves q c (accept s) r = ServedWell s c r
 
 -- write, with the memory as it was lent and as it is left
 pub record WrittenWell (w : Written) (r : Outcome) (memory : List ℕ) : Type 0 where
-  pub outcome : Accepted Nothing (w .queue) r
+  pub outcome : Accepted none (w .queue) r
   pub memory-is : memory ≡ w .memory
 
 pub record Unwritten (q : Queue) (n : ℕ) (lent : List ℕ) (r : Outcome) (memory : List ℕ) : Type 0 where
-  pub outcome : r ≡ refused n q
+  pub outcome : handed r ≡ noValue n q
   pub memory-is : memory ≡ lent
 
 abbrev pub Writes : Queue → List ℕ → Ruled Written → Outcome → List ℕ → Type 0

@@ -9,8 +9,6 @@ use mathlib.Core.Option.{Option, none, some}
 use lib.ListN.{length, getElem?}
 use Rattle.table.specs.declared.Table.{Table}
 use Rattle.table.specs.Table.{groupsOf}
-use Rattle.queue.specs.declared.Value.{Value}
-use Rattle.queue.specs.declared.Value.the-variants.{Word, Nothing}
 use Rattle.queue.specs.declared.Queue.{Queue}
 use Rattle.queue.specs.declared.Counts.{Counts}
 use Rattle.queue.specs.declared.Outcome.{Outcome}
@@ -25,7 +23,7 @@ use Rattle.queue.specs.Activate.{activate}
 use Rattle.queue.specs.Serve.{serve}
 use Rattle.queue.specs.Write.{write}
 use Rattle.queue.specs.Take.{takeRule}
-use Rattle.queue.specs.Outcome.{Moves, Takes, Serves, Writes, Opens}
+use Rattle.queue.specs.Outcome.{valueIn, handed, noValue, Moves, Takes, Serves, Writes, Opens}
 use Rattle.queue.specs.ServeLent.{withCounts, withoutCounts}
 use Rattle.queue.specs.ReadyOutcome.{Readies, Fronts}
 use Rattle.queue.specs.NoQueue.{freshFrame}
@@ -35,10 +33,6 @@ use Rattle.queue.specs.Call.{give, ready, Machine, Answered}
 use Rattle.queue.specs.Plain.{Filling}
 use Rattle.queue.specs.Sound.{sound}
 use Rattle.queue.specs.Demand3.{told, takenAt, Sequential, Alike}
-
-abbrev pub valueIn : Value → Option ℕ
-valueIn (Word w) = some w
-valueIn Nothing = none
 
 -- a call with the answer and the value that it handed back
 abbrev pub logged : Call → Outcome → Answered
@@ -53,7 +47,7 @@ Hands q m (Give kind port x) r left = Moves q (give kind (contentsOf q) port x) 
 Hands q m (Serve lent s) r left = ((counts : Counts) × Serves q lent (serve (contentsOf q) m s) (withCounts r counts)) × (left ≡ m)
 Hands q m (Write s) r left = Writes q m (write (contentsOf q) m s) r left
 Hands q m (Take p) r left = Takes q (takeRule (contentsOf q) p) r × (left ≡ m)
-Hands q m (Ready side run) r left = (r ≡ answered (number (ready side (contentsOf q) run)) q) × (left ≡ m)
+Hands q m (Ready side run) r left = (handed r ≡ noValue (number (ready side (contentsOf q) run)) q) × (left ≡ m)
 
 -- Calls on a queue and a memory, with their answers, up to the queue and the memory that they leave.
 pub data Runs : Queue → List ℕ → List Call → List Answered → Queue → List ℕ → Type 0 where

@@ -15,9 +15,8 @@ use Rattle.queue.specs.Arguments.{loadAddress, storeAddress, storeData}
 use Rattle.queue.specs.Serve.{Served, serve}
 use Rattle.queue.specs.Write.{Written, write}
 use Rattle.queue.specs.Take.{Taken, takeRule}
-use Rattle.queue.specs.Outcome.{Moves, Takes, Serves, Writes}
+use Rattle.queue.specs.Outcome.{Handed, handed, noValue, HandedCounts, valueIn, Moves, Takes, Serves, Writes}
 use Rattle.queue.specs.ServeLent.{withCounts}
-use Rattle.queue.specs.Records.{valueIn}
 use Rattle.queue.specs.Call.{Machine, Step, moved, served, written, taken}
 use Rattle.replay.specs.Playing.{Playing, playing, stepOf, played, countsAfter, afterServe}
 use Rattle.replay.specs.Internal.{Plays}
@@ -44,21 +43,31 @@ module _ (q : Queue) (c : Counts) (m : List ℕ) (e : Event) where
     next = ap₂ made (ap (λ (x : Step). x .machine) is ∙ next) counts;
   }
 
+  -- a refused call plays nothing
+  refused-plays : {n : ℕ} (o : Outcome) (left : List ℕ) → stepOf now e ≡ record { number = n; value = none; machine = machine (contentsOf q) m }
+      → handed o ≡ noValue n q → left ≡ m → countsAfter now e ≡ c → Plays q c m e (withCounts o c) left
+  refused-plays o left is h same counts =
+      from-step _ (withCounts o c) left is (sym (ap (λ (x : Handed). x .answer) h)) (sym (ap (λ (x : Handed). x .value) h))
+      (ap₂ machine (sym (ap (λ (x : Handed). contentsOf (x .queue)) h)) (sym same)) counts
+
   moves-play : (rule : Ruled Contents) (o : Outcome) → stepOf now e ≡ moved (machine (contentsOf q) m) rule → countsAfter now e ≡ c → Moves q rule o → Plays q c m e (withCounts o c) m
-  moves-play (refuse n) o is counts w = rw w (from-step _ _ m is refl refl refl counts)
-  moves-play (accept next) o is counts w = from-step _ (withCounts o c) m is (sym (w .answer)) (ap valueIn (sym (w .gives))) (ap (λ (x : Contents). machine x m) (sym (w .holds))) counts
+  moves-play (refuse n) o is counts w = refused-plays o m is w refl counts
+  moves-play (accept next) o is counts w = from-step _ (withCounts o c) m is (sym (w .answer)) (sym (w .gives)) (ap (λ (x : Contents). machine x m) (sym (w .holds))) counts
 
   takes-play : (rule : Ruled Taken) (o : Outcome) → stepOf now e ≡ taken (machine (contentsOf q) m) rule → countsAfter now e ≡ c → Takes q rule o → Plays q c m e (withCounts o c) m
-  takes-play (refuse n) o is counts w = rw w (from-step _ _ m is refl refl refl counts)
-  takes-play (accept t) o is counts w = from-step _ (withCounts o c) m is (sym (w .answer)) (ap valueIn (sym (w .gives))) (ap (λ (x : Contents). machine x m) (sym (w .holds))) counts
+  takes-play (refuse n) o is counts w = refused-plays o m is w refl counts
+  takes-play (accept t) o is counts w = from-step _ (withCounts o c) m is (sym (w .answer)) (sym (w .gives)) (ap (λ (x : Contents). machine x m) (sym (w .holds))) counts
 
   writes-play : (rule : Ruled Written) (o : Outcome) (left : List ℕ) → stepOf now e ≡ written (machine (contentsOf q) m) rule → countsAfter now e ≡ c → Writes q m rule o left → Plays q c m e (withCounts o c) left
-  writes-play (refuse n) o left is counts w = rw (w .outcome, w .memory-is) (from-step _ _ m is refl refl refl counts)
-  writes-play (accept t) o left is counts w = from-step _ (withCounts o c) left is (sym (w .outcome .answer)) (ap valueIn (sym (w .outcome .gives))) (ap₂ machine (sym (w .outcome .holds)) (sym (w .memory-is))) counts
+  writes-play (refuse n) o left is counts w = refused-plays o left is (w .outcome) (w .memory-is) counts
+  writes-play (accept t) o left is counts w = from-step _ (withCounts o c) left is (sym (w .outcome .answer)) (sym (w .outcome .gives)) (ap₂ machine (sym (w .outcome .holds)) (sym (w .memory-is))) counts
 
   serves-play : (rule : Ruled Served) (r : Counted) → stepOf now e ≡ served (machine (contentsOf q) m) rule → countsAfter now e ≡ afterServe c rule → Serves q c rule r → Plays q c m e r m
-  serves-play (refuse n) r is counts w = rw w (from-step _ _ m is refl refl refl counts)
-  serves-play (accept s) r is counts w = from-step _ r m is (sym (w .answer)) (ap valueIn (sym (w .gives))) (ap (λ (x : Contents). machine x m) (sym (w .holds))) (counts ∙ sym (w .counts))
+  serves-play (refuse n) r is counts w =
+      let h = ap (λ (x : HandedCounts). x .outcome) w in
+      from-step _ r m is (sym (ap (λ (x : Handed). x .answer) h)) (sym (ap (λ (x : Handed). x .value) h))
+      (sym (ap (λ (x : Handed). machine (contentsOf (x .queue)) m) h)) (counts ∙ sym (ap (λ (x : HandedCounts). x .counts) w))
+  serves-play (accept s) r is counts w = from-step _ r m is (sym (w .answer)) (sym (w .gives)) (ap (λ (x : Contents). machine x m) (sym (w .holds))) (counts ∙ sym (w .counts))
 
 -- the same for each kind of event
 module _ (q : Queue) (c : Counts) (m : List ℕ) where

@@ -11,7 +11,7 @@ use Rattle.queue.specs.declared.Frame.{Frame}
 use Rattle.queue.specs.declared.Counts.{Counts}
 use Rattle.queue.specs.declared.Counted.{Counted}
 use Rattle.queue.specs.Contents.{contentsOf}
-use Rattle.queue.specs.Records.{valueIn}
+use Rattle.queue.specs.Outcome.{valueIn}
 use Rattle.queue.specs.Parts.{queueOf}
 use Rattle.replay.specs.declared.playing.Played.{Played}
 use Rattle.replay.specs.Events.{eventsFrom}

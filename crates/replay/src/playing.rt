@@ -2,7 +2,7 @@
 ghost use mathlib.Core.Path.{_≡_};
 ghost use Prim.Native.Nat.{_<_};
 ghost use lib.ListN.{length};
-ghost use Rattle.queue.specs.Records.{valueIn};
+ghost use Rattle.queue.specs.Outcome.{valueIn};
 ghost use Rattle.queue.specs.Parts.{frameOf, queueOf, whole};
 ghost use mathlib.Core.Bool.{true};
 ghost use Rattle.replay.specs.Playing.{givenIn, wordIn};

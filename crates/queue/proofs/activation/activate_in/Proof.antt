@@ -2,6 +2,7 @@
 use Prim.Native.Nat.{_<_}
 use mathlib.Core.Path.{_≡_, refl, sym, ap, _∙_}
 use mathlib.Core.Bool.{true}
+use Rattle.queue.specs.Outcome.{Handed, handed}
 use Rattle.queue.specs.Parts.{frameOf, queueOf, outcomeOf}
 use Rattle.queue.proofs.PartsLaws.{Fit, fit, unfit}
 use borrow.Author.Needs.{needs}
@@ -11,8 +12,7 @@ use Rattle.table.proofs.CheckLaws.{group-inside}
 use Rattle.table.proofs.OrderOffsets.{GroupRight}
 use Rattle.queue.specs.declared.Frame.{Frame}
 use Rattle.queue.specs.declared.Queue.{Queue}
-use Rattle.queue.specs.declared.Outcome.{Outcome}
-use Rattle.queue.specs.declared.Value.the-variants.{Nothing}
+use mathlib.Core.Option.{none}
 use Rattle.queue.specs.declared.answering.Step.{Step}
 use Rattle.queue.specs.Contents.{contentsOf}
 use Rattle.queue.specs.Refusal.{noPlace}
@@ -36,8 +36,8 @@ abbrev queueIn : tie.Start → Queue
 queueIn s = queueOf (frame s) (s .args .load-entries .now) (s .args .store-entries .now)
 
 -- what is handed back where the entries are as they were
-abbrev unchanged : tie.Start → Step → Outcome
-unchanged s t = outcomeOf (frame s) t (s .args .load-entries .now) (s .args .store-entries .now)
+abbrev unchanged : tie.Start → Step → Handed
+unchanged s t = handed (outcomeOf (frame s) t (s .args .load-entries .now) (s .args .store-entries .now))
 
 abbrev queue : tie.After-sound-in → Queue
 queue c = queueIn (start c)
@@ -155,7 +155,7 @@ returns-4 c =
     rw (good (checked g) .full, rule g, place e, c .accepted .ensures)
     (record {
       answer = refl {a = 0};
-      gives = refl {a = Nothing};
+      gives = refl {a = none};
       holds = rw (d .before .longer .ensures, d .longer2 .ensures)
           (appended-both (queueIn s) (g .group-at .result) (a .append .ensures) (b .append2 .ensures) ∙ with-group-is (contentsOf (queueIn s)) (meant g) (good-group g));
     })

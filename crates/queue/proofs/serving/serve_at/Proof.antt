@@ -11,6 +11,7 @@ use Rattle.queue.specs.declared.Entry.{Entry}
 use Rattle.queue.specs.declared.Queue.{Queue}
 use Rattle.queue.specs.declared.serving.Service.{Service}
 use Rattle.queue.specs.Contents.{contentsOf}
+use Rattle.queue.specs.Outcome.{handedCounts}
 use Rattle.queue.specs.Parts.{queueOf, countedOf}
 use Rattle.queue.specs.Internal.{frameWith}
 use Rattle.queue.specs.InternalServe.{serveAt}
@@ -69,7 +70,7 @@ unserved-requires c κs = search needs
 returns : tie.Need-returns
 returns c t =
     let s = c .before .before .before .before .before .before .before in
-    rw (serve-none (queueWith t s) (s .args .memory .now) (s .args .place) (c .before .if1 .taken)) (ap (λ (r : Service). countedOf r (queueWith t s)) (c .unserved .ensures))
+    rw (serve-none (queueWith t s) (s .args .memory .now) (s .args .place) (c .before .if1 .taken)) (ap (λ (r : Service). handedCounts (countedOf r (queueWith t s))) (c .unserved .ensures))
 
 mul-unpack : tie.Need-mul-unpack
 mul-unpack c = search needs
@@ -87,7 +88,7 @@ returns-2 : tie.Need-returns-2
 returns-2 c t =
     let u = c .before .before in
     let s = start (held u) in
-    rw (serve-done (queueWith t s) (s .args .memory .now) (s .args .place) (held u .if1 .left) (u .unpack .result) (sym (u .unpack .ensures)) (c .before .if2 .taken)) (ap (λ (r : Service). countedOf r (queueWith t s)) (c .unserved2 .ensures))
+    rw (serve-done (queueWith t s) (s .args .memory .now) (s .args .place) (held u .if1 .left) (u .unpack .result) (sym (u .unpack .ensures)) (c .before .if2 .taken)) (ap (λ (r : Service). handedCounts (countedOf r (queueWith t s))) (c .unserved2 .ensures))
 
 unserved-requires-3 : tie.Need-unserved-requires-3
 unserved-requires-3 c κs = search needs
@@ -97,7 +98,7 @@ returns-3 c t =
     let e2 = c .before .before .before in
     let u = e2 .before in
     let s = start (held u) in
-    rw (serve-no-address (queueWith t s) (s .args .memory .now) (s .args .place) (held u .if1 .left) (u .unpack .result) (sym (u .unpack .ensures)) (e2 .if2 .left) (not-true (u .unpack .result .addressed) (c .before .if3 .taken))) (ap (λ (r : Service). countedOf r (queueWith t s)) (c .unserved3 .ensures))
+    rw (serve-no-address (queueWith t s) (s .args .memory .now) (s .args .place) (held u .if1 .left) (u .unpack .result) (sym (u .unpack .ensures)) (e2 .if2 .left) (not-true (u .unpack .result .addressed) (c .before .if3 .taken))) (ap (λ (r : Service). handedCounts (countedOf r (queueWith t s))) (c .unserved3 .ensures))
 
 cast-supply-for : tie.Need-cast-supply-for
 cast-supply-for c = search needs
@@ -152,7 +153,7 @@ returns-4 : tie.Need-returns-4
 returns-4 c t =
     let m = c .before .before .before in
     let s = start (held (m .before .before .before .before .before)) in
-    rw (supplied m t, c .before .enum-told .given .1) (ap (λ (r : Service). countedOf r (queueWith t s)) (c .unserved4 .ensures))
+    rw (supplied m t, c .before .enum-told .given .1) (ap (λ (r : Service). handedCounts (countedOf r (queueWith t s))) (c .unserved4 .ensures))
 
 returns-5 : tie.Need-returns-5
 returns-5 c t =
@@ -167,7 +168,7 @@ returns-6 : tie.Need-returns-6
 returns-6 c t =
     let m = c .before .before .before in
     let s = start (held (m .before .before .before .before .before)) in
-    rw (supplied m t, c .before .enum-told3 .given .1) (ap (λ (r : Service). countedOf r (queueWith t s)) (c .unserved5 .ensures))
+    rw (supplied m t, c .before .enum-told3 .given .1) (ap (λ (r : Service). handedCounts (countedOf r (queueWith t s))) (c .unserved5 .ensures))
 
 returns-7 : tie.Need-returns-7
 returns-7 c t =

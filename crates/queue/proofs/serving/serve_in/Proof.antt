@@ -1,4 +1,5 @@
 use mathlib.Core.Path.{ap}
+use Rattle.queue.specs.Outcome.{handedCounts}
 use Rattle.queue.specs.Parts.{frameOf, queueOf, countedOf}
 use Rattle.queue.proofs.PartsLaws.{Fit, fit, unfit}
 use borrow.Author.Needs.{needs}
@@ -39,7 +40,7 @@ returns c =
     let p = c .before .before in
     let s = start p in
     let q = queueIn s in
-    rw (unfit q (serve (contentsOf q) (s .args .memory .now) (s .args .serial)) (c .before .before .sound-in .ensures) (c .before .if1 .taken) (serve-unsound q (s .args .memory .now) (s .args .serial))) (ap (λ (r : Service). countedOf r (queueIn s)) (c .unserved .ensures))
+    rw (unfit q (serve (contentsOf q) (s .args .memory .now) (s .args .serial)) (c .before .before .sound-in .ensures) (c .before .if1 .taken) (serve-unsound q (s .args .memory .now) (s .args .serial))) (ap (λ (r : Service). handedCounts (countedOf r (queueIn s))) (c .unserved .ensures))
 
 cast-if2 : tie.Need-cast-if2
 cast-if2 c = search needs
@@ -51,7 +52,7 @@ returns-2 : tie.Need-returns-2
 returns-2 c =
     let e = c .before .before .before in
     let s = start (e .before) in
-    rw (good e .full, serve-memory (queueIn s) (s .args .memory .now) (s .args .serial) (good e .right) (c .before .if2 .taken)) (ap (λ (r : Service). countedOf r (queueIn s)) (c .unserved2 .ensures))
+    rw (good e .full, serve-memory (queueIn s) (s .args .memory .now) (s .args .serial) (good e .right) (c .before .if2 .taken)) (ap (λ (r : Service). handedCounts (countedOf r (queueIn s))) (c .unserved2 .ensures))
 
 place-of-requires : tie.Need-place-of-requires
 place-of-requires c κs = search needs

@@ -8,13 +8,13 @@ use borrow.Author.Needs.{needs}
 use Rattle.table.specs.declared.Table.{Table}
 use Rattle.queue.specs.declared.Entry.{Entry}
 use Rattle.queue.specs.declared.Queue.{Queue}
-use Rattle.queue.specs.declared.Outcome.{Outcome}
-use Rattle.queue.specs.declared.Value.the-variants.{Nothing}
+use mathlib.Core.Option.{none}
 use Rattle.queue.specs.declared.answering.Step.{Step}
 use Rattle.queue.specs.Entry.{entryOf, numberOf}
 use Rattle.queue.specs.Ruled.{accept, andThen}
 use Rattle.queue.specs.Contents.{storeOf, storeIn, contentsOf}
 use Rattle.queue.specs.Write.{storeDone, settle}
+use Rattle.queue.specs.Outcome.{Handed, handed}
 use Rattle.queue.specs.Parts.{queueOf, outcomeOf}
 use Rattle.queue.specs.Internal.{loadsIn, storesIn, frameWith}
 use Rattle.queue.specs.InternalWrite.{mayWriteAt, writtenWith, writeAt}
@@ -36,8 +36,8 @@ abbrev queue : tie.Start → Queue
 queue s = queueWith (s .pre .0 .table) s
 
 -- what is handed back where the entries are as they were
-abbrev unchanged : Table → tie.Start → Step → Outcome
-unchanged t s step = outcomeOf (frameWith t (s .args .outline)) step (s .args .load-entries .now) (s .args .store-entries .now)
+abbrev unchanged : Table → tie.Start → Step → Handed
+unchanged t s step = handed (outcomeOf (frameWith t (s .args .outline)) step (s .args .load-entries .now) (s .args .store-entries .now))
 
 -- the store at the place
 abbrev store : tie.Start → Entry
@@ -161,7 +161,7 @@ returns-3 c table =
     let s = start e1 in
     rw (held e1 table, puts e2 .put, c .accepted .ensures)
     (record {
-      outcome = record { answer = refl {a = 0}; gives = refl {a = Nothing}; holds = t .settle .ensures table ∙ ap settle (store-anew (queueWith table s) storeDone (s .args .place) (p .pack .result) (stores-room s) (e1 .if1 .left) (put p)) };
+      outcome = record { answer = refl {a = 0}; gives = refl {a = none}; holds = t .settle .ensures table ∙ ap settle (store-anew (queueWith table s) storeDone (s .args .place) (p .pack .result) (stores-room s) (e1 .if1 .left) (put p)) };
       memory-is = rw (u .unpack .ensures);
     })
 

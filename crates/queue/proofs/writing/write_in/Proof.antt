@@ -1,10 +1,10 @@
 use mathlib.Core.Path.{refl, ap}
+use Rattle.queue.specs.Outcome.{Handed, handed}
 use Rattle.queue.specs.Parts.{frameOf, queueOf, outcomeOf}
 use Rattle.queue.proofs.PartsLaws.{Fit, fit, unfit}
 use borrow.Author.Needs.{needs}
 use Rattle.queue.specs.declared.Frame.{Frame}
 use Rattle.queue.specs.declared.Queue.{Queue}
-use Rattle.queue.specs.declared.Outcome.{Outcome}
 use Rattle.queue.specs.declared.answering.Step.{Step}
 use Rattle.queue.specs.Contents.{contentsOf}
 use Rattle.queue.specs.Write.{write}
@@ -23,8 +23,8 @@ abbrev queueIn : tie.Start → Queue
 queueIn s = queueOf (frame s) (s .args .load-entries .now) (s .args .store-entries .now)
 
 -- what is handed back where the entries are as they were
-abbrev unchanged : tie.Start → Step → Outcome
-unchanged s t = outcomeOf (frame s) t (s .args .load-entries .now) (s .args .store-entries .now)
+abbrev unchanged : tie.Start → Step → Handed
+unchanged s t = handed (outcomeOf (frame s) t (s .args .load-entries .now) (s .args .store-entries .now))
 
 abbrev queue : tie.After-sound-in → Queue
 queue c = queueIn (start c)

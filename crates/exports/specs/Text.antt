@@ -1,9 +1,8 @@
 -- The printed text, as a number of bytes.
 use Prim.Native.Nat.{ℕ}
-use Rattle.table.specs.declared.Written.{Written}
-use Rattle.table.specs.declared.Written.the-variants.{Bytes, Unwritten}
+use Rattle.table.specs.Number.{Reply, accepts, refuses}
 
 -- how many bytes were written; 0 where none were: no text is empty (`TextSome` of the crate `printed`)
-abbrev pub byteCount : Written → ℕ
-byteCount (Bytes n) = n
-byteCount (Unwritten k) = 0
+abbrev pub textLength : Reply ℕ → ℕ
+textLength (accepts n) = n
+textLength (refuses k) = 0

@@ -5,7 +5,7 @@ ghost use Rattle.table.specs.TableBytes.{readTable, tableAnswer};
 ghost use Rattle.queue.specs.Counts.{share};
 ghost use Rattle.queue.specs.Ruled.{number};
 ghost use Rattle.printed.specs.Outcome.{printed};
-ghost use Rattle.exports.specs.Text.{byteCount};
+ghost use Rattle.exports.specs.Text.{textLength};
 ghost use Rattle.exports.specs.Prepared.{prepared, eventCount, memoryLength};
 ghost use Rattle.exports.specs.Replay.{lent, replayLent, answered};
 ghost use Rattle.exports.specs.Internal.{Tells};
@@ -111,7 +111,7 @@ pub extern "C" fn lsq_replay(
 // is. Where the buffer has no room for every text it answers 0, and nothing is written.
 #[no_mangle]
 pub extern "C" fn lsq_text(table: &[u8], trace: &[u8], out: &mut [u8]) -> u64
-    ensures { λ r. ⌜ (r ≡ byteCount (printed (now (table .entry)) (now (trace .entry)) (now (out .entry)) .answer)) × (now (out .exit) ≡ printed (now (table .entry)) (now (trace .entry)) (now (out .entry)) .buffer) ⌝ }
+    ensures { λ r. ⌜ (r ≡ textLength (printed (now (table .entry)) (now (trace .entry)) (now (out .entry)) .answer)) × (now (out .exit) ≡ printed (now (table .entry)) (now (trace .entry)) (now (out .entry)) .buffer) ⌝ }
 {
     let written = print(table, trace, out);
     match written {

@@ -2,6 +2,7 @@
 use Prim.Native.Nat.{ℕ}
 use mathlib.Core.Path.{_≡_, refl, ap, _∙_}
 use mathlib.Core.List.{List, []}
+use mathlib.Core.Option.{Option}
 use Rattle.table.specs.declared.Table.{Table}
 use Rattle.table.specs.Refusal.{badGroupCount}
 use Rattle.table.specs.Table.{groupsOf, tableFault}
@@ -15,13 +16,12 @@ use Rattle.queue.specs.declared.Frame.{Frame}
 use Rattle.queue.specs.declared.Counts.{Counts}
 use Rattle.queue.specs.declared.Outcome.{Outcome}
 use Rattle.queue.specs.declared.Counted.{Counted}
-use Rattle.queue.specs.declared.Value.{Value}
 use Rattle.queue.specs.Ruled.{Ruled, refuse, accept, andThen}
 use Rattle.queue.specs.Contents.{Contents}
 use Rattle.queue.specs.Serve.{Served}
 use Rattle.queue.specs.Write.{Written}
 use Rattle.queue.specs.Take.{Taken}
-use Rattle.queue.specs.Outcome.{valueIn, Handed, HandedCounts, Accepted, Moves, Takes, Writes, Serves}
+use Rattle.queue.specs.Outcome.{Handed, HandedCounts, Accepted, Moves, Takes, Writes, Serves}
 use Rattle.replay.specs.Playing.{givenIn, wordIn, afterServe}
 use Rattle.live.specs.Internal.{toldOf, toldServed}
 use Rattle.live.specs.Calls as Live

@@ -1,6 +1,6 @@
 // For C and Rust: a table read into its record, and tables, events and numbers written to lent buffers.
 ghost use mathlib.Core.Path.{_≡_};
-ghost use Rattle.table.specs.Number.{numberBytes, wrote};
+ghost use Rattle.table.specs.Number.{numberBytes, writtenReply, wrote};
 ghost use Rattle.table.specs.Table.{groupsOf};
 ghost use Rattle.table.specs.TableBytes.{readTable, tableAnswer, wroteTable};
 ghost use Rattle.table.specs.Event.{wroteEventOf};
@@ -28,7 +28,7 @@ pub struct TableFound {
 
 // The numbers of a writer's answer.
 fn bytes_written(written: Written) -> BytesWritten
-    ensures { λ r. ⌜ r ≡ bytesWritten written ⌝ }
+    ensures { λ r. ⌜ r ≡ bytesWritten (writtenReply written) ⌝ }
 {
     match written {
         Written::Bytes(n) => BytesWritten {

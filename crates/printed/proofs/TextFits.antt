@@ -10,10 +10,9 @@ use lib.ListN.{length, take, set, drop, replicate, length-append, length-set, le
 use borrow.Author.Tests.{eq-eqb, eqb-true, leb-true, ltb-false}
 use Rattle.table.specs.Basics.{pick, allOf}
 use Rattle.table.specs.Refusal.{tooShort}
-use Rattle.table.specs.Number.{Got, got, bad, Wrote}
+use Rattle.table.specs.Number.{Got, got, bad, accepts, Wrote, unwritten}
 use Rattle.table.specs.Group.{GroupPairs}
 use Rattle.table.specs.TableBytes.{readTable}
-use Rattle.table.specs.declared.Written.the-variants.{Bytes, Unwritten}
 use Rattle.table.specs.declared.Event.{Event}
 use Rattle.table.specs.declared.Event.the-variants.{Activate, LoadAddress, StoreAddress, StoreData, Serve, Write, Take}
 use Rattle.table.specs.declared.Header.{Header}
@@ -161,11 +160,11 @@ text-fits table trace = go (ltb mostBytes (length table))
     go false = groups-few trace (readTable table)
 
 -- what is printed is no longer than the buffer
-pub bytes-few : (table trace out : List ℕ) {n : ℕ} → Bytes n ≡ printed table trace out .answer → n ≤ length out
+pub bytes-few : (table trace out : List ℕ) {n : ℕ} → accepts n ≡ printed table trace out .answer → n ≤ length out
 unfolding printed
 bytes-few table trace out {n} h = go (leb mostText (length out)) refl h
   where
-    go : (t : Bool) → leb mostText (length out) ≡ t → Bytes n ≡ pick {A = Wrote} t (record { answer = Bytes (length (text table trace)); buffer = text table trace ++ drop (length (text table trace)) out }) (record { answer = Unwritten tooShort; buffer = out }) .answer → n ≤ length out
+    go : (t : Bool) → leb mostText (length out) ≡ t → accepts n ≡ pick {A = Wrote} t (record { answer = accepts (length (text table trace)); buffer = text table trace ++ drop (length (text table trace)) out }) (unwritten tooShort out) .answer → n ≤ length out
     go true e f = let y : n ≡ length (text table trace) = cc in omega (arith, text-fits table trace, leb-true mostText (length out) e)
     go false e f = let z : _≡_ {A = ℕ} 0 1 = cc in absurd (omega arith)
 

@@ -10,11 +10,10 @@ use lib.ListN.{length, take, drop, replicate, length-append, length-map, length-
 use borrow.Author.Tests.{lt-ltb, le-ltb, lt-leb, le-leb, leb-true}
 use Rattle.table.specs.Basics.{allOf}
 use Rattle.table.specs.Refusal.{tooShort}
-use Rattle.table.specs.Number.{got, bad}
+use Rattle.table.specs.Number.{got, bad, accepts, unwritten}
 use Rattle.table.specs.Group.{GroupPairs}
 use Rattle.table.specs.Table.{tableFault}
 use Rattle.table.specs.TableBytes.{readTable}
-use Rattle.table.specs.declared.Written.the-variants.{Bytes, Unwritten}
 use Rattle.table.specs.declared.Event.{Event}
 use Rattle.table.proofs.SpliceLaws.{splice-front}
 use Rattle.queue.specs.Refusal.{badLoadDepth, badStoreDepth, badMemoryLength, groupTooLarge}
@@ -124,11 +123,11 @@ unfolding text
 table-right table trace h e = rw (le-ltb mostBytes (length table) h, e)
 
 -- ---- what printing hands back
-pub printed-short : (table trace out : List ℕ) → length out < mostText → printed table trace out ≡ record { answer = Unwritten tooShort; buffer = out }
+pub printed-short : (table trace out : List ℕ) → length out < mostText → printed table trace out ≡ unwritten tooShort out
 unfolding printed
 printed-short table trace out h = rw (lt-leb mostText (length out) h)
 
-pub printed-fits : (table trace out : List ℕ) → mostText ≤ length out → printed table trace out ≡ record { answer = Bytes (length (text table trace)); buffer = text table trace ++ drop (length (text table trace)) out }
+pub printed-fits : (table trace out : List ℕ) → mostText ≤ length out → printed table trace out ≡ record { answer = accepts (length (text table trace)); buffer = text table trace ++ drop (length (text table trace)) out }
 unfolding printed
 printed-fits table trace out h = rw (le-leb mostText (length out) h)
 

@@ -5,8 +5,7 @@ use lib.Dec.{leb}
 use lib.ListN.{length, drop}
 use Rattle.table.specs.Basics.{pick}
 use Rattle.table.specs.Refusal.{tooShort}
-use Rattle.table.specs.Number.{Wrote}
-use Rattle.table.specs.declared.Written.the-variants.{Bytes, Unwritten}
+use Rattle.table.specs.Number.{accepts, Wrote, unwritten}
 use Rattle.printed.specs.Text.{mostBytes, text}
 
 -- No text is longer (`TextFits`): an event's line takes at most 63 bytes and there are no more events than bytes, a word's line takes at
@@ -25,5 +24,5 @@ TextSome = (table trace : List ℕ) → 0 < length (text table trace)
 unfoldable pub printed : List ℕ → List ℕ → List ℕ → Wrote
 printed table trace buffer =
     pick (leb mostText (length buffer))
-    (record { answer = Bytes (length (text table trace)); buffer = text table trace ++ drop (length (text table trace)) buffer })
-    (record { answer = Unwritten tooShort; buffer = buffer })
+    (record { answer = accepts (length (text table trace)); buffer = text table trace ++ drop (length (text table trace)) buffer })
+    (unwritten tooShort buffer)

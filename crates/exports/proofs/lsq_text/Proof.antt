@@ -1,6 +1,7 @@
 use mathlib.Core.Path.{sym, ap, _∙_}
 use borrow.Author.Needs.{needs}
-use Rattle.exports.specs.Text.{byteCount}
+use Rattle.table.specs.Number.{writtenReply}
+use Rattle.exports.specs.Text.{textLength}
 use Rattle.exports.proofs.lsq_text.Statement.{statement}
 use Rattle.exports.proofs.lsq_text.Tie as tie
 
@@ -24,7 +25,7 @@ same-length c = search needs
 returns : tie.Need-returns
 returns c =
     let p = c .before .before .before .before .before .print in
-    (sym (ap byteCount (sym (p .ensures .0) ∙ c .before .written .given .1)), p .ensures .1)
+    (sym (ap textLength (sym (p .ensures .0) ∙ ap writtenReply (c .before .written .given .1))), p .ensures .1)
 
 -- src/lib.rt:131:1
 same-length-2 : tie.Need-same-length-2
@@ -34,7 +35,7 @@ same-length-2 c = search needs
 returns-2 : tie.Need-returns-2
 returns-2 c =
     let p = c .before .before .before .before .print in
-    (sym (ap byteCount (sym (p .ensures .0) ∙ c .enum-told .given .1)), p .ensures .1)
+    (sym (ap textLength (sym (p .ensures .0) ∙ ap writtenReply (c .enum-told .given .1))), p .ensures .1)
 
 pub lsq-text-spec : {M : Type 1} → statement M
 lsq-text-spec =

@@ -1,9 +1,10 @@
 use Prim.Native.Nat.{_≤_}
-use mathlib.Core.Path.{_≡_, sym, _∙_}
+use mathlib.Core.Path.{_≡_, sym, _∙_, ap}
 use native.Mathlib.Omega.{arith}
 use lib.ListN.{length}
 use lib.Seq.{length-take-le}
 use borrow.Author.Needs.{needs}
+use Rattle.table.specs.Number.{writtenReply}
 use Rattle.printed.proofs.TextFits.{bytes-few}
 use Rattle.play.proofs.show.Statement.{statement}
 use Rattle.play.proofs.show.Tie as tie
@@ -29,7 +30,7 @@ fits : (c : tie.After-known-told) → c .before .written .given .0 .0 ≤ length
 fits c =
     let a = c .before .before .before .before .before .before .before .before .before .args in
     let l : length (c .before .before .before .before .print .last .1 .1 .0) ≡ length (c .before .before .before .before .before .before .text-buffer .result) = search needs in
-    omega (arith, bytes-few (a .table .now) (a .trace .now) (c .before .before .before .before .before .before .text-buffer .result) (sym (c .before .written .given .1) ∙ c .before .before .before .before .print .ensures .0))
+    omega (arith, bytes-few (a .table .now) (a .trace .now) (c .before .before .before .before .before .before .text-buffer .result) (sym (ap writtenReply (c .before .written .given .1)) ∙ c .before .before .before .before .print .ensures .0))
 
 -- src/main.rt:35:38
 array-share-prefix-out : tie.Need-array-share-prefix-out

@@ -1,15 +1,16 @@
 -- The numbers of each answer.
 use mathlib.Core.Path.{sym, ap}
+use Rattle.table.specs.Number.{writtenReply}
 use Rattle.live.specs.Bytes.{bytesWritten}
 use borrow.Author.Needs.{needs}
 use Rattle.live.proofs.bytes.bytes_written.Statement.{statement}
 use Rattle.live.proofs.bytes.bytes_written.Tie as tie
 
 returns : tie.Need-returns
-returns c = sym (ap bytesWritten (c .before .written .given .1))
+returns c = sym (ap bytesWritten (ap writtenReply (c .before .written .given .1)))
 
 returns-2 : tie.Need-returns-2
-returns-2 c = sym (ap bytesWritten (c .before .written2 .given .1))
+returns-2 c = sym (ap bytesWritten (ap writtenReply (c .before .written2 .given .1)))
 
 pub bytes-written-spec : {M : Type 1} → statement M
 bytes-written-spec =

@@ -1,5 +1,5 @@
 use mathlib.Core.Path.{refl, ap}
-use Rattle.table.specs.declared.Written.the-variants.{Bytes}
+use Rattle.table.specs.Number.{accepts}
 use Rattle.printed.proofs.TextLaws.{printed-short, printed-fits, puts-front}
 use borrow.Author.Needs.{needs}
 use Rattle.printed.proofs.text.print.Statement.{statement}
@@ -24,7 +24,7 @@ returns-2 : tie.Need-returns-2
 returns-2 c =
     let a = c .before .before .before .before .before .before .before .before .args in
     let w = puts-front (c .before .before .put-text .ensures) in
-    rw (printed-fits (a .table .now) (a .trace .now) (a .out .now) (c .before .before .before .before .if1 .left)) (ap Bytes (w .0), w .1)
+    rw (printed-fits (a .table .now) (a .trace .now) (a .out .now) (c .before .before .before .before .if1 .left)) (ap accepts (w .0), w .1)
 
 pub print-spec : {M : Type 1} → statement M
 print-spec = tie.close (tie.spec returns put-text-requires same-length returns-2)

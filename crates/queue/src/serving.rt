@@ -82,11 +82,9 @@ pub(crate) fn supply_for(entries: &[u64], n: usize, address: u16) -> Supply
         if !store.addressed {
             return Supply::Unknown;
         }
+        i += 1;
         if supplies_address(store, address) {
             found = word_from(store);
-            i += 1;
-        } else {
-            i += 1;
         }
     }
     found

@@ -53,14 +53,14 @@ returns c =
     let u = c .before .before in
     supplying-stop (turn u .loop .inv .1) (here u) (address-lacking (u .unpack .result) (c .if1 .taken))
 
+add-i : tie.Need-add-i Inv-loop μ-loop
+add-i c = omega arith
+
 supplies-address-requires : tie.Need-supplies-address-requires Inv-loop μ-loop
 supplies-address-requires c κs = search needs
 
 word-from-requires : tie.Need-word-from-requires Inv-loop μ-loop
 word-from-requires c κs = search needs
-
-add-i : tie.Need-add-i Inv-loop μ-loop
-add-i c = omega arith
 
 loop-less : tie.Need-loop-less Inv-loop μ-loop
 loop-less c = omega arith
@@ -70,9 +70,6 @@ loop-again c =
     let k = c .before .before .before in
     let u = k .before .before in
     (omega arith, supplying-more (turn u .loop .inv .1) (here u) (known k) (sym (c .before .before .supplies-address .ensures) ∙ c .before .if2 .taken) (c .word-from .ensures))
-
-add-i-2 : tie.Need-add-i-2 Inv-loop μ-loop
-add-i-2 c = omega arith
 
 loop-less-2 : tie.Need-loop-less-2 Inv-loop μ-loop
 loop-less-2 c = omega arith
@@ -97,12 +94,11 @@ supply-for-spec =
     shared-slice-read-unpack
     unpack-requires
     returns
+    add-i
     supplies-address-requires
     word-from-requires
-    add-i
     loop-less
     loop-again
-    add-i-2
     loop-less-2
     loop-again-2
     returns-2)

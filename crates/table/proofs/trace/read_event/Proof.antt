@@ -3,13 +3,14 @@ use Rattle.table.specs.Number.{numberReply, numberRefusal}
 use Rattle.table.specs.Event.{readEvent}
 use Rattle.table.proofs.NumberLaws.{NumberGot, number-got, number-bad}
 use Rattle.table.proofs.TraceLaws.{event-at-end, event-at-inside}
+use native.Mathlib.Omega.{arith}
 use borrow.Author.Needs.{needs}
 use Rattle.table.proofs.trace.read_event.Statement.{statement}
 use Rattle.table.proofs.trace.read_event.Tie as tie
 
 -- src/trace.rt:135:9
 returns : tie.Need-returns
-returns c = sym (event-at-end _ _ (c .if1 .taken))
+returns c = sym (event-at-end _ _ (omega (arith, c .if1 .taken)))
 
 -- src/trace.rt:137:9
 read-number-requires : tie.Need-read-number-requires

@@ -8,6 +8,7 @@ pub mod Table
 pub mod ProgramOrder
 pub mod TableBytes
 pub mod Event
+pub mod Trace
 pub mod Reader
 pub mod RoundTrip
 pub mod Internal

@@ -7,6 +7,7 @@ pub mod Group
 pub mod Table
 pub mod ProgramOrder
 pub mod TableBytes
+pub mod RightTables
 pub mod Event
 pub mod Trace
 pub mod Reader

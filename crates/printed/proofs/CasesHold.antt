@@ -4,6 +4,7 @@ use Rattle.table.specs.Number.{numberUpTo, bytesUpTo}
 use Rattle.table.specs.Table.{pairsFault, seeing, groupFault, groupsFault, tableFault}
 use Rattle.table.specs.TableBytes.{readPairs, readGroup, readGroups, readTable}
 use Rattle.table.specs.Event.{readEvent, readHeader}
+use Rattle.table.specs.Trace.{eventsUpTo}
 use Rattle.queue.specs.Sound.{sound}
 use Rattle.queue.specs.Open.{openQueue}
 use Rattle.queue.specs.Activate.{activate}
@@ -11,7 +12,6 @@ use Rattle.queue.specs.Arguments.{loadAddress, storeAddress, storeData}
 use Rattle.queue.specs.Serve.{serve}
 use Rattle.queue.specs.Write.{write}
 use Rattle.queue.specs.Take.{takeRule}
-use Rattle.replay.specs.Events.{eventsUpTo}
 use Rattle.replay.specs.Replay.{prepare}
 use Rattle.printed.specs.Decimal.{digitsUpTo}
 use Rattle.printed.specs.Text.{traceText, text}

@@ -17,6 +17,7 @@ use Rattle.table.specs.declared.Event.{Event}
 use Rattle.table.specs.declared.Event.the-variants.{Activate, LoadAddress, StoreAddress, StoreData, Serve, Write, Take}
 use Rattle.table.specs.declared.Header.{Header}
 use Rattle.table.specs.Event.{readHeader}
+use Rattle.table.specs.Trace.{readEvents}
 use Rattle.queue.specs.declared.Counts.{Counts}
 use Rattle.queue.specs.Counts.{share}
 use Rattle.queue.specs.Ruled.{Ruled, refuse, accept, need, have}
@@ -31,7 +32,6 @@ use Rattle.queue.specs.Calls.{Argument}
 use Rattle.queue.specs.Call.{Machine, moved, served, written, taken, give}
 use Rattle.queue.specs.Take as Takes
 use Rattle.queue.proofs.Refusals.{andThen-accepts}
-use Rattle.replay.specs.Events.{eventsOf}
 use Rattle.replay.specs.Playing.{Playing, playing, stepOf, played, log, playedAll}
 use Rattle.replay.specs.Replay.{Start, startOf, openTrace, prepare, replayed}
 use Rattle.replay.proofs.EventLaws.{events-few-from}
@@ -94,10 +94,10 @@ record Small (s : Start) : Type 0 where
   pub events : length (s .events) ≤ mostBytes
   pub words : s .words ≤ 4096
 
-start-small : (q : Contents) (words : ℕ) (rest : List ℕ) {s : Start} → words ≤ 4096 → length rest ≤ mostBytes → startOf q words (eventsOf rest) ≡ accept s → Small s
-start-small q words rest {s} h k e = go (eventsOf rest) refl e
+start-small : (q : Contents) (words : ℕ) (rest : List ℕ) {s : Start} → words ≤ 4096 → length rest ≤ mostBytes → startOf q words (readEvents rest) ≡ accept s → Small s
+start-small q words rest {s} h k e = go (readEvents rest) refl e
   where
-    go : (g : Got (List Event)) → eventsOf rest ≡ g → startOf q words g ≡ accept s → Small s
+    go : (g : Got (List Event)) → readEvents rest ≡ g → startOf q words g ≡ accept s → Small s
     go (bad n) d f = let z : _≡_ {A = ℕ} 0 1 = cc in absurd (omega arith)
     go (got es left) d f =
         let y : s ≡ record { queue = q; words = words; events = es } = cc in

@@ -49,7 +49,7 @@ marked-more (b ∷ seen) (suc port) e h = go b (marked-more seen port e (omega a
     go false d = d
 
 -- a pair with no fault has a port that was not seen
-fault-unseen : (right : Bool) (seen : List Bool) (port : ℕ) → pairFault right seen port ≡ 0 → getD seen port false ≡ false
+pub fault-unseen : (right : Bool) (seen : List Bool) (port : ℕ) → pairFault right seen port ≡ 0 → getD seen port false ≡ false
 fault-unseen right seen port e = go right (leb port 31) (getD seen port false) e
   where
     go : (r t m : Bool) → check r 8 (check t 6 (check (not m) 7 0)) ≡ 0 → m ≡ false

@@ -1,27 +1,23 @@
--- Tables and traces are read back; the statements are specs/RoundTrip.antt.
-use Prim.Native.Nat.{ℕ, zero, suc, _+_, _≤_, _<_}
+-- Tables, events and leading numbers are read back; the statements are specs/RoundTrip.antt.
+use Prim.Native.Nat.{ℕ, zero, suc, _+_, _≤_}
 use mathlib.Core.Path.{_≡_, refl, sym, ap, _∙_}
 use mathlib.Core.Bool.{Bool, true, false, true≢false, false≢true}
 use mathlib.Core.List.{List, [], _∷_, _++_, append-nil, append-assoc}
 use native.Mathlib.Omega.{arith}
 use lib.Dec.{leb, eqb}
-use lib.ListN.{length, set, drop, length-append}
-use lib.Seq.{drop-append-seam}
+use lib.ListN.{length, set}
 use borrow.Author.Tests.{ne-eqb, leb-true, eqb-true}
 use Rattle.table.specs.declared.Pair.{Pair}
-use Rattle.table.specs.declared.Event.{Event}
 use Rattle.table.specs.declared.Event.the-variants.{Activate, LoadAddress, StoreAddress, StoreData, Serve, Write, Take}
 use Rattle.table.specs.Basics.{pick, countWhere, flat, within}
 use Rattle.table.specs.Refusal.{badFields, badGroupCount, badCounts, leftOver, badKind}
-use Rattle.table.specs.Number.{Got, got, bad, andThen, require, readNumber, placeOf, accepts, reading, readIn, numberBytes, bytesOf}
+use Rattle.table.specs.Number.{Got, got, bad, andThen, require, readNumber, numberBytes, bytesOf}
 use Rattle.table.specs.Group.{GroupPairs, beforeStore}
 use Rattle.table.specs.Table.{loadRule, storeRule, pairFault, pairsFault, countsRight, Seen, noneSeen, seenAfter, groupFault, groupsFault, tableFault}
 use Rattle.table.specs.TableBytes.{unless, pair, before, readPairs, readGroup, readGroups, readTable, pairNumbers, groupNumbers, tableNumbers, tableBytes}
-use Rattle.table.specs.Event.{eventNumbers, hasSecond, eventOf, readKind, readEvent, yielded, atEnd, eventAt, eventBytes, eventsBytes, headerBytes, readHeader}
-use Rattle.table.specs.RoundTrip.{Spelled, nothing, next, Fit, none, one, TablesAreSpelled, OnlyRightTables, TablesReadBack, RecordsHoldGroups, EventsAreSpelled, OnlySpelledEvents, Yields, ends, yields, HeadersAreSpelled, OnlySpelledHeaders, AllFit, no-more, and-more, TracesReadBack}
+use Rattle.table.specs.Event.{eventNumbers, hasSecond, eventOf, readKind, readEvent, readHeader}
+use Rattle.table.specs.RoundTrip.{Spelled, nothing, next, Fit, none, one, TablesAreSpelled, OnlyRightTables, TablesReadBack, RecordsHoldGroups, EventsAreSpelled, OnlySpelledEvents, HeadersAreSpelled, OnlySpelledHeaders}
 use Rattle.table.proofs.CheckLaws.{and-right, fault-none, counts-few, count-most}
-use Rattle.table.proofs.SpliceLaws.{bytes-some}
-use Rattle.table.proofs.TraceLaws.{event-at-end, event-at-inside}
 use Rattle.table.proofs.PackLaws.{group-fault, groups-packed}
 use Rattle.table.proofs.ReadLaws.{read-right, groupOf}
 use Rattle.table.proofs.WriteLaws.{or-else-both, check-both}
@@ -461,43 +457,7 @@ only-spelled-events s rest e d = first (readNumber s) refl d
     first (got kind s₁) a f = known kind s₁ a (leb kind 6) refl f
     first (bad n) a f = let z : _≡_ {A = ℕ} 0 1 = cc in absurd (omega arith)
 
--- ---- traces
-event-some : (e : Event) → 0 < length (eventBytes e)
-event-some e = go (eventNumbers e) (some-numbers e)
-  where
-    some-numbers : (ev : Event) → 0 < length (eventNumbers ev)
-    some-numbers (Activate group) = omega arith
-    some-numbers (LoadAddress port address) = omega arith
-    some-numbers (StoreAddress port address) = omega arith
-    some-numbers (StoreData port word) = omega arith
-    some-numbers (Serve serial) = omega arith
-    some-numbers (Write serial) = omega arith
-    some-numbers (Take port) = omega arith
-
-    go : (ns : List ℕ) → 0 < length ns → 0 < length (bytesOf ns)
-    go [] h = h
-    go (n ∷ ns) h = rw length-append (omega (arith, bytes-some 4 n))
-
-yields-from : (prefix : List ℕ) (es : List Event) → AllFit es → (s : List ℕ) → s ≡ prefix ++ eventsBytes es → Yields s (length prefix) es
-yields-from prefix [] no-more s e = ends (event-at-end s (length prefix) (rw (e, append-nil) (omega arith)))
-yields-from prefix (ev ∷ es) (and-more f w) s e =
-    let t : Yields s (length prefix + length (eventBytes ev)) es = rw (← long) (yields-from (prefix ++ eventBytes ev) es w s (e ∙ sym (append-assoc prefix (eventBytes ev) (eventsBytes es)))) in
-    yields (found (events-are-spelled ev (eventBytes ev) (eventsBytes es) (written f))) t
-  where
-    long : length (prefix ++ eventBytes ev) ≡ length prefix + length (eventBytes ev)
-    long = length-append prefix (eventBytes ev)
-
-    rest-place : placeOf s (eventsBytes es) ≡ length prefix + length (eventBytes ev)
-    rest-place = rw (e, length-append, length-append) (omega arith)
-
-    some-bytes : 0 < length (eventBytes ev)
-    some-bytes = event-some ev
-
-    found : readEvent (eventBytes ev ++ eventsBytes es) ≡ got ev (eventsBytes es) → eventAt s (length prefix) ≡ accepts (yielded ev (length prefix + length (eventBytes ev)))
-    found r =
-        let d : drop (length prefix) s ≡ eventBytes ev ++ eventsBytes es = rw e (drop-append-seam prefix (eventBytes ev ++ eventsBytes es)) in
-        event-at-inside s (length prefix) (rw (e, length-append, length-append) (omega (arith, some-bytes))) ∙ rw (d, r, rest-place)
-
+-- ---- the leading numbers of a trace
 pub headers-are-spelled : HeadersAreSpelled
 unfolding readHeader
 headers-are-spelled h bytes rest w = first (take-before rest w)
@@ -535,11 +495,3 @@ only-spelled-headers s rest h e =
     let x : record { loads = a; stores = b; serial = c; words = d } ≡ h = cc in
     let y : s₄ ≡ rest = cc in
     rw (← x) (cons-before s s₁ rest a (b ∷ c ∷ d ∷ []) d₁ (cons-before s₁ s₂ rest b (c ∷ d ∷ []) d₂ (cons-before s₂ s₃ rest c (d ∷ []) d₃ (cons-before s₃ s₄ rest d [] d₄ ([], y, nothing)))))
-
-pub traces-read-back : TracesReadBack
-traces-read-back h es f w = (length (headerBytes h), header (headerBytes h) (eventsBytes es) (headers-are-spelled h (headerBytes h) (eventsBytes es) (written f)), yields-from (headerBytes h) es w (headerBytes h ++ eventsBytes es) refl)
-  where
-    header : (bytes rest : List ℕ) → readHeader (bytes ++ rest) ≡ got h rest → readIn (bytes ++ rest) (readHeader (bytes ++ rest)) ≡ accepts (reading h (length bytes))
-    header bytes rest e =
-        let k : placeOf (bytes ++ rest) rest ≡ length bytes = rw length-append (omega arith) in
-        rw (e, k)

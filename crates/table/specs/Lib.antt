@@ -7,7 +7,9 @@ pub mod Group
 pub mod Table
 pub mod ProgramOrder
 pub mod TableBytes
+pub mod RightTables
 pub mod Event
+pub mod Trace
 pub mod Reader
 pub mod RoundTrip
 pub mod Internal

@@ -1,6 +1,6 @@
 -- What reading and writing promise together: what is written is read back, and what is read means what it spells. Document
--- 01: "a reader accepts padding; the writer uses the fewest bytes". The proofs are proofs/RoundTrip.antt, RoundTripLaws.antt
--- and PackLaws.antt.
+-- 01: "a reader accepts padding; the writer uses the fewest bytes". The proofs are proofs/RoundTrip.antt, RoundTripLaws.antt,
+-- PackLaws.antt and Traces.antt.
 use Prim.Native.Nat.{ℕ, _+_, _≤_, _<_, _^_}
 use mathlib.Core.Path.{_≡_}
 use mathlib.Core.Bool.{Bool, true}
@@ -14,7 +14,8 @@ use Rattle.table.specs.Number.{got, readNumber, accepts, reading, readIn
 use Rattle.table.specs.Group.{GroupPairs}
 use Rattle.table.specs.Table.{groupsOf, tableFault}
 use Rattle.table.specs.TableBytes.{readTable, pack, loadsIn, storesIn, tableNumbers, tableBytes}
-use Rattle.table.specs.Event.{eventNumbers, readEvent, yielded, atEnd, eventAt, eventsBytes, headerNumbers, headerBytes, readHeader}
+use Rattle.table.specs.Event.{eventNumbers, readEvent, yielded, atEnd, eventAt, headerNumbers, readHeader}
+use Rattle.table.specs.Trace.{Trace, readTrace, traceNumbers, traceBytes}
 
 -- Bytes that spell numbers, one after the other, padded or not.
 pub data Spelled : List ℕ → List ℕ → Type 0 where
@@ -83,12 +84,19 @@ pub data Yields (s : List ℕ) : ℕ → List Event → Type 0 where
   ends : {place : ℕ} → eventAt s place ≡ accepts atEnd → Yields s place []
   yields : {place next : ℕ} {e : Event} {es : List Event} → eventAt s place ≡ accepts (yielded e next) → Yields s next es → Yields s place (e ∷ es)
 
-pub data AllFit : List Event → Type 0 where
-  no-more : AllFit []
-  and-more : {e : Event} {es : List Event} → Fit (eventNumbers e) → AllFit es → AllFit (e ∷ es)
+-- Reading a trace accepts just the bytes that spell the numbers of a trace, and gives that trace.
+abbrev pub TracesAreSpelled : Type 0
+TracesAreSpelled = (t : Trace) (bytes : List ℕ) → Spelled bytes (traceNumbers t) → readTrace bytes ≡ got t []
 
--- A trace that was written, its leading numbers and then its events, is read back: the numbers, the events, and the end.
+abbrev pub OnlySpelledTraces : Type 0
+OnlySpelledTraces = (s rest : List ℕ) (t : Trace) → readTrace s ≡ got t rest → (rest ≡ []) × Spelled s (traceNumbers t)
+
+-- A trace that was written, its leading numbers and then its events, is read back.
 abbrev pub TracesReadBack : Type 0
-TracesReadBack =
-    (h : Header) (es : List Event) → Fit (headerNumbers h) → AllFit es →
-    (place : ℕ) × (readIn (headerBytes h ++ eventsBytes es) (readHeader (headerBytes h ++ eventsBytes es)) ≡ accepts (reading h place)) × Yields (headerBytes h ++ eventsBytes es) place es
+TracesReadBack = (t : Trace) → Fit (traceNumbers t) → readTrace (traceBytes t) ≡ got t []
+
+-- And step by step: the leading numbers, each event, and then the end.
+abbrev pub TracesStepBack : Type 0
+TracesStepBack =
+    (t : Trace) → Fit (traceNumbers t) →
+    (place : ℕ) × (readIn (traceBytes t) (readHeader (traceBytes t)) ≡ accepts (reading (t .header) place)) × Yields (traceBytes t) place (t .events)

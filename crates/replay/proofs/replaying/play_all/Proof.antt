@@ -1,6 +1,6 @@
 -- The events up to a place are played and logged; each is read, played on the queue's parts, and put into the buffers.
 use Prim.Native.Nat.{ℕ, _-_}
-use mathlib.Core.Path.{_≡_, refl, sym, _∙_}
+use mathlib.Core.Path.{_≡_, refl, sym, ap, _∙_}
 use mathlib.Core.List.{[], _∷_}
 use mathlib.Core.Logic.{inl, inr}
 use native.Mathlib.Omega.{arith}
@@ -11,6 +11,7 @@ use denote.Enum.Declared.{tagOf}
 use Rattle.table.specs.declared.EventRead.{EventRead}
 use Rattle.table.specs.declared.EventRead.the-variants.{Found, End, NoEvent}
 use Rattle.table.proofs.EventRead.{the-type}
+use Rattle.table.specs.Event.{eventReply}
 use Rattle.table.specs.Number.{got}
 use Rattle.queue.specs.Contents.{contentsOf}
 use Rattle.queue.specs.Parts.{frameOf, queueOf}
@@ -42,7 +43,7 @@ loop-holds c =
 
 -- the event that was read
 event : (c : tie.After-known-told Inv-loop μ-loop) → EventGot (c .before .before .before .before .before .before .before .before .before .before .before .before .before .before .args .trace .now) (c .before .before .before .before .loop .place) (c .before .read .given .0 .0) (c .before .read .given .0 .1 .0)
-event c = event-got _ _ (sym (c .before .before .before .read-event .ensures) ∙ c .before .read .given .1)
+event c = event-got _ _ (sym (c .before .before .before .read-event .ensures) ∙ ap eventReply (c .before .read .given .1))
 
 room : (c : tie.After-known-told Inv-loop μ-loop) → Room (c .before .before .before .before .loop .inv .0)
 room c = walk-room (c .before .before .before .before .loop .inv .0) (event c)
@@ -83,8 +84,8 @@ ended c = go (c .before .read-event .result) refl (c .match .keys2)
     go : (r : EventRead) → c .before .read-event .result ≡ r → OneOf (1 ∷ 2 ∷ []) (tagOf the-type r) → let l = c .before .before in eventsFrom (l .before .before .before .before .before .before .before .before .before .before .args .trace .now) (l .loop .place) ≡ got [] []
     go (Found e n) is (inl z) = let y : _≡_ {A = ℕ} 0 1 = z in absurd (omega arith)
     go (Found e n) is (inr z) = let y : _≡_ {A = ℕ} 0 2 = z in absurd (omega arith)
-    go End is k = event-end _ _ (sym (c .before .read-event .ensures) ∙ is)
-    go (NoEvent n) is k = absurd (walk-no-fault (c .before .before .loop .inv .0) (event-fault _ _ (sym (c .before .read-event .ensures) ∙ is)))
+    go End is k = event-end _ _ (sym (c .before .read-event .ensures) ∙ ap eventReply is)
+    go (NoEvent n) is k = absurd (walk-no-fault (c .before .before .loop .inv .0) (event-fault _ _ (sym (c .before .read-event .ensures) ∙ ap eventReply is)))
 
 returns : tie.Need-returns Inv-loop μ-loop
 returns c = rw (c .played .ensures) (walk-end (c .before .before .before .loop .inv .0) (ended (c .before)))

@@ -1,0 +1,59 @@
+-- Replaying goes by the trace that its bytes are. The proofs are proofs/Traces.antt.
+use Prim.Native.Nat.{ℕ}
+use mathlib.Core.Path.{_≡_}
+use mathlib.Core.List.{List, []}
+use lib.Dec.{eqb}
+use lib.ListN.{length}
+use Rattle.table.specs.Refusal.{tooShort}
+use Rattle.table.specs.Number.{got}
+use Rattle.table.specs.Group.{GroupPairs}
+use Rattle.table.specs.Trace.{Trace, readTrace, traceNumbers, traceBytes}
+use Rattle.table.specs.RoundTrip.{Fit}
+use Rattle.queue.specs.declared.Counts.{Counts}
+use Rattle.queue.specs.Refusal.{wrongMemory}
+use Rattle.queue.specs.Ruled.{Ruled, accept, need, andThen}
+use Rattle.queue.specs.Contents.{Contents}
+use Rattle.queue.specs.Open.{openQueue}
+use Rattle.replay.specs.Replay.{Start, prepare, Replay, replayed, Buffers, fits, replay}
+
+-- opening with a trace's leading numbers
+abbrev pub openFor : List GroupPairs → Trace → Ruled Contents
+openFor gs t = openQueue gs (t .header .loads) (t .header .stores) (t .header .serial) (t .header .words)
+
+abbrev pub startWith : Contents → Trace → Start
+startWith q t = record { queue = q; words = t .header .words; events = t .events }
+
+-- A trace as it is meant is refused by opening alone, and else it is played with just its events and its memory length.
+abbrev pub startOn : List GroupPairs → Trace → Ruled Start
+startOn gs t = andThen (openFor gs t) λ q. accept (startWith q t)
+
+abbrev pub replayOn : List GroupPairs → Trace → List ℕ → Counts → Buffers → Ruled Replay
+replayOn gs t memory c b =
+    andThen (openFor gs t) λ q.
+    need (eqb (length memory) (t .header .words)) wrongMemory
+    (need (fits (length (t .events)) b) tooShort
+    (accept (replayed (startWith q t) memory c)))
+
+-- Bytes that are read as a trace are made ready as that trace, and no other bytes are.
+abbrev pub TracesPrepared : Type 0
+TracesPrepared = (gs : List GroupPairs) (bytes : List ℕ) (t : Trace) → readTrace bytes ≡ got t [] → prepare gs bytes ≡ startOn gs t
+
+abbrev pub OnlyTracesPrepared : Type 0
+OnlyTracesPrepared =
+    (gs : List GroupPairs) (bytes : List ℕ) (s : Start) → prepare gs bytes ≡ accept s →
+    (t : Trace) × (readTrace bytes ≡ got t []) × (startOn gs t ≡ accept s)
+
+-- They are replayed as that trace: the log is that of its events.
+abbrev pub TracesReplayed : Type 0
+TracesReplayed =
+    (gs : List GroupPairs) (bytes : List ℕ) (t : Trace) (memory : List ℕ) (c : Counts) (b : Buffers) → readTrace bytes ≡ got t [] →
+    replay gs bytes memory c b ≡ replayOn gs t memory c b
+
+-- A trace that was written, every number one of 32 bits, is made ready and replayed as its events.
+abbrev pub WrittenPrepared : Type 0
+WrittenPrepared = (gs : List GroupPairs) (t : Trace) → Fit (traceNumbers t) → prepare gs (traceBytes t) ≡ startOn gs t
+
+abbrev pub WrittenReplayed : Type 0
+WrittenReplayed =
+    (gs : List GroupPairs) (t : Trace) (memory : List ℕ) (c : Counts) (b : Buffers) → Fit (traceNumbers t) →
+    replay gs (traceBytes t) memory c b ≡ replayOn gs t memory c b

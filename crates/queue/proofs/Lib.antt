@@ -37,3 +37,7 @@ pub mod ReachedSound
 pub mod Progress
 pub mod Demand3
 pub mod RecordsDemand3
+-- there is a run of records
+pub mod Stored
+pub mod Fits
+pub mod RunsExist

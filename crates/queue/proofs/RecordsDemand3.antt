@@ -6,7 +6,7 @@ use mathlib.Core.List.{List, _∷_}
 use mathlib.Core.Option.{Option, none, some}
 use lib.Dec.{eqb}
 use lib.ListN.{length}
-use borrow.Author.Tests.{eqb-false, not-true}
+use borrow.Author.Tests.{eqb-false}
 use Rattle.table.specs.declared.Table.{Table}
 use Rattle.table.specs.Basics.{allOf}
 use Rattle.table.specs.Group.{GroupPairs}
@@ -39,12 +39,12 @@ use Rattle.queue.specs.Records.{logged, Hands, Runs, done, next, machine
 use Rattle.queue.specs.Records.{ServeCountedHands, ServeHands, ReadyIntoHands, ReadyHands}
 use Rattle.queue.specs.Records.{RecordsDemand3, FramesDemand3, AlikeRecords, RecordsSound}
 use Rattle.queue.specs.Demand3.{Opening}
-use Rattle.queue.proofs.Refusals.{proper, need-proper}
+use Rattle.queue.proofs.Refusals.{proper, need-proper, refusal-not-zero}
 use Rattle.queue.proofs.ReachedSound.{reached-sound}
 use Rattle.queue.proofs.Demand3.{demand3, alike}
 
 -- ---- one call: what it hands over is what the definitions' step gives
-record Same (s : Step) (r : Outcome) (left : List ℕ) : Type 0 where
+pub record Same (s : Step) (r : Outcome) (left : List ℕ) : Type 0 where
   pub number : s .number ≡ r .answer
   pub value : s .value ≡ valueIn (r .value)
   pub queue : s .machine .queue ≡ contentsOf (r .queue)
@@ -83,7 +83,7 @@ module _ (q : Queue) (m : List ℕ) where
   kept : {s : Step} {r : Outcome} (left : List ℕ) → Same s r m → left ≡ m → Same s r left
   kept left s e = rw e s
 
-  hands-same : (c : Call) (r : Outcome) (left : List ℕ) → Hands q m c r left → Same (step (machineOf q m) c) r left
+  pub hands-same : (c : Call) (r : Outcome) (left : List ℕ) → Hands q m c r left → Same (step (machineOf q m) c) r left
   hands-same (Activate g) r left (w, e) = kept left (moves-same (activate (contentsOf q) g) r w) e
   hands-same (Give kind p x) r left (w, e) = kept left (moves-same (give kind (contentsOf q) p x) r w) e
   hands-same (Serve lent s) r left ((counts, w), e) = kept left (serves-same (serve (contentsOf q) m s) lent counts r w) e
@@ -138,17 +138,18 @@ runs-agree (next {q} {m = m} {m₁} {c = c} r h k) = one-more (hands-same q m c 
 
 -- ---- an opening
 -- a refused one has a number: 4 to 8 are the table's own, and are not 0 where they refuse
-fault-proper : {A : Type 0} (n : ℕ) (rest : Ruled A) → proper rest ≡ true → proper (need (eqb n 0) n rest) ≡ true
-fault-proper n rest h = go (eqb n 0) refl
+fault-refuses : {A : Type 0} (fault : ℕ) (rest : Ruled A) (n : ℕ) → proper rest ≡ true → need (eqb fault 0) fault rest ≡ refuse n → eqb n 0 ≡ false
+fault-refuses fault rest n p e = go (eqb fault 0) refl e
   where
-    go : (t : Bool) → eqb n 0 ≡ t → proper (need t n rest) ≡ true
-    go true e = h
-    go false e = rw e
+    go : (t : Bool) → eqb fault 0 ≡ t → need t fault rest ≡ refuse n → eqb n 0 ≡ false
+    go true k d = refusal-not-zero rest n p d
+    go false k d = let same : fault ≡ n = cc in (rw same at k)
 
-open-proper : (groups : List GroupPairs) (loadDepth storeDepth first words : ℕ) → proper (openQueue groups loadDepth storeDepth first words) ≡ true
+pub open-refuses : (groups : List GroupPairs) (loadDepth storeDepth first words n : ℕ) → openQueue groups loadDepth storeDepth first words ≡ refuse n
+    → eqb n 0 ≡ false
 unfolding openQueue
-open-proper groups loadDepth storeDepth first words =
-    fault-proper (tableFault groups) _
+open-refuses groups loadDepth storeDepth first words n =
+    fault-refuses (tableFault groups) _ n
     (need-proper (depthRight loadDepth) _ _ refl
     (need-proper (depthRight storeDepth) _ _ refl
     (need-proper (memoryRight words) _ _ refl (need-proper (allOf (groupFits loadDepth storeDepth) groups) _ _ refl refl))))
@@ -161,12 +162,12 @@ opening {table} {memory} {o} w = record {
   storeDepth = w .storeDepth;
   first = w .first;
   serial = w .serial;
-  accepted = go (openQueue (groupsOf table) (w .loadDepth) (w .storeDepth) (w .first) (length memory)) (open-proper _ _ _ _ _) (w .opens);
+  accepted = go (openQueue (groupsOf table) (w .loadDepth) (w .storeDepth) (w .first) (length memory)) (open-refuses _ _ _ _ _) (w .opens);
   lent = refl;
 }
   where
-    go : (rule : Ruled Contents) → proper rule ≡ true → Opens (w .refused) rule o → rule ≡ accept (contentsOf (o .queue))
-    go (refuse n) p e = absurd (eqb-false n 0 (not-true (eqb n 0) p) (sym (ap (λ (x : Opened). x .answer) e) ∙ w .accepted))
+    go : (rule : Ruled Contents) → ((n : ℕ) → rule ≡ refuse n → eqb n 0 ≡ false) → Opens (w .refused) rule o → rule ≡ accept (contentsOf (o .queue))
+    go (refuse n) p e = absurd (eqb-false n 0 (p n refl) (sym (ap (λ (x : Opened). x .answer) e) ∙ w .accepted))
     go (accept c) p e = ap accept (sym (e .1))
 
 pub records-demand3 : RecordsDemand3

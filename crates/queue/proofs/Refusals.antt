@@ -1,13 +1,14 @@
--- Rules read backwards: what holds where a rule accepts, and that no refusal number is 0.
-use Prim.Native.Nat.{ℕ}
+-- Rules read backwards: what holds where a rule accepts, and that every refusal number is a byte other than 0.
+use Prim.Native.Nat.{ℕ, _<_}
 use mathlib.Core.Path.{_≡_, refl}
-use mathlib.Core.Bool.{Bool, true, false, not}
+use mathlib.Core.Bool.{Bool, true, false, not, _&&_}
 use mathlib.Core.List.{List}
 use mathlib.Core.Option.{Option, none, some}
-use lib.Dec.{eqb, ltb}
+use lib.Dec.{eqb, leb, ltb}
 use lib.ListN.{length, getElem?}
-use borrow.Author.Tests.{not-true}
-use Rattle.queue.specs.Ruled.{Ruled, refuse, accept, need, have, andThen, isSome}
+use native.Mathlib.Omega.{arith}
+use borrow.Author.Tests.{not-true, ltb-true}
+use Rattle.queue.specs.Ruled.{Ruled, refuse, accept, number, need, have, andThen, isSome}
 use Rattle.queue.specs.Contents.{Store, Contents, loadPlace, storePlace, firstPlace}
 use Rattle.table.specs.Basics.{anyOf, allOf}
 use Rattle.queue.specs.Sound.{sound}
@@ -16,9 +17,14 @@ use Rattle.queue.specs.Arguments.{isLoadPort, isStorePort, loadLacksAddr
 use Rattle.queue.specs.Serve.{hasAddress, nearest, storesBefore, serve, sourceOf}
 use Rattle.queue.specs.Write.{loadGivesWay, storeGivesWay, write}
 use Rattle.queue.specs.Take.{untaken, takeRule}
-use Rattle.queue.specs.Calls.{Argument, LoadAddress, StoreAddress, StoreData}
-use Rattle.queue.specs.Call.{give}
-use Rattle.queue.proofs.Lists.{false-true}
+use Rattle.queue.specs.Ready.{servable, writable, readyLoads, readyStores}
+use Rattle.queue.specs.Calls.{Argument, LoadAddress, StoreAddress, StoreData, Side, LoadSide, StoreSide}
+use Rattle.queue.specs.Call.{give, ready}
+use Rattle.queue.proofs.Lists.{false-true, and-left, and-right}
+
+-- a number that refuses: it is not 0, and it is a byte
+abbrev pub properNumber : ℕ → Bool
+properNumber n = not (eqb n 0) && ltb n 256
 
 module _ {A : Type 0} where
   pub need-accepts : (b : Bool) (n : ℕ) (rest : Ruled A) {a : A} → need b n rest ≡ accept a → (b ≡ true) × (rest ≡ accept a)
@@ -33,19 +39,23 @@ module _ {A : Type 0} where
   andThen-accepts (refuse n) rest h = let e : false ≡ true = cc in false-true e
   andThen-accepts (accept a) rest h = (a, refl, h)
 
-  -- no refusal is 0
   abbrev pub proper : Ruled A → Bool
-  proper (refuse n) = not (eqb n 0)
+  proper (refuse n) = properNumber n
   proper (accept a) = true
 
   pub refusal-not-zero : (r : Ruled A) (n : ℕ) → proper r ≡ true → r ≡ refuse n → eqb n 0 ≡ false
-  refusal-not-zero r n h e = not-true (eqb n 0) (rw e at h)
+  refusal-not-zero r n h e = not-true (eqb n 0) (and-left (not (eqb n 0)) (ltb n 256) (rw e at h))
 
-  pub need-proper : (b : Bool) (n : ℕ) (rest : Ruled A) → not (eqb n 0) ≡ true → proper rest ≡ true → proper (need b n rest) ≡ true
+  pub number-small : (r : Ruled A) → proper r ≡ true → number r < 256
+  number-small (refuse n) h = ltb-true n 256 (and-right (not (eqb n 0)) (ltb n 256) h)
+  number-small (accept a) h = omega arith
+
+  pub need-proper : (b : Bool) (n : ℕ) (rest : Ruled A) → properNumber n ≡ true → proper rest ≡ true → proper (need b n rest) ≡ true
   need-proper true n rest e h = h
   need-proper false n rest e h = e
 
-pub have-proper : {A B : Type 0} (o : Option A) (n : ℕ) (rest : A → Ruled B) → not (eqb n 0) ≡ true → ((a : A) → proper (rest a) ≡ true) → proper (have o n rest) ≡ true
+pub have-proper : {A B : Type 0} (o : Option A) (n : ℕ) (rest : A → Ruled B) → properNumber n ≡ true → ((a : A) → proper (rest a) ≡ true)
+    → proper (have o n rest) ≡ true
 have-proper none n rest e h = e
 have-proper (some a) n rest e h = h a
 
@@ -101,3 +111,8 @@ take-proper q port =
     need-proper (sound q) _ _ refl
     (need-proper (anyOf (isLoadPort port) (q .groups)) _ _ refl
     (have-proper (getElem? (q .loads) (firstPlace (untaken port) (q .loads))) _ _ refl λ l. have-proper (l .value) _ _ refl λ v. refl))
+
+pub ready-proper : (side : Side) (q : Contents) (run : List ℕ) → proper (ready side q run) ≡ true
+unfolding readyLoads readyStores
+ready-proper LoadSide q run = need-proper (sound q) _ _ refl (need-proper (leb (length (servable q)) (length run)) _ _ refl refl)
+ready-proper StoreSide q run = need-proper (sound q) _ _ refl (need-proper (leb (length (writable q)) (length run)) _ _ refl refl)

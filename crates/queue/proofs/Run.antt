@@ -31,7 +31,7 @@ use Rattle.queue.proofs.Steps.Take.{take-keeps}
 
 -- ---- the opening
 
-limits-opened : (groups : List GroupPairs) (loadDepth storeDepth first words : ℕ) (q : Contents) → openQueue groups loadDepth storeDepth first words ≡ accept q
+pub limits-opened : (groups : List GroupPairs) (loadDepth storeDepth first words : ℕ) (q : Contents) → openQueue groups loadDepth storeDepth first words ≡ accept q
     → Limits groups words loadDepth storeDepth × (opened groups loadDepth storeDepth first words ≡ q)
 unfolding openQueue
 limits-opened groups loadDepth storeDepth first words q h₀ =

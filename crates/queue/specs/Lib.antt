@@ -23,6 +23,7 @@ pub mod Call
 pub mod Plain
 pub mod Demand3
 pub mod Records
+pub mod RunsExist
 pub mod Internal
 pub mod InternalActivate
 pub mod InternalArguments

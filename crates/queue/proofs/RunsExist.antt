@@ -26,14 +26,14 @@ use Rattle.queue.specs.Serve.{Served, serve}
 use Rattle.queue.specs.Write.{Written, write}
 use Rattle.queue.specs.Take.{Taken, takeRule}
 use Rattle.queue.specs.Counts.{counted}
-use Rattle.queue.specs.Outcome.{refused, Moves, Takes, Serves, Writes, Opens}
+use Rattle.queue.specs.Outcome.{Moves, Takes, Serves, Writes, Opens}
 use Rattle.queue.specs.ServeLent.{withCounts}
 use Rattle.queue.specs.Parts.{answered}
 use Rattle.queue.specs.Calls.{Call, Activate, Give, Serve, Write, Take, Ready}
 use Rattle.queue.specs.Call.{Machine, Step, Answered, moved, served, written, taken, give, ready, step}
 use Rattle.queue.specs.Records.{logged, Hands, done, next, machineOf, OpenedRecord}
 use Rattle.queue.specs.Demand3.{Opening}
-use Rattle.queue.specs.RunsExist.{fits, argumentFits, Stored, Handed, Throughout, SomeRun, RunsExist, OpeningsExist}
+use Rattle.queue.specs.RunsExist.{fits, argumentFits, Stored, StoredOutcome, Throughout, SomeRun, RunsExist, OpeningsExist}
 use Rattle.queue.proofs.Lists.{and-left, and-right}
 use Rattle.queue.proofs.State.{Limits, State}
 use Rattle.queue.proofs.Run.{limits-opened, opening-state, step-keeps}
@@ -57,7 +57,7 @@ module _ (q : Queue) (m : List ℕ) where
   Packed s = contentsOf (recordOf (q .frame .table) (s .machine .queue)) ≡ s .machine .queue
 
   moves-next : (rule : Ruled Contents) → Packed (moved (machineOf q m) rule) → Next q (moved (machineOf q m) rule) (λ r left. Moves q rule r × (left ≡ m))
-  moves-next (refuse n) p = record { outcome = refused n q; left = m; given = (refl, refl); kept = inl refl }
+  moves-next (refuse n) p = record { outcome = answered n q; left = m; given = (refl, refl); kept = inl refl }
   moves-next (accept c) p = record {
     outcome = record { answer = 0; value = Nothing; queue = recordOf (q .frame .table) c };
     left = m;
@@ -66,7 +66,7 @@ module _ (q : Queue) (m : List ℕ) where
   }
 
   takes-next : (rule : Ruled Taken) → Packed (taken (machineOf q m) rule) → Next q (taken (machineOf q m) rule) (λ r left. Takes q rule r × (left ≡ m))
-  takes-next (refuse n) p = record { outcome = refused n q; left = m; given = (refl, refl); kept = inl refl }
+  takes-next (refuse n) p = record { outcome = answered n q; left = m; given = (refl, refl); kept = inl refl }
   takes-next (accept t) p = record {
     outcome = record { answer = 0; value = Word (t .value); queue = recordOf (q .frame .table) (t .queue) };
     left = m;
@@ -76,7 +76,7 @@ module _ (q : Queue) (m : List ℕ) where
 
   serves-next : (lent : Counts) (rule : Ruled Served) → Packed (served (machineOf q m) rule)
       → Next q (served (machineOf q m) rule) (λ r left. ((counts : Counts) × Serves q lent rule (withCounts r counts)) × (left ≡ m))
-  serves-next lent (refuse n) p = record { outcome = refused n q; left = m; given = ((lent, refl), refl); kept = inl refl }
+  serves-next lent (refuse n) p = record { outcome = answered n q; left = m; given = ((lent, refl), refl); kept = inl refl }
   serves-next lent (accept s) p = record {
     outcome = record { answer = 0; value = Word (s .value); queue = recordOf (q .frame .table) (s .queue) };
     left = m;
@@ -85,7 +85,7 @@ module _ (q : Queue) (m : List ℕ) where
   }
 
   writes-next : (rule : Ruled Written) → Packed (written (machineOf q m) rule) → Next q (written (machineOf q m) rule) (Writes q m rule)
-  writes-next (refuse n) p = record { outcome = refused n q; left = m; given = record { outcome = refl; memory-is = refl }; kept = inl refl }
+  writes-next (refuse n) p = record { outcome = answered n q; left = m; given = record { outcome = refl; memory-is = refl }; kept = inl refl }
   writes-next (accept w) p = record {
     outcome = record { answer = 0; value = Nothing; queue = recordOf (q .frame .table) (w .queue) };
     left = w .memory;
@@ -157,7 +157,7 @@ module _ (groups : List GroupPairs) (memory : List ℕ) (before : List Answered)
       go (inl e) = ap (λ (x : Queue). x .frame .table) e
       go (inr e) = ap (λ (x : Queue). x .frame .table) e
 
-  handed : Stored q → Handed (q .frame .table) (chosen .outcome) (chosen .left)
+  handed : Stored q → StoredOutcome (q .frame .table) (chosen .outcome) (chosen .left)
   handed s = record {
     answer = rw (same .number) at (fitting .number);
     value = rw (same .value) at (fitting .value);
@@ -173,7 +173,7 @@ module _ (groups : List GroupPairs) (memory : List ℕ) (before : List Answered)
     last = rest .last;
     left = rest .left;
     run = next (chosen .outcome) (chosen .given) (rest .run);
-    stored = λ s. (handed s, subst (λ (t : Table). Throughout (Handed t) (rest .run)) table-kept (rest .stored (queue-stored s)));
+    stored = λ s. (handed s, subst (λ (t : Table). Throughout (StoredOutcome t) (rest .run)) table-kept (rest .stored (queue-stored s)));
   }
 
 -- ---- a list of calls

@@ -18,7 +18,8 @@ use Rattle.queue.specs.Ruled.{number}
 use Rattle.queue.specs.Open.{openQueue}
 use Rattle.queue.specs.Calls.{Call, Activate, Give, Serve, Write, Take, Ready}
 use Rattle.queue.specs.Call.{Answered}
-use Rattle.queue.specs.Records.{valueIn, Runs, done, next, OpenedRecord}
+use Rattle.queue.specs.Outcome.{valueIn}
+use Rattle.queue.specs.Records.{Runs, done, next, OpenedRecord}
 
 -- a number of so many bits; a word, where there is one
 abbrev pub fits : ℕ → ℕ → Bool
@@ -55,7 +56,7 @@ pub record Stored (q : Queue) : Type 0 where
   pub storeEntries : StoredEntries (q .«store_entries»)
 
 -- What a call hands over, as a program holds it. The table is the very record that the queue was opened with.
-pub record Handed (table : Table) (r : Outcome) (memory : List ℕ) : Type 0 where
+pub record StoredOutcome (table : Table) (r : Outcome) (memory : List ℕ) : Type 0 where
   pub answer : r .answer < 2 ^ 8
   pub value : wordFits (valueIn (r .value)) ≡ true
   pub queue : Stored (r .queue)
@@ -74,7 +75,7 @@ pub record SomeRun (q : Queue) (memory : List ℕ) (calls : List Call) : Type 0 
   pub last : Queue
   pub left : List ℕ
   pub run : Runs q memory calls log last left
-  pub stored : Stored q → Throughout (Handed (q .frame .table)) run
+  pub stored : Stored q → Throughout (StoredOutcome (q .frame .table)) run
 
 -- An opening exists: where the rule accepts, there is a record that it may hand back, and one that a program holds.
 abbrev pub OpeningsExist : Type 0

@@ -14,13 +14,13 @@ use evidence::live::cases::RecordCase;
 use evidence::live::compare::Checker;
 use evidence::live::header::Header;
 use evidence::live::records::compare;
-use evidence::live::subject::{Library, Live, Wrapper};
+use evidence::live::subject::{is_whole, Library, Live, Wrapper};
 use evidence::live::tally::{LiveTally, IN_RECORDS};
 
 const SEED: u64 = 1;
 const RECORDS: u64 = 1_000_000;
 /// One record in so many is also handed to the Rust wrapper and to the C
-/// header's inline functions.
+/// header's inline functions, where its runs have 64 numbers.
 const OVER_LIBRARY_EVERY: u64 = 9;
 
 fn main() -> ExitCode {
@@ -92,7 +92,7 @@ impl Run {
         let case = RecordCase::new(number);
         *self.kinds.entry(format!("{:?}", case.kind)).or_default() += 1;
         held(&Library, "the library", &case, &mut self.library)?;
-        if number.is_multiple_of(OVER_LIBRARY_EVERY) {
+        if number.is_multiple_of(OVER_LIBRARY_EVERY) && is_whole(&case.record) {
             let tally = &mut self.through_wrapper;
             held(&Wrapper, "the Rust wrapper", &case, tally)?;
             held(&Header, "the C header", &case, &mut self.through_header)?;

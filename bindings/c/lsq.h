@@ -70,7 +70,7 @@ enum lsq_answer {
     LSQ_NONE_UNTAKEN = 33,          /* no untaken load of the port is queued */
     LSQ_NOT_SERVED = 34,            /* the port's oldest untaken load is unserved */
     LSQ_KIND = 35,                  /* an event's kind is above 6 */
-    LSQ_FILE_LENGTH = 36,           /* above 16,384 bytes; in the text of lsq_text alone */
+    LSQ_FILE_TOO_LONG = 36,         /* above 16,384 bytes; in the text of lsq_text alone */
     LSQ_UNSOUND = 40                /* no right queue: see lsq_sound_in */
 };
 

@@ -58,14 +58,17 @@ struct Files {
     trace: Found,
 }
 
-/// `target/bin/play` of the repository, or the program that LSQ_PLAY names, if
-/// it was built.
-#[must_use]
-pub fn built() -> Option<PathBuf> {
+/// `target/bin/play` of the repository, or the program that LSQ_PLAY names.
+///
+/// # Errors
+/// Where it is missing, so that no run passes over it.
+pub fn built() -> Result<PathBuf, String> {
     let default = || Path::new(env!("CARGO_MANIFEST_DIR")).join("../target/bin/play");
-    let program = env::var_os("LSQ_PLAY").map_or_else(default, PathBuf::from);
-    let program = program.canonicalize().ok()?;
-    program.is_file().then_some(program)
+    let named = env::var_os("LSQ_PLAY").map_or_else(default, PathBuf::from);
+    let program = named.canonicalize().ok().filter(|path| path.is_file());
+    let shown = named.display();
+    let words = || format!("{shown} is missing: `rt check play` builds target/bin/play");
+    program.ok_or_else(words)
 }
 
 /// Runs the program on files of special lengths, and on the files of some

@@ -278,9 +278,14 @@ impl Tally {
         let numbers = numbers.filter(|key| !self.numbers.contains_key(key));
         let numbers = numbers.map(|(place, number)| format!("{number} ({place})"));
         let states = STATES.iter().filter(|&state| self.states(state) == 0);
-        numbers
-            .chain(states.map(|state| state.to_string()))
-            .collect()
+        let besides = [
+            (self.wrapped, "replays through the wrapper"),
+            (self.damaged, "damaged copies"),
+        ];
+        let besides = besides.iter().filter(|(count, _)| *count == 0);
+        let besides = besides.map(|(_, what)| what.to_string());
+        let states = states.map(|state| state.to_string());
+        numbers.chain(states).chain(besides).collect()
     }
 
     fn states(&self, state: &str) -> u64 {

@@ -7,11 +7,10 @@ use evidence::cases::Case;
 use evidence::compare::{Comparer, Difference};
 use evidence::subject::Subject;
 use evidence::tally::Tally;
+use lsq::TEXT_BYTES;
 use lsq_ref::play::play;
 use lsq_ref::replay::{self, Lent};
 use lsq_ref::Counts;
-
-const TEXT_BYTES: usize = 1_224_789;
 
 /// What a subject does wrong.
 #[derive(Clone, Copy, Debug, PartialEq, Eq)]

@@ -95,7 +95,8 @@ fn write_files(folder: &Path) -> io::Result<()> {
 }
 
 fn all() -> ExitCode {
-    let all_of = |names: &[&str]| names.iter().filter_map(|name| named(name)).collect();
+    let one = |name: &&str| named(name).expect("a workload of this name");
+    let all_of = |names: &[&str]| names.iter().map(one).collect();
     let workloads: Vec<Workload> = all_of(&MAIN);
     let growth: [Vec<Workload>; 2] = [all_of(&BY_DEPTH), all_of(&BY_GROUPS)];
     let every = workloads.iter().chain(growth.iter().flatten());

@@ -55,7 +55,8 @@ unsafe extern "C" fn __wrap_memset(to: *mut c_void, byte: i32, size: usize) -> *
 fn main() {
     println!("| Workload | Implementation | Bytes copied a call | Copies a call | Largest shares: size in bytes x copies a call | Bytes filled a call |");
     println!("|---|---|---|---|---|---|");
-    for workload in MAIN.into_iter().filter_map(named) {
+    for name in MAIN {
+        let workload = named(name).expect("a workload of this name");
         print_row(&workload, Implementation::Proved);
         print_row(&workload, Implementation::Checked);
         print_row(&workload, Implementation::Live);

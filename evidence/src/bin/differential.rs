@@ -2,8 +2,9 @@
 //! reference on the cases of a seed, one after another, until CALLS calls were
 //! made: each trace is replayed, and then its calls are made live, one by one.
 //! Cases of different seeds are different. `differential case NUMBER`
-//! compares one case again. Exit status 1: a difference; 2: none, but something
-//! that can occur never did, or bad arguments.
+//! compares one case again, without the program `play`. Exit status 1: a
+//! difference; 2: none, but something that can occur never did, or the program
+//! `play` is missing, or bad arguments.
 //!
 //! With LSQ_SHOW_CASES set it prints each case's number before it is played, so
 //! that a crash can be traced to one.
@@ -50,12 +51,20 @@ fn first_case(seed: u64) -> u64 {
 
 fn all(seed: u64, calls: u64) -> ExitCode {
     let start = Instant::now();
+    // First of all: what is missing is told before minutes have passed.
+    let program = match program::built() {
+        Ok(program) => program,
+        Err(missing) => {
+            eprintln!("nothing was compared: {missing}");
+            return ExitCode::from(2);
+        }
+    };
     let mut run = Run::new();
     let compared = run.cases(first_case(seed), calls);
     run.print();
-    let end = compared.and_then(|()| run_program(first_case(seed)));
+    let end = compared.and_then(|()| run_program(&program, first_case(seed)));
     match end {
-        Ok(program) => println!("{program}"),
+        Ok(played) => println!("{played}"),
         Err(report) => {
             println!("{report}");
             return ExitCode::from(1);
@@ -86,7 +95,8 @@ fn one(number: u64) -> ExitCode {
 struct Run {
     replayed: Tally,
     live: LiveTally,
-    over_library: LiveTally,
+    through_wrapper: LiveTally,
+    through_header: LiveTally,
 }
 
 impl Run {
@@ -94,7 +104,8 @@ impl Run {
         Self {
             replayed: Tally::default(),
             live: LiveTally::new(IN_LISTS),
-            over_library: LiveTally::new(IN_LISTS),
+            through_wrapper: LiveTally::new(IN_LISTS),
+            through_header: LiveTally::new(IN_LISTS),
         }
     }
 
@@ -125,23 +136,34 @@ impl Run {
         }
         self.replayed.wrapped += 1;
         wrapper(case)?;
-        let over = &mut self.over_library;
-        held("the Rust wrapper", &subject::Wrapper, case, over)?;
-        held("the C header", &Header, case, over)
+        let tally = &mut self.through_wrapper;
+        held("the Rust wrapper", &subject::Wrapper, case, tally)?;
+        held("the C header", &Header, case, &mut self.through_header)
     }
 
     fn print(&self) {
         println!("{}", self.replayed);
         println!("Lists of live calls from an opening:");
         println!("{}", self.live);
-        let over = self.over_library.calls();
-        println!("{over:>9} live calls through the Rust wrapper and the C header");
+        for (calls, through) in self.through() {
+            println!("{calls:>9} live calls through {through}");
+        }
+    }
+
+    fn through(&self) -> [(u64, &'static str); 2] {
+        [
+            (self.through_wrapper.calls(), "the Rust wrapper"),
+            (self.through_header.calls(), "the C header"),
+        ]
     }
 
     fn missing(&self) -> Vec<String> {
+        let mut missing = self.replayed.missing();
         let live = self.live.missing().into_iter();
-        let live = live.map(|missing| format!("{missing}, live"));
-        self.replayed.missing().into_iter().chain(live).collect()
+        missing.extend(live.map(|missing| format!("{missing}, live")));
+        let through = self.through().into_iter().filter(|(calls, _)| *calls == 0);
+        missing.extend(through.map(|(_, through)| format!("live calls through {through}")));
+        missing
     }
 }
 
@@ -156,12 +178,9 @@ fn held(
     compared.map_err(|Difference(words)| Difference(format!("live calls of {name}: {words}")))
 }
 
-fn run_program(first: u64) -> Result<String, String> {
-    let Some(path) = program::built() else {
-        return Ok("target/bin/play is not built, so no file was played by it".into());
-    };
+fn run_program(path: &Path, first: u64) -> Result<String, String> {
     let path_shown = path.display();
-    match program::compare(&path, first, PROGRAM_CASES) {
+    match program::compare(path, first, PROGRAM_CASES) {
         Ok(runs) => Ok(format!("{runs:>9} pairs of files played by {path_shown}")),
         Err(Difference(words)) => Err(format!("DIFFERENCE of {path_shown} in {words}")),
     }

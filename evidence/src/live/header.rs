@@ -86,7 +86,7 @@ fn restored(queue: &Queue) -> Queue {
     again
 }
 
-/// The header's inline functions.
+/// The header's inline functions, on whole records.
 pub struct Header;
 
 impl Live for Header {
@@ -120,14 +120,12 @@ impl Live for Header {
     }
 
     fn sound(&self, record: &Record) -> u32 {
-        whole(record).map_or(0, |queue| unsafe { header_sound(&queue) })
+        let queue = whole(record);
+        unsafe { header_sound(&queue) }
     }
 
     fn call(&self, record: &mut Record, memory: &mut [u32], counts: Counts, event: &Event) -> Made {
-        let Some(queue) = whole(record) else {
-            return Library.call(record, memory, counts, event);
-        };
-        let mut queue = restored(&queue);
+        let mut queue = restored(&whole(record));
         let (mut counts, mut value) = (counts, FILLER);
         let (q, length) = (&raw mut queue, memory.len());
         let answer = unsafe {
@@ -149,9 +147,7 @@ impl Live for Header {
     }
 
     fn ready(&self, record: &Record, ready: Ready, out: &mut [u32]) -> Listed {
-        let Some(queue) = whole(record) else {
-            return Library.ready(record, ready, out);
-        };
+        let queue = whole(record);
         let mut count = usize::MAX;
         let call = match ready {
             Ready::Loads => header_ready_loads,

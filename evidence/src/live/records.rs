@@ -95,7 +95,7 @@ fn write_and_read<S: Live>(
 
 fn spelled(numbers: &[u32]) -> Vec<u8> {
     let mut bytes = vec![0; 5 * numbers.len()];
-    let count = write_numbers(numbers, &mut bytes).unwrap_or(0);
+    let count = write_numbers(numbers, &mut bytes).expect("five bytes for each number");
     bytes.truncate(count);
     bytes
 }

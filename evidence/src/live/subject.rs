@@ -156,16 +156,21 @@ fn served(frame: Frame, service: Service) -> (Step, Counts) {
     (step, service.counts)
 }
 
-/// The queue of a record in one piece, or none where a run has another length
-/// than 64: what stands over the library's calls has no such queues.
-pub(super) fn whole(record: &Record) -> Option<Queue> {
-    let loads = <[u64; ENTRIES]>::try_from(record.loads.run()).ok()?;
-    let stores = <[u64; ENTRIES]>::try_from(record.stores.run()).ok()?;
-    Some(Queue {
+/// Whether both runs have 64 numbers: what stands over the library's calls has
+/// no other queues.
+#[must_use]
+pub fn is_whole(record: &Record) -> bool {
+    record.loads.length() == ENTRIES && record.stores.length() == ENTRIES
+}
+
+/// The queue of such a record in one piece.
+pub(super) fn whole(record: &Record) -> Queue {
+    let entries = |run: &[u64]| <[u64; ENTRIES]>::try_from(run).expect("a whole record");
+    Queue {
         frame: record.frame,
-        loads,
-        stores,
-    })
+        loads: entries(record.loads.run()),
+        stores: entries(record.stores.run()),
+    }
 }
 
 /// Puts a queue back into the record that it is of.
@@ -213,7 +218,8 @@ pub fn apply(
     }
 }
 
-/// The Rust wrapper: a queue is also saved and restored before each call.
+/// The Rust wrapper, on whole records: a queue is also saved and restored before
+/// each call.
 pub struct Wrapper;
 
 impl Live for Wrapper {
@@ -226,14 +232,11 @@ impl Live for Wrapper {
     }
 
     fn sound(&self, record: &Record) -> u32 {
-        whole(record).map_or(0, |queue| queue.sound().into())
+        whole(record).sound().into()
     }
 
     fn call(&self, record: &mut Record, memory: &mut [u32], counts: Counts, event: &Event) -> Made {
-        let Some(queue) = whole(record) else {
-            return Library.call(record, memory, counts, event);
-        };
-        let mut queue = Queue::from_bytes(&queue.to_bytes());
+        let mut queue = Queue::from_bytes(&whole(record).to_bytes());
         let mut counts = counts;
         let value = apply(&mut queue, memory, &mut counts, event);
         put_back(record, &queue);
@@ -247,9 +250,7 @@ impl Live for Wrapper {
     }
 
     fn ready(&self, record: &Record, ready: Ready, out: &mut [u32]) -> Listed {
-        let Some(queue) = whole(record) else {
-            return Library.ready(record, ready, out);
-        };
+        let queue = whole(record);
         let front = match ready {
             Ready::Loads => queue.ready_loads(out),
             Ready::Stores => queue.ready_stores(out),

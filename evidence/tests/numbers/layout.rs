@@ -1,0 +1,146 @@
+//! Sizes of records and places of their fields: what `lsq.h` and the Rust wrapper
+//! assert, and what the fields of the crates' records add up to.
+
+use crate::check::Check;
+use crate::source::{Source, Sources};
+
+/// The crates' records that go to C, and their names there.
+const RECORDS: [(&str, &str, &str); 11] = [
+    ("crates/table/src/lib.rt", "Table", "lsq_table"),
+    ("crates/queue/src/lib.rt", "Side", "lsq_side"),
+    ("crates/queue/src/lib.rt", "Frame", "lsq_frame"),
+    ("crates/queue/src/lib.rt", "Counts", "lsq_counts"),
+    ("crates/queue/src/lib.rt", "Queue", "lsq_queue"),
+    ("crates/live/src/bytes.rt", "TableFound", "lsq_table_read"),
+    ("crates/live/src/bytes.rt", "BytesWritten", "lsq_written"),
+    ("crates/live/src/calls.rt", "LiveOpened", "lsq_opened"),
+    ("crates/live/src/calls.rt", "LiveStep", "lsq_step"),
+    ("crates/live/src/calls.rt", "LiveService", "lsq_service"),
+    ("crates/live/src/calls.rt", "LiveReady", "lsq_listed"),
+];
+
+pub const PATHS: [&str; 7] = [
+    "bindings/c/lsq.h",
+    "bindings/rust/src/record.rs",
+    "bindings/rust/src/live.rs",
+    "crates/table/src/lib.rt",
+    "crates/queue/src/lib.rt",
+    "crates/live/src/bytes.rt",
+    "crates/live/src/calls.rt",
+];
+
+pub fn read(check: &mut Check, sources: &Sources) {
+    for path in &PATHS[..3] {
+        asserted(check, sources.get(path));
+    }
+    for (path, name, in_c) in RECORDS {
+        added_up(check, sources, sources.get(path), name, in_c);
+    }
+}
+
+/// `LSQ_HOLDS(sizeof(lsq_side) == 8);` and `assert!(size_of::<Side>() == 8);`,
+/// and the same of a field's place.
+fn asserted(check: &mut Check, source: &Source) {
+    for (range, line) in source.lines() {
+        let held = line.trim().strip_prefix("LSQ_HOLDS(");
+        let held = held.or_else(|| line.trim().strip_prefix("assert!("));
+        let (Some((what, _)), Some(&numeral)) = (
+            held.and_then(|held| held.split_once(") == ")),
+            source.numerals_in(&range).last(),
+        ) else {
+            continue;
+        };
+        let what = what.replace("size_of::<", "sizeof(").replace(">(", "");
+        let what = what.replace("offset_of!(", "offsetof(");
+        let (kind, of) = what
+            .split_once('(')
+            .expect("an assertion of one or the other");
+        let (record, field) = of.split_once(", ").unwrap_or((of, ""));
+        let number = match kind {
+            "sizeof" => format!("size of {}", c_name(record)),
+            _ => format!("place of {field} in {}", c_name(record)),
+        };
+        check.say_numeral(&number, source, numeral, source.numerals[numeral].value);
+    }
+}
+
+/// `TableRead` as `lsq_table_read`.
+fn c_name(name: &str) -> String {
+    if name.starts_with("lsq_") || name == "size_t" {
+        return name.into();
+    }
+    if name == "usize" {
+        return "size_t".into();
+    }
+    let letter = |c: char| match c.is_ascii_uppercase() {
+        true => format!("_{}", c.to_ascii_lowercase()),
+        false => c.to_string(),
+    };
+    format!("lsq{}", name.chars().map(letter).collect::<String>())
+}
+
+/// What the fields of a crate's record add up to, as C lays them out.
+fn added_up(check: &mut Check, sources: &Sources, source: &Source, name: &str, in_c: &str) {
+    let Some((place, fields)) = fields(source, name) else {
+        return check.fault(format!("{}: no record {name}", source.path));
+    };
+    let (mut end, mut align) = (0, 1);
+    for (field, kind) in fields {
+        let (size, aligned) = size_of(sources, &kind);
+        let start = up_to(end, aligned);
+        let field = field
+            .replace("load_entries", "loads")
+            .replace("store_entries", "stores");
+        let number = format!("place of {field} in {in_c}");
+        if check.is_said(&number) {
+            check.say(&number, place.clone(), start);
+        }
+        (end, align) = (start + size, align.max(aligned));
+    }
+    check.say(&format!("size of {in_c}"), place, up_to(end, align));
+}
+
+fn up_to(at: u64, align: u64) -> u64 {
+    at.div_ceil(align) * align
+}
+
+/// A record's place, and its fields with their types.
+fn fields(source: &Source, name: &str) -> Option<(String, Vec<(String, String)>)> {
+    let head = format!("pub struct {name} {{\n");
+    let start = source.text.find(&head)?;
+    let body = source.text[start + head.len()..].split('}').next()?;
+    let lines = body
+        .lines()
+        .filter_map(|line| line.trim().strip_prefix("pub "));
+    let field = |line: &str| {
+        let (field, kind) = line.trim_end_matches(',').split_once(": ")?;
+        Some((field.to_string(), kind.to_string()))
+    };
+    Some((source.place(start), lines.filter_map(field).collect()))
+}
+
+/// The size of a type and the places that it may stand at.
+fn size_of(sources: &Sources, kind: &str) -> (u64, u64) {
+    if let Some(bits) = kind
+        .strip_prefix('u')
+        .and_then(|bits| bits.parse::<u64>().ok())
+    {
+        return (bits / 8, bits / 8);
+    }
+    if let Some(array) = kind.strip_prefix('[') {
+        let (element, length) = array
+            .trim_end_matches(']')
+            .split_once("; ")
+            .expect("an array");
+        let (size, align) = size_of(sources, element);
+        return (size * length.parse::<u64>().expect("a length"), align);
+    }
+    let record = RECORDS.iter().find(|(_, name, _)| *name == kind);
+    let (path, name, _) = record.unwrap_or_else(|| panic!("no record {kind}"));
+    let (_, fields) = fields(sources.get(path), name).unwrap_or_else(|| panic!("no record {kind}"));
+    let (end, align) = fields.iter().fold((0, 1), |(end, align), (_, kind)| {
+        let (size, aligned) = size_of(sources, kind);
+        (up_to(end, aligned) + size, align.max(aligned))
+    });
+    (up_to(end, align), align)
+}

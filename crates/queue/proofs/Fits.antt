@@ -27,8 +27,8 @@ use Rattle.queue.specs.Call.{Machine, Step, moved, served, written, take
 use Rattle.queue.specs.InternalActivate.{loadAfter, storeAfter}
 use Rattle.queue.specs.RunsExist.{fits, wordFits, argumentFits}
 use Rattle.queue.proofs.Lists.{false-true, and-left, and-right, and-both, all-join, all-take, all-map, all-middle, getElem?-split}
-use Rattle.queue.proofs.Refusals.{need-accepts, have-accepts, andThen-accepts, number-small, proper}
-use Rattle.queue.proofs.Refusals.{activate-proper, give-proper, serve-proper, write-proper, take-proper, ready-proper}
+use Rattle.queue.proofs.Refusals.{need-accepts, have-accepts, andThen-accepts, number-small, small}
+use Rattle.queue.proofs.Refusals.{activate-small, give-small, serve-small, write-small, take-small, ready-small}
 use Rattle.queue.proofs.ActivateLaws.{with-group-is}
 use Rattle.queue.proofs.Stored.{loadFits, storeFits}
 
@@ -263,34 +263,34 @@ module _ (q : Contents) (m : List ℕ) (f : Fits (machine q m)) where
 
 -- ---- a call
 module _ (m : Machine) (f : Fits m) (right : tableFault (m .queue .groups) ≡ 0) where
-  refused-fits : {A : Type 0} (rule : Ruled A) (n : ℕ) → proper rule ≡ true → rule ≡ refuse n → Fitting (record { number = n; value = none; machine = m })
+  refused-fits : {A : Type 0} (rule : Ruled A) (n : ℕ) → small rule ≡ true → rule ≡ refuse n → Fitting (record { number = n; value = none; machine = m })
   refused-fits {A} rule n p e = record { number = rw (ap (λ (x : Ruled A). number x) e) at (number-small rule p); value = refl; left = f }
 
   pub step-fits : (c : Call) → argumentFits c ≡ true → Fitting (step m c)
   step-fits (Activate g) h = go (activate (m .queue) g) refl
     where
       go : (r : Ruled Contents) → activate (m .queue) g ≡ r → Fitting (moved m r)
-      go (refuse n) e = refused-fits (activate (m .queue) g) n (activate-proper (m .queue) g) e
+      go (refuse n) e = refused-fits (activate (m .queue) g) n (activate-small (m .queue) g) e
       go (accept q) e = record { number = omega arith; value = refl; left = activate-fits (m .queue) (m .memory) f right g q e }
   step-fits (Give kind p x) h = go (give kind (m .queue) p x) refl
     where
       go : (r : Ruled Contents) → give kind (m .queue) p x ≡ r → Fitting (moved m r)
-      go (refuse n) e = refused-fits (give kind (m .queue) p x) n (give-proper kind (m .queue) p x) e
+      go (refuse n) e = refused-fits (give kind (m .queue) p x) n (give-small kind (m .queue) p x) e
       go (accept q) e = record { number = omega arith; value = refl; left = give-fits (m .queue) (m .memory) f kind p x q h e }
   step-fits (Serve c s) h = go (serve (m .queue) (m .memory) s) refl
     where
       go : (r : Ruled Served) → serve (m .queue) (m .memory) s ≡ r → Fitting (served m r)
-      go (refuse n) e = refused-fits (serve (m .queue) (m .memory) s) n (serve-proper (m .queue) (m .memory) s) e
+      go (refuse n) e = refused-fits (serve (m .queue) (m .memory) s) n (serve-small (m .queue) (m .memory) s) e
       go (accept r) e = let (v, l) = serve-fits (m .queue) (m .memory) f s r e in record { number = omega arith; value = v; left = l }
   step-fits (Write s) h = go (write (m .queue) (m .memory) s) refl
     where
       go : (r : Ruled Written) → write (m .queue) (m .memory) s ≡ r → Fitting (written m r)
-      go (refuse n) e = refused-fits (write (m .queue) (m .memory) s) n (write-proper (m .queue) (m .memory) s) e
+      go (refuse n) e = refused-fits (write (m .queue) (m .memory) s) n (write-small (m .queue) (m .memory) s) e
       go (accept r) e = record { number = omega arith; value = refl; left = write-fits (m .queue) (m .memory) f s r e }
   step-fits (Take p) h = go (takeRule (m .queue) p) refl
     where
       go : (r : Ruled Taken) → takeRule (m .queue) p ≡ r → Fitting (taken m r)
-      go (refuse n) e = refused-fits (takeRule (m .queue) p) n (take-proper (m .queue) p) e
+      go (refuse n) e = refused-fits (takeRule (m .queue) p) n (take-small (m .queue) p) e
       go (accept r) e = let (v, l) = take-fits (m .queue) (m .memory) f p r e in record { number = omega arith; value = v; left = l }
   step-fits (Ready side run) h =
-      record { number = number-small (ready side (m .queue) run) (ready-proper side (m .queue) run); value = refl; left = f }
+      record { number = number-small (ready side (m .queue) run) (ready-small side (m .queue) run); value = refl; left = f }

@@ -41,3 +41,5 @@ pub mod RecordsDemand3
 pub mod Stored
 pub mod Fits
 pub mod RunsExist
+-- lists of calls on parts
+pub mod RunsOnParts

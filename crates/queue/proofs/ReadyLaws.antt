@@ -11,6 +11,7 @@ use mathlib.Core.Option.{Option, none, some}
 use lib.Dec.{eqb, leb}
 use lib.ListN.{length, getD, take, drop, set, length-append, length-drop, length-replicate, getElem?}
 use lib.Seq.{length-take-le, take-append-seam}
+use borrow.Author.Tests.{not-true}
 use Rattle.table.specs.Basics.{pick, allOf, keepWhere}
 use Rattle.queue.specs.declared.serving.Supply.{Supply}
 use Rattle.queue.specs.declared.serving.Supply.the-variants.{Unknown, NoStore, NoWord, Forwarded}
@@ -35,7 +36,7 @@ use Rattle.queue.specs.InternalServe.{supplyFrom, servedWith, serveAt}
 use Rattle.queue.specs.InternalWrite.{mayWrite, mayWriteAt, writtenWith, writeAt}
 use Rattle.queue.specs.InternalReady.{supplyReady, addressReady, loadReady, loadReadyAt, storeReadyAt, listed, Noted, Lists, HandedOut}
 use Rattle.queue.proofs.ContentsLaws.{side-length, side-getElem?, side-take, loads-held, stores-held, load-place, store-place}
-use Rattle.queue.proofs.Refusals.{proper, refusal-not-zero, need-proper, have-proper}
+use Rattle.queue.proofs.Refusals.{proper, need-proper, have-proper}
 use Rattle.queue.proofs.Progress.{place-of-serial, oldest-small}
 use Rattle.queue.proofs.ServeLaws.{bySupply, by-supply, serve-by-place}
 use Rattle.queue.proofs.WriteLaws.{write-by-place, write-held}
@@ -124,7 +125,7 @@ module _ (q : Contents) (right : sound q ≡ true) (serial : ℕ) where
 
 -- it is answered 0 where it is accepted
 pub accepted-number : {A : Type 0} (x : Ruled A) → proper x ≡ true → accepted x ≡ eqb (number x) 0
-accepted-number {A} (refuse n) h = sym (refusal-not-zero {A = A} (refuse n) n h refl)
+accepted-number (refuse n) h = sym (not-true (eqb n 0) h)
 accepted-number (accept a) h = refl
 
 may-proper : (ls : List Load) (ss : List Store) (s : Store) → proper (mayWrite ls ss s) ≡ true

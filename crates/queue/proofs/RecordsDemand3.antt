@@ -1,5 +1,5 @@
 -- A run of the records is the definitions' run of what they hold, so demand 3 carries over.
-use Prim.Native.Nat.{ℕ}
+use Prim.Native.Nat.{ℕ, _^_, _<_}
 use mathlib.Core.Path.{_≡_, refl, sym, ap, ap₂, _∙_}
 use mathlib.Core.Bool.{Bool, true, false}
 use mathlib.Core.List.{List, _∷_}
@@ -182,21 +182,26 @@ opened-parts fresh (refuse n) o l s e = ap (λ (x : OpenedFrame). record { answe
 opened-parts fresh (accept q) o l s e =
     (ap (λ (x : OpenedFrame). x .answer) (e .0), ap (λ (x : OpenedFrame). contentsOf (queueOf (x .frame) l s)) (e .0) ∙ e .1 l s)
 
+pub opened-frame : (table : Table) (loadDepth storeDepth first : ℕ) (memory : List ℕ) (o : OpenedFrame) → first < 2 ^ 32
+    → OpensFrame (freshFrame table loadDepth storeDepth first (length memory)) (openQueue (groupsOf table) loadDepth storeDepth first (length memory)) o
+    → o .answer ≡ 0 → (l s : List ℕ) → OpenedRecord table memory (record { answer = o .answer; queue = queueOf (o .frame) l s })
+opened-frame table loadDepth storeDepth first memory o serial opens accepted l s = record {
+  loadDepth = loadDepth;
+  storeDepth = storeDepth;
+  first = first;
+  serial = serial;
+  refused = queueOf (o .frame) l s;
+  opens =
+      opened-parts (freshFrame table loadDepth storeDepth first (length memory))
+      (openQueue (groupsOf table) loadDepth storeDepth first (length memory))
+      o l s opens;
+  accepted = accepted;
+}
+
 pub frames-demand3 : FramesDemand3
 frames-demand3 table loadDepth storeDepth first memory o serial opens accepted l s =
     records-demand3 table memory (record { answer = o .answer; queue = queueOf (o .frame) l s })
-    (record {
-      loadDepth = loadDepth;
-      storeDepth = storeDepth;
-      first = first;
-      serial = serial;
-      refused = queueOf (o .frame) l s;
-      opens =
-          opened-parts (freshFrame table loadDepth storeDepth first (length memory))
-          (openQueue (groupsOf table) loadDepth storeDepth first (length memory))
-          o l s opens;
-      accepted = accepted;
-    })
+    (opened-frame table loadDepth storeDepth first memory o serial opens accepted l s)
 
 pub alike-records : AlikeRecords
 alike-records table₁ table₂ same memory o₁ o₂ w₁ w₂ calls₁ calls₂ log₁ log₂ q₁ q₂ left₁ left₂ run₁ run₂ =

@@ -1,4 +1,4 @@
--- Rules read backwards: what holds where a rule accepts, and that every refusal number is a byte other than 0.
+-- Rules read backwards: what holds where a rule accepts, and that no refusal number is 0 or above a byte.
 use Prim.Native.Nat.{ℕ, _<_}
 use mathlib.Core.Path.{_≡_, refl}
 use mathlib.Core.Bool.{Bool, true, false, not, _&&_}
@@ -22,10 +22,6 @@ use Rattle.queue.specs.Calls.{Argument, LoadAddress, StoreAddress, Store
 use Rattle.queue.specs.Call.{give, ready}
 use Rattle.queue.proofs.Lists.{false-true, and-left, and-right}
 
--- a number that refuses: it is not 0, and it is a byte
-abbrev pub properNumber : ℕ → Bool
-properNumber n = not (eqb n 0) && ltb n 256
-
 module _ {A : Type 0} where
   pub need-accepts : (b : Bool) (n : ℕ) (rest : Ruled A) {a : A} → need b n rest ≡ accept a → (b ≡ true) × (rest ≡ accept a)
   need-accepts true n rest h = (refl, h)
@@ -39,23 +35,19 @@ module _ {A : Type 0} where
   andThen-accepts (refuse n) rest h = let e : false ≡ true = cc in false-true e
   andThen-accepts (accept a) rest h = (a, refl, h)
 
+  -- no refusal is 0
   abbrev pub proper : Ruled A → Bool
-  proper (refuse n) = properNumber n
+  proper (refuse n) = not (eqb n 0)
   proper (accept a) = true
 
   pub refusal-not-zero : (r : Ruled A) (n : ℕ) → proper r ≡ true → r ≡ refuse n → eqb n 0 ≡ false
-  refusal-not-zero r n h e = not-true (eqb n 0) (and-left (not (eqb n 0)) (ltb n 256) (rw e at h))
+  refusal-not-zero r n h e = not-true (eqb n 0) (rw e at h)
 
-  pub number-small : (r : Ruled A) → proper r ≡ true → number r < 256
-  number-small (refuse n) h = ltb-true n 256 (and-right (not (eqb n 0)) (ltb n 256) h)
-  number-small (accept a) h = omega arith
-
-  pub need-proper : (b : Bool) (n : ℕ) (rest : Ruled A) → properNumber n ≡ true → proper rest ≡ true → proper (need b n rest) ≡ true
+  pub need-proper : (b : Bool) (n : ℕ) (rest : Ruled A) → not (eqb n 0) ≡ true → proper rest ≡ true → proper (need b n rest) ≡ true
   need-proper true n rest e h = h
   need-proper false n rest e h = e
 
-pub have-proper : {A B : Type 0} (o : Option A) (n : ℕ) (rest : A → Ruled B) → properNumber n ≡ true → ((a : A) → proper (rest a) ≡ true)
-    → proper (have o n rest) ≡ true
+pub have-proper : {A B : Type 0} (o : Option A) (n : ℕ) (rest : A → Ruled B) → not (eqb n 0) ≡ true → ((a : A) → proper (rest a) ≡ true) → proper (have o n rest) ≡ true
 have-proper none n rest e h = e
 have-proper (some a) n rest e h = h a
 
@@ -63,56 +55,105 @@ pub andThen-proper : {A B : Type 0} (r : Ruled A) (rest : A → Ruled B) → pro
 andThen-proper (refuse n) rest e h = e
 andThen-proper (accept a) rest e h = h a
 
-pub activate-proper : (q : Contents) (g : ℕ) → proper (activate q g) ≡ true
+-- ---- the refusal numbers of the calls on a queue are bytes other than 0
+abbrev byte : ℕ → Bool
+byte n = not (eqb n 0) && ltb n 256
+
+module _ {A : Type 0} where
+  abbrev pub small : Ruled A → Bool
+  small (refuse n) = byte n
+  small (accept a) = true
+
+  pub number-small : (r : Ruled A) → small r ≡ true → number r < 256
+  number-small (refuse n) h = ltb-true n 256 (and-right (not (eqb n 0)) (ltb n 256) h)
+  number-small (accept a) h = omega arith
+
+  small-proper : (r : Ruled A) → small r ≡ true → proper r ≡ true
+  small-proper (refuse n) h = and-left (not (eqb n 0)) (ltb n 256) h
+  small-proper (accept a) h = refl
+
+  need-small : (b : Bool) (n : ℕ) (rest : Ruled A) → byte n ≡ true → small rest ≡ true → small (need b n rest) ≡ true
+  need-small true n rest e h = h
+  need-small false n rest e h = e
+
+have-small : {A B : Type 0} (o : Option A) (n : ℕ) (rest : A → Ruled B) → byte n ≡ true → ((a : A) → small (rest a) ≡ true)
+    → small (have o n rest) ≡ true
+have-small none n rest e h = e
+have-small (some a) n rest e h = h a
+
+andThen-small : {A B : Type 0} (r : Ruled A) (rest : A → Ruled B) → small r ≡ true → ((a : A) → small (rest a) ≡ true) → small (andThen r rest) ≡ true
+andThen-small (refuse n) rest e h = e
+andThen-small (accept a) rest e h = h a
+
+pub activate-small : (q : Contents) (g : ℕ) → small (activate q g) ≡ true
 unfolding activate
-activate-proper q g = need-proper (sound q) _ _ refl (have-proper (getElem? (q .groups) g) _ _ refl λ p. need-proper (room q p) _ _ refl refl)
+activate-small q g = need-small (sound q) _ _ refl (have-small (getElem? (q .groups) g) _ _ refl λ p. need-small (room q p) _ _ refl refl)
+
+pub give-small : (kind : Argument) (q : Contents) (port x : ℕ) → small (give kind q port x) ≡ true
+unfolding loadAddress storeAddress storeData
+give-small LoadAddress q port x =
+    need-small (sound q) _ _ refl
+    (need-small (anyOf (isLoadPort port) (q .groups)) _ _ refl
+    (need-small (ltb x (q .memoryLength)) _ _ refl (need-small (anyOf (loadLacksAddress port) (q .loads)) _ _ refl refl)))
+give-small StoreAddress q port x =
+    need-small (sound q) _ _ refl
+    (need-small (anyOf (isStorePort port) (q .groups)) _ _ refl
+    (need-small (ltb x (q .memoryLength)) _ _ refl (need-small (anyOf (storeLacksAddress port) (q .stores)) _ _ refl refl)))
+give-small StoreData q port x =
+    need-small (sound q) _ _ refl
+    (need-small (anyOf (isStorePort port) (q .groups)) _ _ refl (need-small (anyOf (storeLacksWord port) (q .stores)) _ _ refl refl))
+
+source-small : (m : List ℕ) (a : ℕ) (found : Option Store) → small (sourceOf m a found) ≡ true
+source-small m a none = refl
+source-small m a (some s) = have-small (s .word) _ _ refl λ w. refl
+
+pub serve-small : (q : Contents) (m : List ℕ) (serial : ℕ) → small (serve q m serial) ≡ true
+unfolding serve
+serve-small q m serial =
+    need-small (sound q) _ _ refl
+    (need-small (eqb (length m) (q .memoryLength)) _ _ refl
+    (have-small (getElem? (q .loads) (loadPlace q serial)) _ _ refl λ l.
+    need-small (not (isSome (l .value))) _ _ refl
+    (have-small (l .address) _ _ refl λ a.
+    need-small (allOf hasAddress (storesBefore q l)) _ _ refl
+    (andThen-small (sourceOf m a (nearest a none (storesBefore q l))) _ (source-small m a (nearest a none (storesBefore q l))) λ v. refl))))
+
+pub write-small : (q : Contents) (m : List ℕ) (serial : ℕ) → small (write q m serial) ≡ true
+unfolding write
+write-small q m serial =
+    need-small (sound q) _ _ refl
+    (need-small (eqb (length m) (q .memoryLength)) _ _ refl
+    (have-small (getElem? (q .stores) (storePlace q serial)) _ _ refl λ s.
+    need-small (not (s .written)) _ _ refl
+    (have-small (s .address) _ _ refl λ a.
+    have-small (s .word) _ _ refl λ w.
+    need-small (allOf (loadGivesWay a) (lib.ListN.take (s .before) (q .loads))) _ _ refl
+    (need-small (allOf (storeGivesWay a) (lib.ListN.take (storePlace q serial) (q .stores))) _ _ refl refl))))
+
+pub take-small : (q : Contents) (port : ℕ) → small (takeRule q port) ≡ true
+unfolding takeRule
+take-small q port =
+    need-small (sound q) _ _ refl
+    (need-small (anyOf (isLoadPort port) (q .groups)) _ _ refl
+    (have-small (getElem? (q .loads) (firstPlace (untaken port) (q .loads))) _ _ refl λ l. have-small (l .value) _ _ refl λ v. refl))
+
+pub ready-small : (side : Side) (q : Contents) (run : List ℕ) → small (ready side q run) ≡ true
+unfolding readyLoads readyStores
+ready-small LoadSide q run = need-small (sound q) _ _ refl (need-small (leb (length (servable q)) (length run)) _ _ refl refl)
+ready-small StoreSide q run = need-small (sound q) _ _ refl (need-small (leb (length (writable q)) (length run)) _ _ refl refl)
+
+-- so none is 0
+pub activate-proper : (q : Contents) (g : ℕ) → proper (activate q g) ≡ true
+activate-proper q g = small-proper (activate q g) (activate-small q g)
 
 pub give-proper : (kind : Argument) (q : Contents) (port x : ℕ) → proper (give kind q port x) ≡ true
-unfolding loadAddress storeAddress storeData
-give-proper LoadAddress q port x =
-    need-proper (sound q) _ _ refl
-    (need-proper (anyOf (isLoadPort port) (q .groups)) _ _ refl (need-proper (ltb x (q .memoryLength)) _ _ refl (need-proper (anyOf (loadLacksAddress port) (q .loads)) _ _ refl refl)))
-give-proper StoreAddress q port x =
-    need-proper (sound q) _ _ refl
-    (need-proper (anyOf (isStorePort port) (q .groups)) _ _ refl (need-proper (ltb x (q .memoryLength)) _ _ refl (need-proper (anyOf (storeLacksAddress port) (q .stores)) _ _ refl refl)))
-give-proper StoreData q port x =
-    need-proper (sound q) _ _ refl (need-proper (anyOf (isStorePort port) (q .groups)) _ _ refl (need-proper (anyOf (storeLacksWord port) (q .stores)) _ _ refl refl))
-
-source-proper : (m : List ℕ) (a : ℕ) (found : Option Store) → proper (sourceOf m a found) ≡ true
-source-proper m a none = refl
-source-proper m a (some s) = have-proper (s .word) _ _ refl λ w. refl
+give-proper kind q port x = small-proper (give kind q port x) (give-small kind q port x)
 
 pub serve-proper : (q : Contents) (m : List ℕ) (serial : ℕ) → proper (serve q m serial) ≡ true
-unfolding serve
-serve-proper q m serial =
-    need-proper (sound q) _ _ refl
-    (need-proper (eqb (length m) (q .memoryLength)) _ _ refl
-    (have-proper (getElem? (q .loads) (loadPlace q serial)) _ _ refl λ l.
-    need-proper (not (isSome (l .value))) _ _ refl
-    (have-proper (l .address) _ _ refl λ a.
-    need-proper (allOf hasAddress (storesBefore q l)) _ _ refl
-    (andThen-proper (sourceOf m a (nearest a none (storesBefore q l))) _ (source-proper m a (nearest a none (storesBefore q l))) λ v. refl))))
+serve-proper q m serial = small-proper (serve q m serial) (serve-small q m serial)
 
 pub write-proper : (q : Contents) (m : List ℕ) (serial : ℕ) → proper (write q m serial) ≡ true
-unfolding write
-write-proper q m serial =
-    need-proper (sound q) _ _ refl
-    (need-proper (eqb (length m) (q .memoryLength)) _ _ refl
-    (have-proper (getElem? (q .stores) (storePlace q serial)) _ _ refl λ s.
-    need-proper (not (s .written)) _ _ refl
-    (have-proper (s .address) _ _ refl λ a.
-    have-proper (s .word) _ _ refl λ w.
-    need-proper (allOf (loadGivesWay a) (lib.ListN.take (s .before) (q .loads))) _ _ refl
-    (need-proper (allOf (storeGivesWay a) (lib.ListN.take (storePlace q serial) (q .stores))) _ _ refl refl))))
+write-proper q m serial = small-proper (write q m serial) (write-small q m serial)
 
 pub take-proper : (q : Contents) (port : ℕ) → proper (takeRule q port) ≡ true
-unfolding takeRule
-take-proper q port =
-    need-proper (sound q) _ _ refl
-    (need-proper (anyOf (isLoadPort port) (q .groups)) _ _ refl
-    (have-proper (getElem? (q .loads) (firstPlace (untaken port) (q .loads))) _ _ refl λ l. have-proper (l .value) _ _ refl λ v. refl))
-
-pub ready-proper : (side : Side) (q : Contents) (run : List ℕ) → proper (ready side q run) ≡ true
-unfolding readyLoads readyStores
-ready-proper LoadSide q run = need-proper (sound q) _ _ refl (need-proper (leb (length (servable q)) (length run)) _ _ refl refl)
-ready-proper StoreSide q run = need-proper (sound q) _ _ refl (need-proper (leb (length (writable q)) (length run)) _ _ refl refl)
+take-proper q port = small-proper (takeRule q port) (take-small q port)

@@ -4,7 +4,7 @@ use mathlib.Core.Path.{_≡_, refl, sym, ap, ap₂, _∙_, subst}
 use mathlib.Core.Logic.{_⊎_, inl, inr}
 use mathlib.Core.Bool.{true}
 use mathlib.Core.List.{List, [], _∷_, _++_}
-use lib.ListN.{length}
+use lib.ListN.{length, replicate}
 use native.Mathlib.Omega.{arith}
 use borrow.Author.Tests.{eqb-true, eqb-false}
 use Rattle.table.specs.declared.Table.{Table}
@@ -28,12 +28,12 @@ use Rattle.queue.specs.Take.{Taken, takeRule}
 use Rattle.queue.specs.Counts.{counted}
 use Rattle.queue.specs.Outcome.{Moves, Takes, Serves, Writes, Opens}
 use Rattle.queue.specs.ServeLent.{withCounts}
-use Rattle.queue.specs.Parts.{answered}
+use Rattle.queue.specs.Parts.{queueOf, answered}
 use Rattle.queue.specs.Calls.{Call, Activate, Give, Serve, Write, Take, Ready}
 use Rattle.queue.specs.Call.{Machine, Step, Answered, moved, served, written, taken, give, ready, step}
 use Rattle.queue.specs.Records.{logged, Hands, done, next, machineOf, OpenedRecord}
 use Rattle.queue.specs.Demand3.{Opening}
-use Rattle.queue.specs.RunsExist.{fits, argumentFits, Stored, StoredOutcome, Throughout, SomeRun, RunsExist, OpeningsExist}
+use Rattle.queue.specs.RunsExist.{fits, argumentFits, StoredEntries, Stored, StoredOutcome, Throughout, SomeRun, RunsExist, OpeningsExist}
 use Rattle.queue.proofs.Lists.{and-left, and-right}
 use Rattle.queue.proofs.State.{Limits, State}
 use Rattle.queue.proofs.Run.{limits-opened, opening-state, step-keeps}
@@ -207,9 +207,10 @@ fresh-holds : (table : Table) (loadDepth storeDepth first words : ℕ)
 unfolding contentsOf
 fresh-holds table loadDepth storeDepth first words = refl
 
-fresh-stored : {groups : List GroupPairs} (table : Table) (loadDepth storeDepth first words : ℕ) → first < 2 ^ 32
-    → Limits groups words loadDepth storeDepth → Stored (freshQueue (freshFrame table loadDepth storeDepth first words))
-fresh-stored table loadDepth storeDepth first words small limits =
+pub fresh-stored : {groups : List GroupPairs} (table : Table) (loadDepth storeDepth first words : ℕ) → first < 2 ^ 32
+    → Limits groups words loadDepth storeDepth → (l s : List ℕ) → StoredEntries l → StoredEntries s
+    → Stored (queueOf (freshFrame table loadDepth storeDepth first words) l s)
+fresh-stored table loadDepth storeDepth first words small limits l s ls ss =
     let most : words ≤ 4096 = within-most 1 4096 words (limits .wordsRight) in
     let loads : loadDepth ≤ 64 = within-most 1 64 loadDepth (limits .loadDepthRight) in
     let stores : storeDepth ≤ 64 = within-most 1 64 storeDepth (limits .storeDepthRight) in
@@ -217,8 +218,8 @@ fresh-stored table loadDepth storeDepth first words small limits =
       words = omega arith;
       loads = record { depth = omega arith; count = omega arith; next = small };
       stores = record { depth = omega arith; count = omega arith; next = small };
-      loadEntries = record { places = refl; numbers = refl };
-      storeEntries = record { places = refl; numbers = refl };
+      loadEntries = ls;
+      storeEntries = ss;
     }
 
 pub openings-exist : OpeningsExist
@@ -232,6 +233,7 @@ openings-exist table memory loadDepth storeDepth first small accepted =
         let (limits, queue-is) = limits-opened (groupsOf table) loadDepth storeDepth first (length memory) c e in
         let fresh : Queue = freshQueue (freshFrame table loadDepth storeDepth first (length memory)) in
         let holds : contentsOf fresh ≡ c = fresh-holds table loadDepth storeDepth first (length memory) ∙ queue-is in
+        let zeros : StoredEntries (replicate 64 0) = record { places = refl; numbers = refl } in
         let opens : Opens fresh (accept c) (record { answer = 0; queue = fresh }) = (refl, holds) in (
           record { answer = 0; queue = fresh },
           record {
@@ -243,6 +245,6 @@ openings-exist table memory loadDepth storeDepth first small accepted =
             opens = rw e opens;
             accepted = refl;
           },
-          fresh-stored table loadDepth storeDepth first (length memory) small limits,
+          fresh-stored table loadDepth storeDepth first (length memory) small limits (replicate 64 0) (replicate 64 0) zeros zeros,
           refl,
         )

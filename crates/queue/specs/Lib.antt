@@ -24,6 +24,7 @@ pub mod Plain
 pub mod Demand3
 pub mod Records
 pub mod RunsExist
+pub mod RunsOnParts
 pub mod Internal
 pub mod InternalActivate
 pub mod InternalArguments

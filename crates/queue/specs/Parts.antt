@@ -46,8 +46,8 @@ whole loads stores = eqb (length loads) 64 && eqb (length stores) 64
 abbrev pub onParts : {A : Type 0} → List ℕ → List ℕ → Ruled A → Ruled A
 onParts loads stores rule = need (whole loads stores) unsound rule
 
--- On two runs of 64 numbers it is the rule itself. So a list of calls on parts is a run of the records that these parts make
--- (`Runs`), and demand 3 is said of it (`FramesDemand3`); the proof is proofs/PartsLaws.antt.
+-- On two runs of 64 numbers it is the rule itself (proofs/PartsLaws.antt). So a list of calls on parts is a run of the records
+-- that these parts make, and demand 3 is said of it (`RunsOnParts.antt`).
 abbrev pub OnWholeRuns : Type 1
 OnWholeRuns = (A : Type 0) (loads stores : List ℕ) (rule : Ruled A) → length loads ≡ 64 → length stores ≡ 64 → onParts loads stores rule ≡ rule
 

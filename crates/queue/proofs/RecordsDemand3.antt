@@ -3,7 +3,7 @@ use Prim.Native.Nat.{ℕ, _^_, _<_}
 use mathlib.Core.Path.{_≡_, refl, sym, ap, ap₂, _∙_}
 use mathlib.Core.Bool.{Bool, true, false}
 use mathlib.Core.List.{List, _∷_}
-use mathlib.Core.Option.{Option, none, some}
+use mathlib.Core.Option.{Option, none}
 use lib.Dec.{eqb}
 use lib.ListN.{length}
 use borrow.Author.Tests.{eqb-false}
@@ -11,12 +11,10 @@ use Rattle.table.specs.declared.Table.{Table}
 use Rattle.table.specs.Basics.{allOf}
 use Rattle.table.specs.Group.{GroupPairs}
 use Rattle.table.specs.Table.{groupsOf, tableFault}
-use Rattle.queue.specs.declared.Value.{Value}
 use Rattle.queue.specs.declared.Queue.{Queue}
 use Rattle.queue.specs.declared.Counts.{Counts}
 use Rattle.queue.specs.declared.Outcome.{Outcome}
 use Rattle.queue.specs.declared.Opened.{Opened}
-use Rattle.queue.specs.declared.Counted.{Counted}
 use Rattle.queue.specs.declared.Readied.{Readied}
 use Rattle.queue.specs.declared.Frame.{Frame}
 use Rattle.queue.specs.declared.opening.OpenedFrame.{OpenedFrame}
@@ -28,11 +26,11 @@ use Rattle.queue.specs.Activate.{activate}
 use Rattle.queue.specs.Serve.{Served, serve}
 use Rattle.queue.specs.Write.{Written, write}
 use Rattle.queue.specs.Take.{Taken, takeRule}
-use Rattle.queue.specs.Outcome.{valueIn, Handed, handed, noValue, Accepted, HandedCounts, ServedWell, Moves, Takes, Serves, Writes, Opens}
-use Rattle.queue.specs.ServeLent.{withCounts, withoutCounts}
+use Rattle.queue.specs.Outcome.{valueIn, Handed, handed, noValue, Accepted, HandedCounts, Moves, Takes, Serves, Writes, Opens}
+use Rattle.queue.specs.ServeLent.{withCounts}
 use Rattle.queue.specs.ReadyOutcome.{Readies}
 use Rattle.queue.specs.NoQueue.{freshFrame}
-use Rattle.queue.specs.Parts.{queueOf, answered, OpensFrame}
+use Rattle.queue.specs.Parts.{queueOf, OpensFrame}
 use Rattle.queue.specs.Calls.{Call, Activate, Give, Serve, Write, Take, Ready}
 use Rattle.queue.specs.Call.{Machine, Step, moved, served, written, taken, give, ready, step, Answered, answers, leaves}
 use Rattle.queue.specs.Records.{logged, Hands, Runs, done, next, machineOf, OpenedRecord}

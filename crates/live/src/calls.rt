@@ -58,7 +58,7 @@ pub struct LiveStep {
     pub stores: Side,
 }
 
-// What a serve hands back: likewise, with the counts that follow; the frame stays.
+// What a serve hands back: its answer, 1 or 0 as it gave a value or none, the value or 0, and the counts that follow.
 #[repr(C)]
 pub struct LiveService {
     pub answer: u32,

@@ -20,7 +20,7 @@ use Rattle.queue.specs.Plain.{consOption}
 use Rattle.queue.proofs.Lists.{false-true, all-left, all-right, all-join, all-take, all-map, all-weaken, all-weaken₂, take-append, take-map, getElem?-map, map-same, failing-behind, getElem?-split, getElem?-seam, updateAt-seam, all-frontWhile, afterWhile-map, length-frontWhile-map}
 use Rattle.queue.proofs.Log.{Entry, Kind, Opposite, Placed, place, entryOf, side, ownIn, others, counting, side-append, map-side, side-length, side-before, side-split}
 
--- an entry as the queue shows it, where so many of the other side have left
+-- an entry as the queue shows it, where `gone` of the other side have left
 abbrev pub shown : {A : Type 0} → Kind A → ℕ → Placed A → A
 shown K out x = K .remember (x .before - out) (x .entry)
 

@@ -12,14 +12,14 @@ use Rattle.queue.specs.Ruled.{Ruled, accept, need, have}
 use Rattle.queue.specs.Contents.{Load, Store, Contents, after}
 use Rattle.queue.specs.Sound.{sound}
 
--- an entry that has nothing yet, with so many of the other kind before it
+-- an entry that has nothing yet, with `before` of the other kind before it
 abbrev pub newLoad : ℕ → ℕ → Load
 newLoad port before = record { port = port; address = none; value = none; taken = false; before = before }
 
 abbrev pub newStore : ℕ → ℕ → Store
 newStore port before = record { port = port; address = none; word = none; written = false; before = before }
 
--- The new entries of accesses in program order, where so many of the other kind are queued before them.
+-- The new entries of accesses in program order, where `before` of the other kind are queued before them.
 abbrev pub newLoads : ℕ → List Access → List Load
 newLoads stores [] = []
 newLoads stores (load p ∷ rest) = newLoad p stores ∷ newLoads stores rest

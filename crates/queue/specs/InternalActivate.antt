@@ -14,14 +14,14 @@ use Rattle.queue.specs.Contents.{Load, Store, Contents, after}
 use Rattle.queue.specs.Activate.{newLoad, newStore}
 use Rattle.queue.specs.Internal.{entriesIn}
 
--- the entry of a pair, where so many of the other kind are held
+-- the entry of a pair, where `others` of the other kind are held
 abbrev pub loadAfter : ℕ → Pair → Load
 loadAfter stores p = newLoad (p .port) (stores + p .offset)
 
 abbrev pub storeAfter : ℕ → Pair → Store
 storeAfter loads p = newStore (p .port) (loads + p .offset)
 
--- so many entries are held, there is place for the pairs, and what their entries hold has room in a number
+-- `held` entries are held, there is place for the pairs, and what their entries hold has room in a number
 pub record PairsFit (held : ℕ) (places : List ℕ) (ps : Span) : Type 0 where
   pub inside : Inside ps
   pub few : ps .count ≤ 16
@@ -37,7 +37,7 @@ entryAfter others p = record { port = p .port; before = others + p .offset; addr
 pub record Appended (held : ℕ) (places : List ℕ) (ps : Span) (others : ℕ) (l left : List ℕ) : Type 0 where
   pub holds : entriesIn (held + ps .count) left ≡ entriesIn held l ++ map (entryAfter others) (listOf places ps)
 
--- a side that holds so many more
+-- a side with `more` entries behind those held
 abbrev pub longer : Side → ℕ → Side
 longer side more = record { depth = side .depth; count = side .count + more; next = after (side .next) more }
 

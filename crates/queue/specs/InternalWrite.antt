@@ -22,16 +22,16 @@ use Rattle.queue.specs.Internal.{entriesIn, loadsIn, storesIn, has}
 abbrev pub givesWay : Mark → ℕ → Entry → Bool
 givesWay done a e = has done e || pick (e .addressed) (not (eqb (e .address) a)) false
 
--- an entry after so many of the other kind have left
+-- an entry after `others` of the other kind have left
 abbrev pub lowered : ℕ → Entry → Entry
 lowered n e =
     record { port = e .port; before = e .before - n; addressed = e .addressed; filled = e .filled; finished = e .finished; address = e .address; word = e .word }
 
--- the `left` entries behind the first `gone` stand at the front, after so many of the other kind have left
+-- the `left` entries behind the first `gone` stand at the front, after `others` of the other kind have left
 pub record Shifted (gone left others : ℕ) (l after : List ℕ) : Type 0 where
   pub holds : entriesIn left after ≡ map (lowered others) (drop gone (entriesIn (gone + left) l))
 
--- a side that holds so many fewer
+-- a side after `gone` of its entries have left
 abbrev pub shorter : Side → ℕ → Side
 shorter side gone = record { depth = side .depth; count = side .count - gone; next = side .next }
 

@@ -1,10 +1,11 @@
 -- The refusal numbers of opening and of the queue's calls: document 01, "Calls and their refusals". src/refusal.rt has the same names.
 use Prim.Native.Nat.{ℕ}
 
--- a load depth or a store depth is not 1 to 64
+-- the load depth is not 1 to 64
 abbrev pub badLoadDepth : ℕ
 badLoadDepth = 11
 
+-- the store depth is not 1 to 64
 abbrev pub badStoreDepth : ℕ
 badStoreDepth = 12
 
@@ -16,30 +17,35 @@ badMemoryLength = 13
 abbrev pub groupTooLarge : ℕ
 groupTooLarge = 14
 
--- no such group; too few free places on either side
+-- there is no such group
 abbrev pub noGroup : ℕ
 noGroup = 20
 
+-- there are too few free places on either side
 abbrev pub noPlace : ℕ
 noPlace = 21
 
--- the port is not in the table; the address is not below the memory length; no entry waits for the argument
+-- the port is not in the table
 abbrev pub noPort : ℕ
 noPort = 22
 
+-- the address is not below the memory length
 abbrev pub badAddress : ℕ
 badAddress = 23
 
+-- no entry waits for the argument
 abbrev pub noneWaits : ℕ
 noneWaits = 24
 
--- the serial is not in the queue; the access was served or written already; it has no address
+-- the serial is not in the queue
 abbrev pub noSerial : ℕ
 noSerial = 25
 
+-- the load was served already, or the store written
 abbrev pub alreadyDone : ℕ
 alreadyDone = 26
 
+-- the load to be served, or the store to be written, has no address
 abbrev pub noAddress : ℕ
 noAddress = 27
 
@@ -55,17 +61,19 @@ noData = 29
 abbrev pub wrongMemory : ℕ
 wrongMemory = 30
 
--- an earlier unserved load has no address or the same one; an earlier unwritten store likewise
+-- an earlier unserved load has no address or the same one
 abbrev pub earlierLoadInWay : ℕ
 earlierLoadInWay = 31
 
+-- an earlier unwritten store has no address or the same one
 abbrev pub earlierStoreInWay : ℕ
 earlierStoreInWay = 32
 
--- no untaken load of the port is queued; the oldest is not served
+-- no untaken load of the port is queued
 abbrev pub noneUntaken : ℕ
 noneUntaken = 33
 
+-- the port's oldest untaken load is not served
 abbrev pub notServed : ℕ
 notServed = 34
 

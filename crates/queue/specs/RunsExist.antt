@@ -21,7 +21,7 @@ use Rattle.queue.specs.Call.{Answered}
 use Rattle.queue.specs.Outcome.{valueIn}
 use Rattle.queue.specs.Records.{Runs, done, next, OpenedRecord}
 
--- a number of so many bits; a word, where there is one
+-- a number below 2 to the power `bits`; a word of 32 bits, where there is one
 abbrev pub fits : ℕ → ℕ → Bool
 fits bits n = ltb n (2 ^ bits)
 

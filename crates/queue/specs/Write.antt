@@ -41,7 +41,7 @@ loadFinished l = l .taken
 abbrev pub storeFinished : Store → Bool
 storeFinished s = s .written
 
--- so many entries of the other kind have left
+-- an entry after n of the other kind have left
 abbrev pub loadAfterLeaving : ℕ → Load → Load
 loadAfterLeaving n l = record { port = l .port; address = l .address; value = l .value; taken = l .taken; before = l .before - n }
 

@@ -75,7 +75,7 @@ fn append(entries: &mut [u64], held: u8, places: &[u16; 32], pairs: Span, others
     }
 }
 
-// A side that holds so many more entries: their serials are the next ones.
+// A side with `more` entries behind those held: their serials are the next ones.
 fn longer(side: Side, more: u8) -> Side
     requires { ⌜ side .count + more ≤ 64 ⌝ }
     ensures { λ r. ⌜ r ≡ longer side more ⌝ }

@@ -106,7 +106,7 @@ fn servable_loads(outline: Outline, load_entries: &[u64], store_entries: &[u64])
     found
 }
 
-// The serials of the stores that would be written now, likewise.
+// The serials of the stores that would be written now. It does not read the table either.
 fn writable_stores(outline: Outline, load_entries: &[u64], store_entries: &[u64]) -> Serials
     requires { ⌜ Checked outline (now «load_entries») (now «store_entries») ⌝ }
     ensures { λ r. ⌜ ((table : Table) → let frame = frameWith table outline in
@@ -281,7 +281,7 @@ impl Queue {
         }
     }
 
-    // For stores, likewise.
+    // The same of the stores that would be written.
     pub fn ready_stores<'a>(self, out: &'a mut [u32]) -> ReadySerials<'a>
         ensures { λ r. ⌜ Fronts self (readyStores (contentsOf self) (now (out .entry))) (r .answer) (now (r .serials)) (r .queue) × (ptr (r .serials) ≡ ptr (out .entry)) ⌝ }
     {

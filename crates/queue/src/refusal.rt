@@ -1,29 +1,29 @@
 // The refusal numbers of opening and of the queue's calls: document 01, "Calls and their refusals". specs/Refusal.antt has
 // the same names.
 
-// a load depth or a store depth is not 1 to 64
+// the load depth is not 1 to 64
 pub const BAD_LOAD_DEPTH: u8 = 11;
-
+// the store depth is not 1 to 64
 pub const BAD_STORE_DEPTH: u8 = 12;
 // the memory length is not 1 to 4,096
 pub const BAD_MEMORY_LENGTH: u8 = 13;
 // some group has more loads or stores than its depth
 pub const GROUP_TOO_LARGE: u8 = 14;
-// no such group; too few free places on either side
+// there is no such group
 pub const NO_GROUP: u8 = 20;
-
+// there are too few free places on either side
 pub const NO_PLACE: u8 = 21;
-// the port is not in the table; the address is not below the memory length; no entry waits for the argument
+// the port is not in the table
 pub const NO_PORT: u8 = 22;
-
+// the address is not below the memory length
 pub const BAD_ADDRESS: u8 = 23;
-
+// no entry waits for the argument
 pub const NONE_WAITS: u8 = 24;
-// the serial is not in the queue; the access was served or written already; it has no address
+// the serial is not in the queue
 pub const NO_SERIAL: u8 = 25;
-
+// the load was served already, or the store written
 pub const ALREADY_DONE: u8 = 26;
-
+// the load to be served, or the store to be written, has no address
 pub const NO_ADDRESS: u8 = 27;
 // an earlier store has no address
 pub const EARLIER_STORE_UNKNOWN: u8 = 28;
@@ -31,13 +31,13 @@ pub const EARLIER_STORE_UNKNOWN: u8 = 28;
 pub const NO_DATA: u8 = 29;
 // the lent memory has another length than at opening
 pub const WRONG_MEMORY: u8 = 30;
-// an earlier unserved load has no address or the same one; an earlier unwritten store likewise
+// an earlier unserved load has no address or the same one
 pub const EARLIER_LOAD_IN_WAY: u8 = 31;
-
+// an earlier unwritten store has no address or the same one
 pub const EARLIER_STORE_IN_WAY: u8 = 32;
-// no untaken load of the port is queued; the oldest is not served
+// no untaken load of the port is queued
 pub const NONE_UNTAKEN: u8 = 33;
-
+// the port's oldest untaken load is not served
 pub const NOT_SERVED: u8 = 34;
 // the record is not one that the rules speak of
 pub const UNSOUND: u8 = 40;

@@ -139,7 +139,7 @@ fn shift(entries: &mut [u64], gone: u8, left: u8, others: u8)
     }
 }
 
-// A side that holds so many fewer entries.
+// A side after `gone` of its entries have left.
 fn shorter(side: Side, gone: u8) -> Side
     requires { ⌜ gone ≤ side .count ⌝ }
     ensures { λ r. ⌜ r ≡ shorter side gone ⌝ }

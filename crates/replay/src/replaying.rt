@@ -20,7 +20,7 @@ use table::Table;
 use table::refusal::TOO_SHORT;
 use table::trace::read_event;
 
-// So many events were played.
+// What an accepted replay hands back.
 fn played(events: usize, counts: Counts) -> Replayed
     ensures { λ r. ⌜ r ≡ record { answer = 0; events = events; counts = counts } ⌝ }
 {

@@ -73,7 +73,7 @@ pairs-marked rule low i seen (p ∷ ps) h e =
     let w = pairs-marked rule (p .offset) (suc i) (set seen (p .port) true) ps (l ∙ h) (f .1) in
     record { long = w .long ∙ l; many = w .many ∙ rw m (omega arith) }
 
--- so many ports of each kind have been seen
+-- how many ports of each kind have been seen
 pub record Marks (seen : Seen) (loads stores : ℕ) : Type 0 where
   pub loads-long : length (seen .loads) ≡ 32
   pub stores-long : length (seen .stores) ≡ 32
@@ -146,7 +146,7 @@ groups-small seen (g ∷ gs) e =
 
 -- ---- the record holds the groups
 
--- what stands at the front of numbers, so many
+-- what stands at the front of numbers
 front-held : (xs : List Pair) (rest : List ℕ) → AllSmall xs → map pairIn (held 0 (length xs) (map packedPair xs ++ rest)) ≡ xs
 front-held xs rest small =
     let n : length (map packedPair xs) ≡ length xs = length-map xs packedPair in
@@ -224,7 +224,7 @@ spans-more done g h =
 abbrev tableMade : ℕ → List ℕ → List ℕ → List ℕ → Table
 tableMade n groups loads stores = record { count = n; groups = groups; loads = loads; stores = stores }
 
--- the record of these groups, whose loads and stores are so many
+-- the record of these groups, by its numbers
 pub record Packed (t : Table) (loads stores : ℕ) (done : List GroupPairs) : Type 0 where
   pub table : t ≡ pack done
   pub loads-are : loads ≡ length (loadsIn done)

@@ -315,7 +315,7 @@ pub group-got : {s : List ℕ} {seen : Seen} {g : Got GroupPairs} {r : GroupRead
 group-got (group-found {g} {rest} f) z = record { group = g; rest = rest; is = refl; told = f }
 group-got (group-none f) z = absurd (f .some (sym (f .is) ∙ z))
 
--- the first i of n groups have been read into the table, which has so many loads and stores
+-- the first i of n groups have been read into the table, which has `loads` and `stores` of them
 pub record Gathering (n : ℕ) (s : List ℕ) (start i : ℕ) (seen : Seen) (place : ℕ) (table : Table) (loads stores : ℕ) : Type 0 where
   pub done : List GroupPairs
   pub is : readGroups n noneSeen (drop start s) ≡ after done (readGroups (n - i) seen (drop place s))

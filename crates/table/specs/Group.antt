@@ -18,11 +18,11 @@ pub record GroupPairs : Type 0 where
 abbrev pub blankPair : Pair
 blankPair = record { offset = 0; port = 0 }
 
--- so many accesses, from the first one's place on
+-- the accesses of a span: `count` of them, from the place `first` on
 abbrev pub listOf : List ℕ → Span → List Pair
 listOf places s = map pairIn (held 0 (s .count) (drop (s .first) places))
 
--- there are places for so many
+-- the span runs within the 32 places
 abbrev pub Inside : Span → Type 0
 Inside s = s .first + s .count ≤ 32
 

@@ -141,7 +141,7 @@ pub data GroupsResult (s : List ℕ) : Got (List GroupPairs) → GroupsRead → 
   groups-found : {gs : List GroupPairs} {rest : List ℕ} {r : GroupsRead} → GroupsFound s gs rest r → GroupsResult s (got gs rest) r
   groups-none : {k : ℕ} {r : GroupsRead} → IsRefusal k (r .answer) → GroupsResult s (bad k) r
 
--- there is room for a group behind those of a table, which have so many loads and stores
+-- there is room for a group behind those of a table, which have `loads` loads and `stores` stores
 pub record Growing (t : Table) (loads stores : ℕ) (g : NewGroup) : Type 0 where
   pub groups : t .count < 16
   pub loads-room : loads + g .loads .count ≤ 32
@@ -150,7 +150,7 @@ pub record Growing (t : Table) (loads stores : ℕ) (g : NewGroup) : Type 0 wher
 abbrev pub putIn : List ℕ → ℕ → Pairs → List ℕ
 putIn places from ps = take from places ++ take (ps .count) (ps .places) ++ drop (from + ps .count) places
 
--- where a group stands that is put behind so many loads and stores
+-- where a group stands that is put behind `loads` loads and `stores` stores
 abbrev pub behind : ℕ → ℕ → NewGroup → Group
 behind loads stores g = record { loads = record { first = loads; count = g .loads .count }; stores = record { first = stores; count = g .stores .count } }
 

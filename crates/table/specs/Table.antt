@@ -14,7 +14,7 @@ use Rattle.table.specs.Refusal.{badGroupCount, badCounts, badOffset, bad
 use Rattle.table.specs.Packed.{groupIn}
 use Rattle.table.specs.Group.{GroupPairs, pairsOf, beforeStore}
 
--- So many accesses from a place on. Where there are not so many places they stand for 17, one more than a group may have: a
+-- `count` accesses from the place `first` on. A span that runs past the 32 places stands for 17, more than a group may have: a
 -- record with such a group is never right, since it meets 5 (`GroupsWithinPlaces`). No access is none, wherever it stands.
 abbrev pub spanMeant : Span → Span
 spanMeant s = pick (leb (s .first + s .count) 32) s (record { first = 0; count = pick (eqb (s .count) 0) 0 17 })

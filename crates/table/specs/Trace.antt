@@ -20,7 +20,7 @@ abbrev pub unlessEnd : List ℕ → Got (List Event) → Got (List Event)
 unlessEnd [] rest = got [] []
 unlessEnd (b ∷ s) rest = rest
 
--- the events of the bytes, or the first fault: at most so many events, and an event takes a byte at least
+-- the events of the bytes, or the first fault: at most `most` events, since an event takes a byte at least
 unfoldable pub eventsUpTo : ℕ → List ℕ → Got (List Event)
 eventsUpTo zero s = unlessEnd s (bad ended)
 eventsUpTo (suc most) s = unlessEnd s (andThen (readEvent s) λ e rest. before e (eventsUpTo most rest))

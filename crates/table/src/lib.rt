@@ -16,7 +16,7 @@ pub struct Pair {
     pub port: u8,
 }
 
-// Where the accesses of one kind in a group stand, in program order: so many, from the first one's place on.
+// Where the accesses of one kind in a group stand, in program order: `count` of them, from the place `first` on.
 #[repr(C)]
 pub struct Span {
     pub first: u8,

@@ -54,7 +54,7 @@ pub fn pack_group(group: Group) -> u32
     low + 65536 * high
 }
 
-// The places that a span stands for. Where there are not so many they are 17, one more than a group may have.
+// The places that a span stands for. A span that runs past the 32 places stands for 17, one more than a group may have.
 fn span_meant(span: Span) -> Span
     ensures { λ r. ⌜ r ≡ spanMeant span ⌝ }
 {

@@ -41,7 +41,7 @@ pub struct Ports {
     pub stores: [bool; 32],
 }
 
-// A group's pairs of one kind that were read, each packed into a number: so many, from the first place on.
+// A group's pairs of one kind that were read, each packed into a number: `count` of them, from the first place on.
 pub struct Pairs {
     pub count: u8,
     pub places: [u16; 32],
@@ -299,7 +299,7 @@ fn with_pairs(mut places: [u16; 32], from: usize, pairs: Pairs) -> [u16; 32]
     places
 }
 
-// A table with a group more, behind the loads and stores of those that it has, which are so many.
+// A table with a group more: `loads` and `stores` are the places behind those of the groups that it has.
 fn with_group(mut table: Table, loads: u8, stores: u8, group: NewGroup) -> Table
     requires { ⌜ Growing table loads stores group ⌝ }
     ensures { λ r. ⌜ Grown table loads stores group r ⌝ }
@@ -328,7 +328,7 @@ fn with_group(mut table: Table, loads: u8, stores: u8, group: NewGroup) -> Table
     table
 }
 
-// Reads so many groups.
+// Reads `count` groups.
 fn read_groups(bytes: &[u8], at: usize, count: u32) -> GroupsRead
     requires { ⌜ (count ≤ 16) × (at ≤ length (now bytes)) ⌝ }
     ensures { λ r. ⌜ GroupsResult (now (bytes .entry)) (readGroups count noneSeen (drop at (now (bytes .entry)))) r ⌝ }

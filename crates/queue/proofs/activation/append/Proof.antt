@@ -16,7 +16,7 @@ use Rattle.queue.proofs.AppendLaws.{Pasted, pasted-none, pasted-more, s
 use Rattle.queue.proofs.activation.append.Statement.{statement}
 use Rattle.queue.proofs.activation.append.Tie as tie
 
--- the number of a pair's entry, where so many of the other kind are held
+-- the number of a pair's entry, where `others` of the other kind are held
 abbrev numberAfter : ℕ → Pair → ℕ
 numberAfter others p = numberOf (entryAfter others p)
 

@@ -11,7 +11,7 @@ use Rattle.queue.proofs.SettleLaws.{Moved, moved-none, moved-more, move
 use Rattle.queue.proofs.writing.shift.Statement.{statement}
 use Rattle.queue.proofs.writing.shift.Tie as tie
 
--- an entry's number after so many of the other kind have left
+-- an entry's number after `others` of the other kind have left
 abbrev lower : ℕ → ℕ → ℕ
 lower others n = numberOf (lowered others (entryOf n))
 

@@ -15,10 +15,9 @@ use crate::run::Run;
 use crate::script::Arguments;
 use libc::STDIN_FILENO;
 
-// Is it a heading or an empty line?
-fn is_text(line: &[u8]) -> bool {
+fn is_heading(line: &[u8]) -> bool {
     if line.len() == 0 {
-        return true;
+        return false;
     }
     line[0] == b'#'
 }
@@ -53,9 +52,13 @@ fn command_line(run: Run, line: &[u8]) -> Run {
     obey(run, command, script::numbers_of(line, end))
 }
 
+// An empty line ends a case: nothing of it is held any more.
 fn one_line(run: Run, line: &[u8]) -> Run {
     show::words(line);
-    if is_text(line) {
+    if line.len() == 0 {
+        return run::fresh();
+    }
+    if is_heading(line) {
         return run;
     }
     command_line(run, line)

@@ -88,10 +88,6 @@ pub(crate) fn look(mut run: Run, command: usize, number: u64) -> Run {
     let table = run.table;
     match command {
         command::READ_TABLE => read_table(run),
-        command::ORDER => {
-            show::order(table);
-            run
-        }
         command::CHECK => {
             show::number(b": ", table::check::table_fault(table) as u64);
             run

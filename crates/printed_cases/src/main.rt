@@ -1,19 +1,18 @@
 // Cases of the crates `printed` and `replay`, as a script on standard input: a command to a line, echoed with what came back. The
 // script's own first lines say what each command does.
+mod files;
 mod replays;
-mod script;
 mod show;
 mod texts;
 
+use crate::files::Lengths;
 use check::same;
 use libc::STDIN_FILENO;
 use printed::text::MOST_BYTES;
-
-// How many bytes each file has.
-struct Lengths {
-    table: usize,
-    trace: usize,
-}
+use script::Bytes;
+use script::bytes_of;
+use script::is_text;
+use script::next_byte;
 
 const TABLE: u8 = 0;
 
@@ -95,35 +94,38 @@ fn look_at_both(command: u8, numbers: [u8; 4], table: &[u8], trace: &[u8], lengt
     look_at_trace(command, numbers, table, trace, lengths.trace)
 }
 
-// A line whose word ends at a place.
+fn first_four(bytes: Bytes) -> [u8; 4] {
+    let values = bytes.values;
+    [values[0], values[1], values[2], values[3]]
+}
+
+// A word and the bytes behind it.
 fn obey(
-    line: &[u8],
-    end: usize,
     word: &[u8],
+    bytes: Bytes,
     table: &mut [u8],
     trace: &mut [u8],
     mut lengths: Lengths,
 ) -> Lengths {
     match file_command(word) {
         TABLE => {
-            lengths.table = script::append(line, end, table, 0);
+            lengths.table = files::replace(bytes, table);
             lengths
         }
         TRACE => {
-            lengths.trace = script::append(line, end, trace, 0);
+            lengths.trace = files::replace(bytes, trace);
             lengths
         }
         MORE_TABLE => {
-            lengths.table = script::repeat(line, end, table, lengths.table);
+            lengths.table = files::repeat(bytes, table, lengths.table);
             lengths
         }
         MORE_TRACE => {
-            lengths.trace = script::repeat(line, end, trace, lengths.trace);
+            lengths.trace = files::repeat(bytes, trace, lengths.trace);
             lengths
         }
         _ => {
-            let numbers = script::four(line, end);
-            look_at_both(run_command(word), numbers, table, trace, lengths);
+            look_at_both(run_command(word), first_four(bytes), table, trace, lengths);
             lengths
         }
     }
@@ -131,16 +133,17 @@ fn obey(
 
 fn one_line(line: &[u8], table: &mut [u8], trace: &mut [u8], lengths: Lengths) -> Lengths {
     show::words(line);
-    if script::is_text(line) {
+    if is_text(line) {
         return lengths;
     }
-    let end = script::next_byte(line, 0, b' ');
-    if !script::right(line, end) {
+    let end = next_byte(line, 0, b' ');
+    let bytes = bytes_of(line, end);
+    if !bytes.right {
         show::words(b" ?");
         return lengths;
     }
     let word = &line[..end];
-    obey(line, end, word, table, trace, lengths)
+    obey(word, bytes, table, trace, lengths)
 }
 
 // Every line of the script, in turn.
@@ -148,7 +151,7 @@ fn follow(text: &[u8], table: &mut [u8], trace: &mut [u8]) {
     let mut lengths = Lengths { table: 0, trace: 0 };
     let mut at: usize = 0;
     while at < text.len() {
-        let end = script::next_byte(text, at, b'\n');
+        let end = next_byte(text, at, b'\n');
         lengths = one_line(&text[at..end], table, trace, lengths);
         show::words(b"\n");
         if end == text.len() {

@@ -1,7 +1,8 @@
 // The commands: their names, how many numbers each takes, and how large these may be.
 ghost use Prim.Native.Nat.{_<_};
-use crate::script;
-use crate::script::Arguments;
+use check::same;
+use script::Numbers;
+use script::next_byte;
 
 // The names, in the order of the numbers below.
 const NAMES: [u8; 176] =
@@ -55,27 +56,13 @@ lwwww...\
 lkww....\
 l.......";
 
-fn is(word: &[u8], name: &[u8]) -> bool {
-    if word.len() != name.len() {
-        return false;
-    }
-    let mut i: usize = 0;
-    while i < name.len() {
-        if word[i] != name[i] {
-            return false;
-        }
-        i += 1;
-    }
-    true
-}
-
 // The place of a word among names with a space between; their number where it is none of them.
 fn place(names: &[u8], word: &[u8]) -> usize {
     let mut at: usize = 0;
     let mut number: usize = 0;
     while at < names.len() {
-        let end = script::next_byte(names, at, b' ');
-        if is(word, &names[at..end]) {
+        let end = next_byte(names, at, b' ');
+        if same(word, &names[at..end]) {
             return number;
         }
         if end == names.len() {
@@ -116,7 +103,7 @@ fn fits(letter: u8, given: bool, value: u64) -> bool {
     letter == b'.'
 }
 
-fn all_fit(command: usize, arguments: Arguments) -> bool
+fn all_fit(command: usize, arguments: Numbers) -> bool
     requires { ⌜ command < 16 ⌝ }
 {
     let mut i: usize = 0;
@@ -131,7 +118,7 @@ fn all_fit(command: usize, arguments: Arguments) -> bool
 }
 
 // Does a command other than `bytes` take these numbers?
-pub(crate) fn takes(command: usize, arguments: Arguments) -> bool {
+pub(crate) fn takes(command: usize, arguments: Numbers) -> bool {
     if !arguments.right {
         return false;
     }

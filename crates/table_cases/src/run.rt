@@ -1,7 +1,7 @@
 // What the script works on: the bytes to read, the length of the buffers to write to, and a table.
 use crate::command;
-use crate::script::Bytes;
 use crate::show;
+use script::Bytes;
 use table::Table;
 use table::TableRead;
 

@@ -16,8 +16,8 @@ returns c = search needs
 next-byte-requires : tie.Need-next-byte-requires
 next-byte-requires c κs = search needs
 
-right-requires : tie.Need-right-requires
-right-requires c κs = search needs
+bytes-of-requires : tie.Need-bytes-of-requires
+bytes-of-requires c κs = search needs
 
 slice-aggregate-words : tie.Need-slice-aggregate-words
 slice-aggregate-words c = search needs
@@ -51,7 +51,7 @@ one-line-spec =
     is-text-requires
     returns
     next-byte-requires
-    right-requires
+    bytes-of-requires
     slice-aggregate-words
     words-requires-2
     returns-2

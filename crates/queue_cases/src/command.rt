@@ -1,7 +1,8 @@
 // The commands: their names, how many numbers each takes, and how large these may be.
 ghost use Prim.Native.Nat.{_<_};
-use crate::script;
-use crate::script::Arguments;
+use check::same;
+use script::Numbers;
+use script::next_byte;
 
 // The names, in the order of the numbers below.
 const NAMES: [u8; 333] =
@@ -103,27 +104,13 @@ qbb.....\
 qbb.....\
 ........";
 
-fn is(word: &[u8], name: &[u8]) -> bool {
-    if word.len() != name.len() {
-        return false;
-    }
-    let mut i: usize = 0;
-    while i < name.len() {
-        if word[i] != name[i] {
-            return false;
-        }
-        i += 1;
-    }
-    true
-}
-
 // The place of a word among names with a space between; their number where it is none of them.
 fn place(names: &[u8], word: &[u8]) -> usize {
     let mut at: usize = 0;
     let mut number: usize = 0;
     while at < names.len() {
-        let end = script::next_byte(names, at, b' ');
-        if is(word, &names[at..end]) {
+        let end = next_byte(names, at, b' ');
+        if same(word, &names[at..end]) {
             return number;
         }
         if end == names.len() {
@@ -141,7 +128,7 @@ pub(crate) fn named(word: &[u8]) -> usize {
 }
 
 // The largest number that a letter stands for.
-fn most(letter: u8) -> u32 {
+fn most(letter: u8) -> u64 {
     match letter {
         b'f' => 1,
         b'g' => 15,
@@ -155,7 +142,7 @@ fn most(letter: u8) -> u32 {
 }
 
 // May a number stand where the letter is, or none?
-fn fits(letter: u8, given: bool, value: u32) -> bool {
+fn fits(letter: u8, given: bool, value: u64) -> bool {
     if given {
         if letter == b'.' {
             return false;
@@ -168,7 +155,7 @@ fn fits(letter: u8, given: bool, value: u32) -> bool {
     letter == b'.'
 }
 
-fn all_fit(command: usize, arguments: Arguments) -> bool
+fn all_fit(command: usize, arguments: Numbers) -> bool
     requires { ⌜ command < 33 ⌝ }
 {
     let mut i: usize = 0;
@@ -183,7 +170,7 @@ fn all_fit(command: usize, arguments: Arguments) -> bool
 }
 
 // Does a command other than `table` take these numbers?
-pub(crate) fn takes(command: usize, arguments: Arguments) -> bool {
+pub(crate) fn takes(command: usize, arguments: Numbers) -> bool {
     if !arguments.right {
         return false;
     }

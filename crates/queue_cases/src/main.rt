@@ -8,28 +8,39 @@ mod ready;
 mod records;
 mod run;
 mod same;
-mod script;
 mod show;
 
 use crate::run::Run;
-use crate::script::Arguments;
 use libc::STDIN_FILENO;
+use script::Numbers;
+use script::is_text;
 
-// Is it a heading or an empty line?
-fn is_text(line: &[u8]) -> bool {
-    if line.len() == 0 {
-        return true;
-    }
-    line[0] == b'#'
+// That a number fits 32 bits is tested before (`command::takes`).
+fn word(value: u64) -> u32 {
+    (value % 4294967296) as u32
+}
+
+fn words(n: [u64; 8]) -> [u32; 8] {
+    [
+        word(n[0]),
+        word(n[1]),
+        word(n[2]),
+        word(n[3]),
+        word(n[4]),
+        word(n[5]),
+        word(n[6]),
+        word(n[7]),
+    ]
 }
 
 // What the command does, once its numbers are as many as it takes.
-fn obey(run: Run, command: usize, arguments: Arguments) -> Run {
+fn obey(run: Run, command: usize, arguments: Numbers) -> Run {
     if !command::takes(command, arguments) {
         show::words(b" ?");
         return run;
     }
-    let numbers = arguments.values;
+    let values = arguments.values;
+    let numbers = words(values);
     if command < command::EACH {
         return calls::call(run, command, numbers[0], numbers[1]);
     }
@@ -37,7 +48,7 @@ fn obey(run: Run, command: usize, arguments: Arguments) -> Run {
         return calls::each(run);
     }
     if command < command::SET_LOAD_DEPTH {
-        return run::other(run, command, arguments);
+        return run::other(run, command, numbers, arguments.count);
     }
     records::set(run, command, numbers)
 }
@@ -53,8 +64,12 @@ fn command_line(run: Run, line: &[u8]) -> Run {
     obey(run, command, script::numbers_of(line, end))
 }
 
+// An empty line ends a case: nothing of it is held any more.
 fn one_line(run: Run, line: &[u8]) -> Run {
     show::words(line);
+    if line.len() == 0 {
+        return run::fresh();
+    }
     if is_text(line) {
         return run;
     }

@@ -1,12 +1,11 @@
 // What the script works on: a queue, the table to open with, the memory and the counts that are lent.
 use crate::command;
 use crate::packing;
-use crate::script::Arguments;
-use crate::script::Bytes;
 use crate::show;
 use queue::Counts;
 use queue::Opened;
 use queue::Queue;
+use script::Bytes;
 use table::Table;
 use table::TableRead;
 
@@ -96,7 +95,7 @@ fn set_counts(mut run: Run, loads: u32, forwarded: u32) -> Run {
 }
 
 // One more load is counted.
-fn count(mut run: Run, forwarded: bool) -> Run {
+fn count_one(mut run: Run, forwarded: bool) -> Run {
     let held = run.counts;
     let counts = queue::counting::counted(held, forwarded);
     show::number(b": ", counts.loads as u64);
@@ -151,13 +150,12 @@ fn sound(run: Run) -> Run {
 }
 
 // The commands that are neither a call on the queue nor a setting of its record.
-pub(crate) fn other(run: Run, command: usize, arguments: Arguments) -> Run {
-    let numbers = arguments.values;
+pub(crate) fn other(run: Run, command: usize, numbers: [u32; 8], count: usize) -> Run {
     match command {
         command::OPEN => open(run, numbers),
-        command::MEMORY => set_memory(run, numbers, arguments.count),
+        command::MEMORY => set_memory(run, numbers, count),
         command::COUNTS => set_counts(run, numbers[0], numbers[1]),
-        command::COUNT => count(run, numbers[0] == 1),
+        command::COUNT => count_one(run, numbers[0] == 1),
         command::SHARE => share(run),
         command::SHOW => show_all(run),
         command::UNPACK => {

@@ -1,11 +1,12 @@
 // The commands: their names, how many numbers each takes, and how large these may be.
 ghost use Prim.Native.Nat.{_<_};
-use crate::script;
-use crate::script::Arguments;
+use check::same;
+use script::Numbers;
+use script::next_byte;
 
 // The names, in the order of the numbers below.
-const NAMES: [u8; 182] =
-    *b"read-number read-event read-header read-table order check length buffer fill set-groups set-group set-load-pair set-store-pair write-number write-header write-event write-table bytes";
+const NAMES: [u8; 176] =
+    *b"read-number read-event read-header read-table check length buffer fill set-groups set-group set-load-pair set-store-pair write-number write-header write-event write-table bytes";
 
 pub(crate) const READ_NUMBER: usize = 0;
 
@@ -13,36 +14,33 @@ pub(crate) const READ_EVENT: usize = 1;
 
 pub(crate) const READ_TABLE: usize = 3;
 
-pub(crate) const ORDER: usize = 4;
+pub(crate) const CHECK: usize = 4;
 
-pub(crate) const CHECK: usize = 5;
+pub(crate) const LENGTH: usize = 5;
 
-pub(crate) const LENGTH: usize = 6;
+pub(crate) const BUFFER: usize = 6;
 
-pub(crate) const BUFFER: usize = 7;
+pub(crate) const FILL: usize = 7;
 
-pub(crate) const FILL: usize = 8;
+pub(crate) const SET_GROUPS: usize = 8;
 
-pub(crate) const SET_GROUPS: usize = 9;
+pub(crate) const SET_LOAD_PAIR: usize = 10;
 
-pub(crate) const SET_LOAD_PAIR: usize = 11;
+pub(crate) const SET_STORE_PAIR: usize = 11;
 
-pub(crate) const SET_STORE_PAIR: usize = 12;
+pub(crate) const WRITE_NUMBER: usize = 12;
 
-pub(crate) const WRITE_NUMBER: usize = 13;
+pub(crate) const WRITE_HEADER: usize = 13;
 
-pub(crate) const WRITE_HEADER: usize = 14;
+pub(crate) const WRITE_TABLE: usize = 15;
 
-pub(crate) const WRITE_TABLE: usize = 16;
-
-pub(crate) const BYTES: usize = 17;
+pub(crate) const BYTES: usize = 16;
 
 // The numbers that each takes before `bytes`, eight letters for each: `.` none, `a` any, `w` to 4294967295, `k` to 6, `g` to 15,
 // `q` to 31, `l` to 128, `b` to 255.
-const SHAPES: [u8; 136] = *b"\
+const SHAPES: [u8; 128] = *b"\
 a.......\
 a.......\
-........\
 ........\
 ........\
 ........\
@@ -58,39 +56,25 @@ lwwww...\
 lkww....\
 l.......";
 
-fn is(word: &[u8], name: &[u8]) -> bool {
-    if word.len() != name.len() {
-        return false;
-    }
-    let mut i: usize = 0;
-    while i < name.len() {
-        if word[i] != name[i] {
-            return false;
-        }
-        i += 1;
-    }
-    true
-}
-
 // The place of a word among names with a space between; their number where it is none of them.
 fn place(names: &[u8], word: &[u8]) -> usize {
     let mut at: usize = 0;
     let mut number: usize = 0;
     while at < names.len() {
-        let end = script::next_byte(names, at, b' ');
-        if is(word, &names[at..end]) {
+        let end = next_byte(names, at, b' ');
+        if same(word, &names[at..end]) {
             return number;
         }
         if end == names.len() {
-            return 18;
+            return 17;
         }
         number += 1;
         at = end + 1;
     }
-    18
+    17
 }
 
-// The command of that name, or 18.
+// The command of that name, or 17.
 pub(crate) fn named(word: &[u8]) -> usize {
     place(&NAMES, word)
 }
@@ -119,8 +103,8 @@ fn fits(letter: u8, given: bool, value: u64) -> bool {
     letter == b'.'
 }
 
-fn all_fit(command: usize, arguments: Arguments) -> bool
-    requires { ⌜ command < 17 ⌝ }
+fn all_fit(command: usize, arguments: Numbers) -> bool
+    requires { ⌜ command < 16 ⌝ }
 {
     let mut i: usize = 0;
     while i < 8 {
@@ -134,7 +118,7 @@ fn all_fit(command: usize, arguments: Arguments) -> bool
 }
 
 // Does a command other than `bytes` take these numbers?
-pub(crate) fn takes(command: usize, arguments: Arguments) -> bool {
+pub(crate) fn takes(command: usize, arguments: Numbers) -> bool {
     if !arguments.right {
         return false;
     }

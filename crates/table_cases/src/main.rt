@@ -2,21 +2,13 @@
 // first lines say what each command does.
 mod command;
 mod run;
-mod script;
 mod show;
 mod tables;
 mod traces;
 
 use crate::run::Run;
 use libc::STDIN_FILENO;
-
-// Is it a heading or an empty line?
-fn is_text(line: &[u8]) -> bool {
-    if line.len() == 0 {
-        return true;
-    }
-    line[0] == b'#'
-}
+use script::is_text;
 
 // What the command does, once its numbers are as many as it takes.
 fn obey(run: Run, command: usize, numbers: [u64; 8]) -> Run {

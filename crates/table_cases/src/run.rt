@@ -1,7 +1,7 @@
 // What the script works on: the bytes to read, the length of the buffers to write to, and a table.
 use crate::command;
-use crate::script::Bytes;
 use crate::show;
+use script::Bytes;
 use table::Table;
 use table::TableRead;
 
@@ -88,10 +88,6 @@ pub(crate) fn look(mut run: Run, command: usize, number: u64) -> Run {
     let table = run.table;
     match command {
         command::READ_TABLE => read_table(run),
-        command::ORDER => {
-            show::order(table);
-            run
-        }
         command::CHECK => {
             show::number(b": ", table::check::table_fault(table) as u64);
             run

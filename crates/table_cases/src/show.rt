@@ -106,35 +106,6 @@ pub(crate) fn groups(table: Table) {
     }
 }
 
-// The loads of one offset.
-fn loads_at(places: &[u16; 32], loads: Span, offset: u8) {
-    let mut i: u8 = 0;
-    while i < loads.count {
-        let load = access(places, loads, i);
-        if load.offset == offset {
-            number(b", load ", load.port as u64);
-        }
-        i += 1;
-    }
-}
-
-// The first group's accesses in program order: load i is before store j when its offset is at most j.
-pub(crate) fn order(table: Table) {
-    let group = group_at(&table.groups, 0);
-    let loads = group.loads;
-    let stores = group.stores;
-    let mut j: u8 = 0;
-    while j < 16 {
-        loads_at(&table.loads, loads, j);
-        if j < stores.count {
-            let store = access(&table.stores, stores, j);
-            number(b", store ", store.port as u64);
-        }
-        j += 1;
-    }
-    loads_at(&table.loads, loads, 16);
-}
-
 // What reading the leading numbers of a trace answers.
 pub(crate) fn header_read(read: HeaderRead) {
     match read {

@@ -16,17 +16,17 @@ loop-holds c = search needs
 next-byte-requires : tie.Need-next-byte-requires Inv-loop μ-loop
 next-byte-requires c κs = search needs
 
-sub-is : tie.Need-sub-is Inv-loop μ-loop
-sub-is c = search needs
+sub-same : tie.Need-sub-same Inv-loop μ-loop
+sub-same c = search needs
 
-part-is-start : tie.Need-part-is-start Inv-loop μ-loop
-part-is-start c = search needs
+part-same-start : tie.Need-part-same-start Inv-loop μ-loop
+part-same-start c = search needs
 
-part-is-end : tie.Need-part-is-end Inv-loop μ-loop
-part-is-end c = search needs
+part-same-end : tie.Need-part-same-end Inv-loop μ-loop
+part-same-end c = search needs
 
-is-requires : tie.Need-is-requires Inv-loop μ-loop
-is-requires c κs = search needs
+same-requires : tie.Need-same-requires Inv-loop μ-loop
+same-requires c κs = search needs
 
 returns : tie.Need-returns Inv-loop μ-loop
 returns c = search needs
@@ -57,10 +57,10 @@ place-spec =
     μ-loop
     loop-holds
     next-byte-requires
-    sub-is
-    part-is-start
-    part-is-end
-    is-requires
+    sub-same
+    part-same-start
+    part-same-end
+    same-requires
     returns
     returns-2
     add-number

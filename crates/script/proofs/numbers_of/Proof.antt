@@ -1,0 +1,54 @@
+use mathlib.Core.Path.{_≡_, refl, sym, _∙_}
+use Prim.Native.Nat.{_-_}
+use borrow.Author.Needs.{needs}
+use lib.ListN.{length, drop}
+use native.Mathlib.Numerals.{add-one}
+use Rattle.script.specs.Lines.{numberSteps, noNumbers}
+use Rattle.script.proofs.LineLaws.{number-steps-next, number-steps-end}
+use Rattle.script.proofs.numbers_of.Statement.{statement}
+use Rattle.script.proofs.numbers_of.Tie as tie
+
+abbrev Inv-loop : tie.InvT-loop
+Inv-loop line from found₀ i₀ found i = numberSteps found (drop i line) ≡ numberSteps noNumbers (drop from line)
+
+abbrev μ-loop : tie.MeasureT-loop
+μ-loop line from found₀ i₀ found i = length line - i
+
+loop-holds : tie.Need-loop-holds Inv-loop μ-loop
+loop-holds c = refl
+
+shared-slice-read-number-step : tie.Need-shared-slice-read-number-step Inv-loop μ-loop
+shared-slice-read-number-step c = search needs
+
+number-step-requires : tie.Need-number-step-requires Inv-loop μ-loop
+number-step-requires c κs = search needs
+
+add-i : tie.Need-add-i Inv-loop μ-loop
+add-i c = search needs
+
+loop-less : tie.Need-loop-less Inv-loop μ-loop
+loop-less c = search needs
+
+loop-again : tie.Need-loop-again Inv-loop μ-loop
+loop-again c = rw (add-one, c .number-step .ensures, ← number-steps-next _ _ _ (c .before .before .loop-test .taken)) (c .before .before .before .loop .inv)
+
+end-numbers-requires : tie.Need-end-numbers-requires Inv-loop μ-loop
+end-numbers-requires c κs = search needs
+
+returns : tie.Need-returns Inv-loop μ-loop
+returns c = rw (← c .before .before .loop .inv, number-steps-end _ _ _ (c .before .loop-test .left)) (c .end-numbers .ensures)
+
+pub numbers-of-spec : {M : Type 1} → statement M
+numbers-of-spec =
+    tie.close
+    (tie.spec
+    Inv-loop
+    μ-loop
+    loop-holds
+    shared-slice-read-number-step
+    number-step-requires
+    add-i
+    loop-less
+    loop-again
+    end-numbers-requires
+    returns)

@@ -1,0 +1,2 @@
+-- The parts of a line of a script.
+pub mod Lines

@@ -27,20 +27,11 @@ lentAt t =
 table-right : (e : tie.Else1) → readTable (bytesAt (e .before .before)) ≡ got (groupsOf (e .before .before .read-table .result .table)) []
 table-right e = table-got (bytesAt (e .before .before)) (e .before .before .read-table .result) (e .before .before .read-table .ensures) (e .if1 .left) .is
 
-read-table-requires : tie.Need-read-table-requires
-read-table-requires c κs = search needs
-
-cast-result : tie.Need-cast-result
-cast-result c = search needs
-
 returns : tie.Need-returns
 returns c =
     let t = c .before .before .before in
     let l = lentAt t in
     answered-refused l (lent-table (bytesAt t) (traceAt t) l (table-refused (bytesAt t) (t .read-table .result) (t .read-table .ensures) (c .before .if1 .taken)))
-
-cast-result-2 : tie.Need-cast-result-2
-cast-result-2 c = search needs
 
 returns-2 : tie.Need-returns-2
 returns-2 c =
@@ -48,39 +39,6 @@ returns-2 c =
     let t = e .before .before in
     let l = lentAt t in
     answered-refused l (lent-short (bytesAt t) (traceAt t) l (table-right e) (c .if2 .taken))
-
-slice-read-t16 : tie.Need-slice-read-t16
-slice-read-t16 c = search needs
-
-slice-read-t18 : tie.Need-slice-read-t18
-slice-read-t18 c = search needs
-
-replay-requires : tie.Need-replay-requires
-replay-requires c κs = search needs
-
-slice-write-counts : tie.Need-slice-write-counts
-slice-write-counts c = search needs
-
-slice-write-counts-2 : tie.Need-slice-write-counts-2
-slice-write-counts-2 c = search needs
-
-cast-result-3 : tie.Need-cast-result-3
-cast-result-3 c = search needs
-
-same-length : tie.Need-same-length
-same-length c = search needs
-
-same-length-2 : tie.Need-same-length-2
-same-length-2 c = search needs
-
-same-length-3 : tie.Need-same-length-3
-same-length-3 c = search needs
-
-same-length-4 : tie.Need-same-length-4
-same-length-4 c = search needs
-
-same-length-5 : tie.Need-same-length-5
-same-length-5 c = search needs
 
 returns-3 : tie.Need-returns-3
 returns-3 c =
@@ -95,20 +53,20 @@ pub lsq-replay-spec : {M : Type 1} → statement M
 lsq-replay-spec =
     tie.close
     (tie.spec
-    read-table-requires
-    cast-result
+    (λ c κs. search needs)
+    (λ c. search needs)
     returns
-    cast-result-2
+    (λ c. search needs)
     returns-2
-    slice-read-t16
-    slice-read-t18
-    replay-requires
-    slice-write-counts
-    slice-write-counts-2
-    cast-result-3
-    same-length
-    same-length-2
-    same-length-3
-    same-length-4
-    same-length-5
+    (λ c. search needs)
+    (λ c. search needs)
+    (λ c κs. search needs)
+    (λ c. search needs)
+    (λ c. search needs)
+    (λ c. search needs)
+    (λ c. search needs)
+    (λ c. search needs)
+    (λ c. search needs)
+    (λ c. search needs)
+    (λ c. search needs)
     returns-3)

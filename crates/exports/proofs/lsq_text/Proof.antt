@@ -5,33 +5,14 @@ use Rattle.exports.specs.Text.{textLength}
 use Rattle.exports.proofs.lsq_text.Statement.{statement}
 use Rattle.exports.proofs.lsq_text.Tie as tie
 
--- src/lib.rt:135:9
-print-requires : tie.Need-print-requires
-print-requires c κs = search needs
-
--- src/lib.rt:137:24
-enum-known-written : tie.Need-enum-known-written
-enum-known-written c = search needs
-
--- src/lib.rt:138:34
 enum-told : tie.Need-enum-told
 enum-told c = search needs
 
--- src/lib.rt:131:1
-same-length : tie.Need-same-length
-same-length c = search needs
-
--- src/lib.rt:131:1
 returns : tie.Need-returns
 returns c =
     let p = c .before .before .before .before .before .print in
     (sym (ap textLength (sym (p .ensures .0) ∙ ap writtenReply (c .before .written .given .1))), p .ensures .1)
 
--- src/lib.rt:131:1
-same-length-2 : tie.Need-same-length-2
-same-length-2 c = search needs
-
--- src/lib.rt:131:1
 returns-2 : tie.Need-returns-2
 returns-2 c =
     let p = c .before .before .before .before .print in
@@ -41,10 +22,10 @@ pub lsq-text-spec : {M : Type 1} → statement M
 lsq-text-spec =
     tie.close
     (tie.spec
-    print-requires
-    enum-known-written
+    (λ c κs. search needs)
+    (λ c. search needs)
     enum-told
-    same-length
+    (λ c. search needs)
     returns
-    same-length-2
+    (λ c. search needs)
     returns-2)

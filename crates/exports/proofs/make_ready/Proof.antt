@@ -5,20 +5,11 @@ use borrow.Author.Needs.{needs}
 use Rattle.exports.proofs.make_ready.Statement.{statement}
 use Rattle.exports.proofs.make_ready.Tie as tie
 
-read-table-requires : tie.Need-read-table-requires
-read-table-requires c κs = search needs
-
-unprepared-requires : tie.Need-unprepared-requires
-unprepared-requires c κs = search needs
-
 returns : tie.Need-returns
 returns c =
     let t = c .before .before .before in
     let a = t .before .before .before .args in
     tells-table (a .table .now) (a .trace .now) (c .unprepared .result) (table-refused (a .table .now) (t .read-table .result) (t .read-table .ensures) (c .before .if1 .taken)) (c .unprepared .ensures)
-
-prepare-requires : tie.Need-prepare-requires
-prepare-requires c κs = search needs
 
 returns-2 : tie.Need-returns-2
 returns-2 c =
@@ -29,4 +20,4 @@ returns-2 c =
 
 pub make-ready-spec : {M : Type 1} → statement M
 make-ready-spec =
-    tie.close (tie.spec read-table-requires unprepared-requires returns prepare-requires returns-2)
+    tie.close (tie.spec (λ c κs. search needs) (λ c κs. search needs) returns (λ c κs. search needs) returns-2)

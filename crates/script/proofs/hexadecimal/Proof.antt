@@ -18,9 +18,6 @@ returns-4 c =
     let above-9 = lt-leb _ _ (c .before .before .if2 .left) in
     rw (from-0, above-9, le-ltb _ _ (c .before .if3 .left), lt-ltb _ _ (c .if4 .taken))
 
-sub-result : tie.Need-sub-result
-sub-result c = search needs
-
 returns-5 : tie.Need-returns-5
 returns-5 c =
     let from-0 = le-ltb _ _ (c .before .before .before .if1 .left) in
@@ -28,4 +25,4 @@ returns-5 c =
     rw (from-0, above-9, le-ltb _ _ (c .before .if3 .left), le-ltb _ _ (c .if4 .left))
 
 pub hexadecimal-spec : {M : Type 1} → statement M
-hexadecimal-spec = tie.close (tie.spec returns returns-2 returns-3 returns-4 sub-result returns-5)
+hexadecimal-spec = tie.close (tie.spec returns returns-2 returns-3 returns-4 (λ c. search needs) returns-5)

@@ -6,11 +6,8 @@ use Rattle.script.proofs.is_text.Tie as tie
 returns : tie.Need-returns
 returns c = rw (eq-eqb _ _ (c .if1 .taken))
 
-shared-slice-read-result : tie.Need-shared-slice-read-result
-shared-slice-read-result c = search needs
-
 returns-2 : tie.Need-returns-2
 returns-2 c = rw (ne-eqb _ _ (c .before .if1 .left))
 
 pub is-text-spec : {M : Type 1} → statement M
-is-text-spec = tie.close (tie.spec returns shared-slice-read-result returns-2)
+is-text-spec = tie.close (tie.spec returns (λ c. search needs) returns-2)

@@ -4,22 +4,13 @@ use borrow.Author.Needs.{needs}
 use Rattle.script.proofs.number_step.Statement.{statement}
 use Rattle.script.proofs.number_step.Tie as tie
 
-space-requires : tie.Need-space-requires
-space-requires c κs = search needs
-
 returns : tie.Need-returns
 unfolding numberStep
 returns c = rw (eq-eqb _ _ (c .before .if1 .taken)) (c .space .ensures)
 
-wrong-numbers-requires : tie.Need-wrong-numbers-requires
-wrong-numbers-requires c κs = search needs
-
 returns-2 : tie.Need-returns-2
 unfolding numberStep
 returns-2 c = rw (ne-eqb _ _ (c .before .before .if1 .left), lt-ltb _ _ (c .before .if2 .taken)) (c .wrong-numbers .ensures)
-
-wrong-numbers-requires-2 : tie.Need-wrong-numbers-requires-2
-wrong-numbers-requires-2 c κs = search needs
 
 returns-3 : tie.Need-returns-3
 unfolding numberStep
@@ -27,9 +18,6 @@ returns-3 c =
     let no-space = ne-eqb _ _ (c .before .before .before .if1 .left) in
     let above = le-ltb _ _ (c .before .before .if2 .left) in
     rw (no-space, above, lt-ltb _ _ (c .before .if3 .taken)) (c .wrong-numbers2 .ensures)
-
-digit-requires : tie.Need-digit-requires
-digit-requires c κs = search needs
 
 returns-4 : tie.Need-returns-4
 unfolding numberStep
@@ -42,11 +30,11 @@ pub number-step-spec : {M : Type 1} → statement M
 number-step-spec =
     tie.close
     (tie.spec
-    space-requires
+    (λ c κs. search needs)
     returns
-    wrong-numbers-requires
+    (λ c κs. search needs)
     returns-2
-    wrong-numbers-requires-2
+    (λ c κs. search needs)
     returns-3
-    digit-requires
+    (λ c κs. search needs)
     returns-4)

@@ -17,23 +17,8 @@ abbrev μ-loop : tie.MeasureT-loop
 loop-holds : tie.Need-loop-holds Inv-loop μ-loop
 loop-holds c = refl
 
-shared-slice-read-number-step : tie.Need-shared-slice-read-number-step Inv-loop μ-loop
-shared-slice-read-number-step c = search needs
-
-number-step-requires : tie.Need-number-step-requires Inv-loop μ-loop
-number-step-requires c κs = search needs
-
-add-i : tie.Need-add-i Inv-loop μ-loop
-add-i c = search needs
-
-loop-less : tie.Need-loop-less Inv-loop μ-loop
-loop-less c = search needs
-
 loop-again : tie.Need-loop-again Inv-loop μ-loop
 loop-again c = rw (add-one, c .number-step .ensures, ← number-steps-next _ _ _ (c .before .before .loop-test .taken)) (c .before .before .before .loop .inv)
-
-end-numbers-requires : tie.Need-end-numbers-requires Inv-loop μ-loop
-end-numbers-requires c κs = search needs
 
 returns : tie.Need-returns Inv-loop μ-loop
 returns c = rw (← c .before .before .loop .inv, number-steps-end _ _ _ (c .before .loop-test .left)) (c .end-numbers .ensures)
@@ -45,10 +30,10 @@ numbers-of-spec =
     Inv-loop
     μ-loop
     loop-holds
-    shared-slice-read-number-step
-    number-step-requires
-    add-i
-    loop-less
+    (λ c. search needs)
+    (λ c κs. search needs)
+    (λ c. search needs)
+    (λ c. search needs)
     loop-again
-    end-numbers-requires
+    (λ c κs. search needs)
     returns)

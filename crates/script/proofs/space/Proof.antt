@@ -3,20 +3,11 @@ use borrow.Author.Needs.{needs}
 use Rattle.script.proofs.space.Statement.{statement}
 use Rattle.script.proofs.space.Tie as tie
 
-wrong-numbers-requires : tie.Need-wrong-numbers-requires
-wrong-numbers-requires c κs = search needs
-
 returns : tie.Need-returns
 returns c = rw (c .before .if1 .taken) (c .wrong-numbers .ensures)
 
-add-found : tie.Need-add-found
-add-found c = search needs
-
 returns-2 : tie.Need-returns-2
 returns-2 c = rw (c .before .before .before .if1 .left, lt-ltb _ _ (c .before .if2 .taken))
-
-wrong-numbers-requires-2 : tie.Need-wrong-numbers-requires-2
-wrong-numbers-requires-2 c κs = search needs
 
 returns-3 : tie.Need-returns-3
 returns-3 c = rw (c .before .before .before .if1 .left, le-ltb _ _ (c .before .if2 .left)) (c .wrong-numbers2 .ensures)
@@ -25,9 +16,9 @@ pub space-spec : {M : Type 1} → statement M
 space-spec =
     tie.close
     (tie.spec
-    wrong-numbers-requires
+    (λ c κs. search needs)
     returns
-    add-found
+    (λ c. search needs)
     returns-2
-    wrong-numbers-requires-2
+    (λ c κs. search needs)
     returns-3)

@@ -8,27 +8,6 @@ use borrow.Author.Needs.{needs}
 use Rattle.printed.proofs.lines.put_counts.Statement.{statement}
 use Rattle.printed.proofs.lines.put_counts.Tie as tie
 
--- src/lines.rt:77:35
-slice-aggregate-put-item : tie.Need-slice-aggregate-put-item
-slice-aggregate-put-item c = search needs
-
--- src/lines.rt:77:46
-cast-put-item : tie.Need-cast-put-item
-cast-put-item c = search needs
-
--- src/lines.rt:77:9
-put-item-requires : tie.Need-put-item-requires
-put-item-requires c κs = search needs
-
--- src/lines.rt:78:38
-slice-aggregate-put-item-2 : tie.Need-slice-aggregate-put-item-2
-slice-aggregate-put-item-2 c = search needs
-
--- src/lines.rt:78:53
-cast-put-item-2 : tie.Need-cast-put-item-2
-cast-put-item-2 c = search needs
-
--- src/lines.rt:78:9
 put-item-requires-2 : tie.Need-put-item-requires-2
 put-item-requires-2 c κs =
     let w = c .before .before .before .before .before .put-item .ensures in
@@ -36,15 +15,6 @@ put-item-requires-2 c κs =
     let few = item-few loadsSpace (s .args .counts .loads) 32 in
     omega (arith, s .pre, few, w .ends, puts-length w (omega (arith, s .pre, few)))
 
--- src/lines.rt:79:26
-slice-aggregate-put-item-3 : tie.Need-slice-aggregate-put-item-3
-slice-aggregate-put-item-3 c = search needs
-
--- src/lines.rt:79:37
-share-requires : tie.Need-share-requires
-share-requires c κs = search needs
-
--- src/lines.rt:79:5
 put-item-requires-3 : tie.Need-put-item-requires-3
 put-item-requires-3 c κs =
     let k = c .before .before .before in
@@ -56,11 +26,6 @@ put-item-requires-3 c κs =
     let h = s .pre in
     omega (arith, f, g, h, both-end w v (omega (arith, f, g, h)), both-long w v (omega (arith, f, g, h)))
 
--- src/lines.rt:73:1
-same-length : tie.Need-same-length
-same-length c = search needs
-
--- src/lines.rt:73:1
 returns : tie.Need-returns
 returns c =
     let k = c .before .before .before .before .before .before in
@@ -80,14 +45,14 @@ pub put-counts-spec : {M : Type 1} → statement M
 put-counts-spec =
     tie.close
     (tie.spec
-    slice-aggregate-put-item
-    cast-put-item
-    put-item-requires
-    slice-aggregate-put-item-2
-    cast-put-item-2
+    (λ c. search needs)
+    (λ c. search needs)
+    (λ c κs. search needs)
+    (λ c. search needs)
+    (λ c. search needs)
     put-item-requires-2
-    slice-aggregate-put-item-3
-    share-requires
+    (λ c. search needs)
+    (λ c κs. search needs)
     put-item-requires-3
-    same-length
+    (λ c. search needs)
     returns)

@@ -9,19 +9,6 @@ use Rattle.printed.proofs.LineLaws.{both, both-end, both-long, event-va
 use Rattle.printed.proofs.lines.put_event.Statement.{statement}
 use Rattle.printed.proofs.lines.put_event.Tie as tie
 
--- src/lines.rt:18:35
-slice-aggregate-put-item : tie.Need-slice-aggregate-put-item
-slice-aggregate-put-item c = search needs
-
--- src/lines.rt:18:9
-put-item-requires : tie.Need-put-item-requires
-put-item-requires c κs = search needs
-
--- src/lines.rt:19:38
-slice-aggregate-put-item-2 : tie.Need-slice-aggregate-put-item-2
-slice-aggregate-put-item-2 c = search needs
-
--- src/lines.rt:19:9
 put-item-requires-2 : tie.Need-put-item-requires-2
 put-item-requires-2 c κs =
     let w = c .before .before .before .before .put-item .ensures in
@@ -35,11 +22,6 @@ fits c =
     let s = c .before .before .before .before .before .before .before .before .before .before .before in
     omega (arith, s .pre, item-few [] (s .args .number) 32, item-few [] (s .args .answer) 32)
 
--- src/lines.rt:21:37
-slice-aggregate-put-item-3 : tie.Need-slice-aggregate-put-item-3
-slice-aggregate-put-item-3 c = search needs
-
--- src/lines.rt:21:9
 put-item-requires-3 : tie.Need-put-item-requires-3
 put-item-requires-3 c κs =
     let k = c .before .before .before in
@@ -49,11 +31,6 @@ put-item-requires-3 c κs =
     let h = fits k in
     omega (arith, h, both-end w v (omega arith), both-long w v (omega arith))
 
--- src/lines.rt:21:9
-same-length : tie.Need-same-length
-same-length c = search needs
-
--- src/lines.rt:21:9
 returns : tie.Need-returns
 returns c =
     let k = c .before .before .before .before .before .before in
@@ -63,11 +40,6 @@ returns c =
     let h = fits k in
     puts-as (event-value (s .number) (s .answer) (s .given) (s .word) (c .before .before .before .before .before .if1 .taken)) (both (both w v (omega arith)) (c .before .before .put-item3 .ensures) (omega (arith, h, item-few [] (s .word) 10, length-append (item [] (s .number) 32) (item [] (s .answer) 32))))
 
--- src/lines.rt:23:27
-slice-aggregate-put-bytes : tie.Need-slice-aggregate-put-bytes
-slice-aggregate-put-bytes c = search needs
-
--- src/lines.rt:23:5
 put-bytes-requires : tie.Need-put-bytes-requires
 put-bytes-requires c κs =
     let k = c .before .before .before in
@@ -77,11 +49,6 @@ put-bytes-requires c κs =
     let h = fits k in
     omega (arith, h, both-end w v (omega arith), both-long w v (omega arith))
 
--- src/lines.rt:14:1
-same-length-2 : tie.Need-same-length-2
-same-length-2 c = search needs
-
--- src/lines.rt:14:1
 returns-2 : tie.Need-returns-2
 returns-2 c =
     let k = c .before .before .before .before .before .before in
@@ -95,15 +62,15 @@ pub put-event-spec : {M : Type 1} → statement M
 put-event-spec =
     tie.close
     (tie.spec
-    slice-aggregate-put-item
-    put-item-requires
-    slice-aggregate-put-item-2
+    (λ c. search needs)
+    (λ c κs. search needs)
+    (λ c. search needs)
     put-item-requires-2
-    slice-aggregate-put-item-3
+    (λ c. search needs)
     put-item-requires-3
-    same-length
+    (λ c. search needs)
     returns
-    slice-aggregate-put-bytes
+    (λ c. search needs)
     put-bytes-requires
-    same-length-2
+    (λ c. search needs)
     returns-2)

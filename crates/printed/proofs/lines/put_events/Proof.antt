@@ -17,31 +17,21 @@ Inv-loop out₀ answers given words count place₀ i₀ out place i =
 abbrev μ-loop : tie.MeasureT-loop
 μ-loop out₀ answers given words count place₀ i₀ out place i = count - i
 
--- src/lines.rt:39:5
 loop-holds : tie.Need-loop-holds Inv-loop μ-loop
 loop-holds c = (omega arith, puts-none)
 
--- src/lines.rt:40:39
-add-put-event : tie.Need-add-put-event Inv-loop μ-loop
-add-put-event c = search needs
-
--- src/lines.rt:40:53
 shared-slice-read-put-event : tie.Need-shared-slice-read-put-event Inv-loop μ-loop
 shared-slice-read-put-event c = omega (arith, c .before .before .before .before .before .before .before .before .pre .0, c .before .before .loop-test .taken)
 
--- src/lines.rt:40:65
 shared-slice-read-put-event-2 : tie.Need-shared-slice-read-put-event-2 Inv-loop μ-loop
 shared-slice-read-put-event-2 c = omega (arith, c .before .before .before .before .before .before .before .before .before .pre .1, c .before .before .before .loop-test .taken)
 
--- src/lines.rt:40:75
 mul-put-event : tie.Need-mul-put-event Inv-loop μ-loop
 mul-put-event c = omega (arith, c .before .before .before .before .before .before .before .before .before .pre .2, c .before .before .before .loop-test .taken, c .before .before .before .before .before .before .before .before .before .good)
 
--- src/lines.rt:40:75
 shared-slice-read-put-event-3 : tie.Need-shared-slice-read-put-event-3 Inv-loop μ-loop
 shared-slice-read-put-event-3 c = omega (arith, c .before .before .before .before .before .before .before .before .before .before .pre .2, c .before .before .before .before .loop-test .taken)
 
--- src/lines.rt:40:9
 put-event-requires : tie.Need-put-event-requires Inv-loop μ-loop
 put-event-requires c κs =
     let s = c .before .before .before .before .before .before .before .before .before .before in
@@ -51,15 +41,9 @@ put-event-requires c κs =
     let w = l .inv .1 in
     omega (arith, few, w .ends, puts-length w (omega (arith, few, s .pre .3, c .before .before .before .before .loop-test .taken)), s .pre .3, c .before .before .before .before .loop-test .taken)
 
--- src/lines.rt:41:9
-add-i : tie.Need-add-i Inv-loop μ-loop
-add-i c = search needs
-
--- src/lines.rt:39:5
 loop-less : tie.Need-loop-less Inv-loop μ-loop
 loop-less c = omega (arith, c .before .before .before .before .before .before .before .loop-test .taken)
 
--- src/lines.rt:39:5
 loop-again : tie.Need-loop-again Inv-loop μ-loop
 loop-again c =
     let s = c .before .before .before .before .before .before .before .before .before .before .before .before .before in
@@ -69,7 +53,6 @@ loop-again c =
     let w = l .inv .1 in
     (omega (arith, c .before .before .before .before .before .before .before .loop-test .taken), puts-as (rows-next (a .answers .now) (a .given .now) (a .words .now) (a .count) (s .pre .0) (s .pre .1) (s .pre .2) (l .i) (c .before .before .before .before .before .before .before .loop-test .taken)) (puts-puts w (omega (arith, few, s .pre .3, c .before .before .before .before .before .before .before .loop-test .taken)) (c .before .before .put-event .ensures)))
 
--- src/lines.rt:27:1
 same-length : tie.Need-same-length Inv-loop μ-loop
 same-length c =
     let s = c .before .before .before .before .before .before in
@@ -79,7 +62,6 @@ same-length c =
     let w = l .inv .1 in
     puts-length w (omega (arith, few, s .pre .3, l .inv .0))
 
--- src/lines.rt:27:1
 returns : tie.Need-returns Inv-loop μ-loop
 returns c =
     let e : c .before .loop .i ≡ c .before .before .before .before .before .before .args .count = omega (arith, c .loop-test .left, c .before .loop .inv .0) in
@@ -92,13 +74,13 @@ put-events-spec =
     Inv-loop
     μ-loop
     loop-holds
-    add-put-event
+    (λ c. search needs)
     shared-slice-read-put-event
     shared-slice-read-put-event-2
     mul-put-event
     shared-slice-read-put-event-3
     put-event-requires
-    add-i
+    (λ c. search needs)
     loop-less
     loop-again
     same-length

@@ -6,23 +6,9 @@ use borrow.Author.Needs.{needs}
 use Rattle.printed.proofs.lines.put_word.Statement.{statement}
 use Rattle.printed.proofs.lines.put_word.Tie as tie
 
--- src/lines.rt:52:9
 returns : tie.Need-returns
 returns c = puts-as (sym (word-zero (c .before .before .args .address) (c .before .before .args .word) (c .if1 .taken))) puts-none
 
--- src/lines.rt:54:35
-slice-aggregate-put-item : tie.Need-slice-aggregate-put-item
-slice-aggregate-put-item c = search needs
-
--- src/lines.rt:54:9
-put-item-requires : tie.Need-put-item-requires
-put-item-requires c κs = search needs
-
--- src/lines.rt:55:26
-slice-aggregate-put-item-2 : tie.Need-slice-aggregate-put-item-2
-slice-aggregate-put-item-2 c = search needs
-
--- src/lines.rt:55:5
 put-item-requires-2 : tie.Need-put-item-requires-2
 put-item-requires-2 c κs =
     let w = c .before .before .before .before .put-item .ensures in
@@ -30,11 +16,6 @@ put-item-requires-2 c κs =
     let few = item-few wordSpace (s .args .address) 32 in
     omega (arith, s .pre, few, w .ends, puts-length w (omega (arith, s .pre, few)))
 
--- src/lines.rt:47:1
-same-length : tie.Need-same-length
-same-length c = search needs
-
--- src/lines.rt:47:1
 returns-2 : tie.Need-returns-2
 returns-2 c =
     let w = c .before .before .before .before .before .before .before .put-item .ensures in
@@ -46,9 +27,9 @@ put-word-spec =
     tie.close
     (tie.spec
     returns
-    slice-aggregate-put-item
-    put-item-requires
-    slice-aggregate-put-item-2
+    (λ c. search needs)
+    (λ c κs. search needs)
+    (λ c. search needs)
     put-item-requires-2
-    same-length
+    (λ c. search needs)
     returns-2)

@@ -17,19 +17,12 @@ Inv-loop out₀ at memory place₀ i₀ out place i = (i ≤ length memory) × P
 abbrev μ-loop : tie.MeasureT-loop
 μ-loop out₀ at memory place₀ i₀ out place i = length memory - i
 
--- src/lines.rt:65:5
 loop-holds : tie.Need-loop-holds Inv-loop μ-loop
 loop-holds c = (omega arith, puts-none)
 
--- src/lines.rt:66:48
-mul-put-word : tie.Need-mul-put-word Inv-loop μ-loop
-mul-put-word c = search needs
-
--- src/lines.rt:66:48
 shared-slice-read-put-word : tie.Need-shared-slice-read-put-word Inv-loop μ-loop
 shared-slice-read-put-word c = omega (arith, c .before .before .loop-test .taken)
 
--- src/lines.rt:66:9
 put-word-requires : tie.Need-put-word-requires Inv-loop μ-loop
 put-word-requires c κs =
     let s = c .before .before .before .before .before .before in
@@ -39,15 +32,9 @@ put-word-requires c κs =
     let w = l .inv .1 in
     omega (arith, few, w .ends, puts-length w (omega (arith, few, s .pre, c .before .before .loop-test .taken)), s .pre, c .before .before .loop-test .taken)
 
--- src/lines.rt:67:9
-add-i : tie.Need-add-i Inv-loop μ-loop
-add-i c = search needs
-
--- src/lines.rt:65:5
 loop-less : tie.Need-loop-less Inv-loop μ-loop
 loop-less c = omega (arith, c .before .before .before .before .before .loop-test .taken)
 
--- src/lines.rt:65:5
 loop-again : tie.Need-loop-again Inv-loop μ-loop
 loop-again c =
     let s = c .before .before .before .before .before .before .before .before .before in
@@ -57,7 +44,6 @@ loop-again c =
     let w = l .inv .1 in
     (omega (arith, c .before .before .before .before .before .loop-test .taken), puts-as (words-next m (l .i) (c .before .before .before .before .before .loop-test .taken)) (puts-puts w (omega (arith, few, s .pre, c .before .before .before .before .before .loop-test .taken)) (c .before .before .put-word .ensures)))
 
--- src/lines.rt:59:1
 same-length : tie.Need-same-length Inv-loop μ-loop
 same-length c =
     let s = c .before .before .before .before in
@@ -67,7 +53,6 @@ same-length c =
     let w = l .inv .1 in
     puts-length w (omega (arith, few, s .pre, l .inv .0))
 
--- src/lines.rt:59:1
 returns : tie.Need-returns Inv-loop μ-loop
 returns c = puts-as (ap (wordLines 0) (take-all (c .before .loop .i) (c .before .before .before .before .args .memory .now) (c .loop-test .left))) (c .before .loop .inv .1)
 
@@ -78,10 +63,10 @@ put-words-spec =
     Inv-loop
     μ-loop
     loop-holds
-    mul-put-word
+    (λ c. search needs)
     shared-slice-read-put-word
     put-word-requires
-    add-i
+    (λ c. search needs)
     loop-less
     loop-again
     same-length

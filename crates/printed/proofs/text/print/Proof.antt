@@ -5,21 +5,11 @@ use borrow.Author.Needs.{needs}
 use Rattle.printed.proofs.text.print.Statement.{statement}
 use Rattle.printed.proofs.text.print.Tie as tie
 
--- src/text.rt:95:9
 returns : tie.Need-returns
 returns c =
     let a = c .before .before .before .before .args in
     rw (printed-short (a .table .now) (a .trace .now) (a .out .now) (c .if1 .taken)) (refl, refl)
 
--- src/text.rt:97:20
-put-text-requires : tie.Need-put-text-requires
-put-text-requires c κs = search needs
-
--- src/text.rt:91:1
-same-length : tie.Need-same-length
-same-length c = search needs
-
--- src/text.rt:91:1
 returns-2 : tie.Need-returns-2
 returns-2 c =
     let a = c .before .before .before .before .before .before .before .before .args in
@@ -27,4 +17,4 @@ returns-2 c =
     rw (printed-fits (a .table .now) (a .trace .now) (a .out .now) (c .before .before .before .before .if1 .left)) (ap accepts (w .0), w .1)
 
 pub print-spec : {M : Type 1} → statement M
-print-spec = tie.close (tie.spec returns put-text-requires same-length returns-2)
+print-spec = tie.close (tie.spec returns (λ c κs. search needs) (λ c. search needs) returns-2)

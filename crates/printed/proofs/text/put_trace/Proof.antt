@@ -14,56 +14,14 @@ use borrow.Author.Needs.{needs}
 use Rattle.printed.proofs.text.put_trace.Statement.{statement}
 use Rattle.printed.proofs.text.put_trace.Tie as tie
 
--- src/text.rt:78:33
-slice-aggregate-put-item : tie.Need-slice-aggregate-put-item
-slice-aggregate-put-item c = search needs
-
--- src/text.rt:78:9
-put-item-requires : tie.Need-put-item-requires
-put-item-requires c κs = search needs
-
--- src/text.rt:78:9
-same-length : tie.Need-same-length
-same-length c = search needs
-
--- src/text.rt:78:9
 returns : tie.Need-returns
 returns c = puts-as (trace-line 36 ∙ sym (trace-long (groupsOf (c .before .before .before .before .before .before .before .before .args .table)) (c .before .before .before .before .before .before .before .before .args .trace .now) (c .before .before .before .before .before .if1 .taken))) (c .before .before .put-item .ensures)
 
--- src/text.rt:80:9
-prepare-requires : tie.Need-prepare-requires
-prepare-requires c κs = search needs
-
--- src/text.rt:82:33
-slice-aggregate-put-item-2 : tie.Need-slice-aggregate-put-item-2
-slice-aggregate-put-item-2 c = search needs
-
--- src/text.rt:82:44
-cast-put-item : tie.Need-cast-put-item
-cast-put-item c = search needs
-
--- src/text.rt:82:9
-put-item-requires-2 : tie.Need-put-item-requires-2
-put-item-requires-2 c κs = search needs
-
--- src/text.rt:82:9
-same-length-2 : tie.Need-same-length-2
-same-length-2 c = search needs
-
--- src/text.rt:82:9
 returns-2 : tie.Need-returns-2
 returns-2 c =
     let p = c .before .before .before .before .before .before .before .before in
     let refused = prepare-refused (groupsOf (c .before .before .before .before .before .before .before .before .before .before .before .before .args .table)) (c .before .before .before .before .before .before .before .before .before .before .before .before .args .trace .now) (p .prepare .result) (p .prepare .ensures) (c .before .before .before .before .before .before .if2 .taken) in
     puts-as (trace-line (p .prepare .result .answer) ∙ sym (trace-short (groupsOf (c .before .before .before .before .before .before .before .before .before .before .before .before .args .table)) (c .before .before .before .before .before .before .before .before .before .before .before .before .args .trace .now) (c .before .before .before .before .before .before .before .before .before .if1 .left) ∙ ap startText refused)) (c .before .before .put-item2 .ensures)
-
--- src/text.rt:85:17
-cast-words : tie.Need-cast-words
-cast-words c = search needs
-
--- src/text.rt:86:22
-no-memory-requires : tie.Need-no-memory-requires
-no-memory-requires c κs = search needs
 
 -- what was made ready, and that its memory fits
 started : (c : tie.Else2) → Started (groupsOf (c .before .before .before .before .before .before .args .table)) (c .before .before .before .before .before .before .args .trace .now) (c .before .before .prepare .result)
@@ -72,19 +30,16 @@ started c = prepare-accepted _ _ (c .before .before .prepare .result) (c .before
 few-words : (c : tie.Else2) → c .before .before .prepare .result .header .words ≤ 4096
 few-words c = opened-words _ _ _ _ _ (started c .well .opens)
 
--- src/text.rt:87:35
 array-borrow-prefix-memory : tie.Need-array-borrow-prefix-memory
 array-borrow-prefix-memory c =
     let l : length (c .before .no-memory .result) ≡ 4096 = search needs in
     omega (arith, few-words (c .before .before .before .before))
 
--- src/text.rt:87:35
 slice-aggregate-put-played : tie.Need-slice-aggregate-put-played
 slice-aggregate-put-played c =
     let l : length (c .before .before .no-memory .result) ≡ 4096 = search needs in
     sym (length-take-le _ (c .before .before .no-memory .result) (omega (arith, few-words (c .before .before .before .before .before))))
 
--- src/text.rt:87:5
 put-played-requires : tie.Need-put-played-requires
 put-played-requires c κs =
     let e = c .before .before .before .before .before in
@@ -98,11 +53,6 @@ put-played-requires c κs =
       room = c .before .before .before .before .before .before .before .before .before .before .before .pre;
     }
 
--- src/text.rt:73:1
-same-length-3 : tie.Need-same-length-3
-same-length-3 c = search needs
-
--- src/text.rt:73:1
 returns-3 : tie.Need-returns-3
 returns-3 c = puts-as (sym (trace-short (groupsOf (c .before .before .before .before .before .before .before .before .before .before .before .before .before .before .before .args .table)) (c .before .before .before .before .before .before .before .before .before .before .before .before .before .before .before .args .trace .now) (c .before .before .before .before .before .before .before .before .before .before .before .before .if1 .left))) (c .before .before .before .put-played .ensures)
 
@@ -110,20 +60,20 @@ pub put-trace-spec : {M : Type 1} → statement M
 put-trace-spec =
     tie.close
     (tie.spec
-    slice-aggregate-put-item
-    put-item-requires
-    same-length
+    (λ c. search needs)
+    (λ c κs. search needs)
+    (λ c. search needs)
     returns
-    prepare-requires
-    slice-aggregate-put-item-2
-    cast-put-item
-    put-item-requires-2
-    same-length-2
+    (λ c κs. search needs)
+    (λ c. search needs)
+    (λ c. search needs)
+    (λ c κs. search needs)
+    (λ c. search needs)
     returns-2
-    cast-words
-    no-memory-requires
+    (λ c. search needs)
+    (λ c κs. search needs)
     array-borrow-prefix-memory
     slice-aggregate-put-played
     put-played-requires
-    same-length-3
+    (λ c. search needs)
     returns-3)

@@ -10,15 +10,6 @@ use Rattle.queue.proofs.Queue.activate.Tie as tie
 own : (c : tie.Start) → whole (c .args .self .«load_entries») (c .args .self .«store_entries») ≡ true
 own c = both-whole (c .args .self .«load_entries») (c .args .self .«store_entries») (search needs) (search needs)
 
-slice-aggregate-activate-in : tie.Need-slice-aggregate-activate-in
-slice-aggregate-activate-in c = search needs
-
-slice-aggregate-activate-in-2 : tie.Need-slice-aggregate-activate-in-2
-slice-aggregate-activate-in-2 c = search needs
-
-activate-in-requires : tie.Need-activate-in-requires
-activate-in-requires c κs = search needs
-
 returns : tie.Need-returns
 returns c =
     let k = c .before .before .before in
@@ -30,7 +21,7 @@ activate-spec =
     tie.close
     (tie.spec
     (λ c κs. search needs)
-    slice-aggregate-activate-in
-    slice-aggregate-activate-in-2
-    activate-in-requires (λ c κs. search needs)
+    (λ c. search needs)
+    (λ c. search needs)
+    (λ c κs. search needs) (λ c κs. search needs)
     returns)

@@ -10,15 +10,6 @@ use Rattle.queue.proofs.Queue.load_address.Tie as tie
 own : (c : tie.Start) → whole (c .args .self .«load_entries») (c .args .self .«store_entries») ≡ true
 own c = both-whole (c .args .self .«load_entries») (c .args .self .«store_entries») (search needs) (search needs)
 
-slice-aggregate-load-address-in : tie.Need-slice-aggregate-load-address-in
-slice-aggregate-load-address-in c = search needs
-
-slice-aggregate-load-address-in-2 : tie.Need-slice-aggregate-load-address-in-2
-slice-aggregate-load-address-in-2 c = search needs
-
-load-address-in-requires : tie.Need-load-address-in-requires
-load-address-in-requires c κs = search needs
-
 returns : tie.Need-returns
 returns c =
     let k = c .before in
@@ -30,7 +21,7 @@ load-address-spec =
     tie.close
     (tie.spec
     (λ c κs. search needs)
-    slice-aggregate-load-address-in
-    slice-aggregate-load-address-in-2
-    load-address-in-requires
+    (λ c. search needs)
+    (λ c. search needs)
+    (λ c κs. search needs)
     returns)

@@ -6,9 +6,6 @@ use borrow.Author.Needs.{needs}
 use Rattle.queue.proofs.Queue.open.Statement.{statement}
 use Rattle.queue.proofs.Queue.open.Tie as tie
 
-open-in-requires : tie.Need-open-in-requires
-open-in-requires c κs = search needs
-
 returns : tie.Need-returns
 returns c =
     let o = c .before in
@@ -16,4 +13,4 @@ returns c =
     opens (freshFrame (a .table) (a .load-depth) (a .store-depth) (a .first) (a .words)) (openQueue (groupsOf (a .table)) (a .load-depth) (a .store-depth) (a .first) (a .words)) (o .open-in .result) (o .open-in .ensures)
 
 pub open-spec : {M : Type 1} → statement M
-open-spec = tie.close (tie.spec open-in-requires returns)
+open-spec = tie.close (tie.spec (λ c κs. search needs) returns)

@@ -10,15 +10,6 @@ use Rattle.queue.proofs.Queue.serve_counted.Tie as tie
 own : (c : tie.Start) → whole (c .args .self .«load_entries») (c .args .self .«store_entries») ≡ true
 own c = both-whole (c .args .self .«load_entries») (c .args .self .«store_entries») (search needs) (search needs)
 
-slice-aggregate-serve-in : tie.Need-slice-aggregate-serve-in
-slice-aggregate-serve-in c = search needs
-
-slice-aggregate-serve-in-2 : tie.Need-slice-aggregate-serve-in-2
-slice-aggregate-serve-in-2 c = search needs
-
-serve-in-requires : tie.Need-serve-in-requires
-serve-in-requires c κs = search needs
-
 returns : tie.Need-returns
 returns c =
     let k = c .before .before in
@@ -28,4 +19,4 @@ returns c =
 pub serve-counted-spec : {M : Type 1} → statement M
 serve-counted-spec =
     tie.close
-    (tie.spec (λ c κs. search needs) slice-aggregate-serve-in slice-aggregate-serve-in-2 serve-in-requires returns)
+    (tie.spec (λ c κs. search needs) (λ c. search needs) (λ c. search needs) (λ c κs. search needs) returns)

@@ -10,15 +10,6 @@ use Rattle.queue.proofs.Queue.sound.Tie as tie
 own : (c : tie.Start) → whole (c .args .self .«load_entries») (c .args .self .«store_entries») ≡ true
 own c = both-whole (c .args .self .«load_entries») (c .args .self .«store_entries») (search needs) (search needs)
 
-slice-aggregate-sound-in : tie.Need-slice-aggregate-sound-in
-slice-aggregate-sound-in c = search needs
-
-slice-aggregate-sound-in-2 : tie.Need-slice-aggregate-sound-in-2
-slice-aggregate-sound-in-2 c = search needs
-
-sound-in-requires : tie.Need-sound-in-requires
-sound-in-requires c κs = search needs
-
 returns : tie.Need-returns
 returns c =
     let o = c .before .before .before .before .before .before .before in
@@ -27,4 +18,4 @@ returns c =
 pub sound-spec : {M : Type 1} → statement M
 sound-spec =
     tie.close
-    (tie.spec (λ c κs. search needs) slice-aggregate-sound-in slice-aggregate-sound-in-2 sound-in-requires returns)
+    (tie.spec (λ c κs. search needs) (λ c. search needs) (λ c. search needs) (λ c κs. search needs) returns)

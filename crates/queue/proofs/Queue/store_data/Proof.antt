@@ -10,15 +10,6 @@ use Rattle.queue.proofs.Queue.store_data.Tie as tie
 own : (c : tie.Start) → whole (c .args .self .«load_entries») (c .args .self .«store_entries») ≡ true
 own c = both-whole (c .args .self .«load_entries») (c .args .self .«store_entries») (search needs) (search needs)
 
-slice-aggregate-store-data-in : tie.Need-slice-aggregate-store-data-in
-slice-aggregate-store-data-in c = search needs
-
-slice-aggregate-store-data-in-2 : tie.Need-slice-aggregate-store-data-in-2
-slice-aggregate-store-data-in-2 c = search needs
-
-store-data-in-requires : tie.Need-store-data-in-requires
-store-data-in-requires c κs = search needs
-
 returns : tie.Need-returns
 returns c =
     let k = c .before in
@@ -30,7 +21,7 @@ store-data-spec =
     tie.close
     (tie.spec
     (λ c κs. search needs)
-    slice-aggregate-store-data-in
-    slice-aggregate-store-data-in-2
-    store-data-in-requires
+    (λ c. search needs)
+    (λ c. search needs)
+    (λ c κs. search needs)
     returns)

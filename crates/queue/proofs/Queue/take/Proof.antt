@@ -10,15 +10,6 @@ use Rattle.queue.proofs.Queue.take.Tie as tie
 own : (c : tie.Start) → whole (c .args .self .«load_entries») (c .args .self .«store_entries») ≡ true
 own c = both-whole (c .args .self .«load_entries») (c .args .self .«store_entries») (search needs) (search needs)
 
-slice-aggregate-take-in : tie.Need-slice-aggregate-take-in
-slice-aggregate-take-in c = search needs
-
-slice-aggregate-take-in-2 : tie.Need-slice-aggregate-take-in-2
-slice-aggregate-take-in-2 c = search needs
-
-take-in-requires : tie.Need-take-in-requires
-take-in-requires c κs = search needs
-
 returns : tie.Need-returns
 returns c =
     let k = c .before .before .before in
@@ -27,4 +18,4 @@ returns c =
 
 pub take-spec : {M : Type 1} → statement M
 take-spec =
-    tie.close (tie.spec (λ c κs. search needs) slice-aggregate-take-in slice-aggregate-take-in-2 take-in-requires (λ c κs. search needs) returns)
+    tie.close (tie.spec (λ c κs. search needs) (λ c. search needs) (λ c. search needs) (λ c κs. search needs) (λ c κs. search needs) returns)

@@ -85,38 +85,17 @@ fits e =
     let g = chosen (e .before) in
     group-fits (queueIn (begun g)) (g .group-at .result) (group-inside _ _ (g .group-at .ensures)) (good (checked g) .right) (good-group g) (place e)
 
-sound-in-requires : tie.Need-sound-in-requires
-sound-in-requires c κs = search needs
-
-refused-requires : tie.Need-refused-requires
-refused-requires c κs = search needs
-
 returns : tie.Need-returns
 returns c =
     let s = start (c .before .before) in
     let q = queueIn s in
     rw (unfit q (activate (contentsOf q) (s .args .group)) (c .before .before .sound-in .ensures) (c .before .if1 .taken) (activate-unsound (contentsOf q) (s .args .group))) (ap (unchanged s) (c .refused .ensures))
 
-cast-if2 : tie.Need-cast-if2
-cast-if2 c = search needs
-
-refused-requires-2 : tie.Need-refused-requires-2
-refused-requires-2 c κs = search needs
-
 returns-2 : tie.Need-returns-2
 returns-2 c =
     let e = c .before .before .before in
     let s = start (e .before) in
     rw (good e .full, activate-no-group (queueIn s) (s .args .group) (good e .right) (c .before .if2 .taken)) (ap (unchanged s) (c .refused2 .ensures))
-
-group-at-requires : tie.Need-group-at-requires
-group-at-requires c κs = search needs
-
-has-room-requires : tie.Need-has-room-requires
-has-room-requires c κs = search needs
-
-refused-requires-3 : tie.Need-refused-requires-3
-refused-requires-3 c κs = search needs
 
 returns-3 : tie.Need-returns-3
 returns-3 c =
@@ -160,54 +139,30 @@ returns-4 c =
           (appended-both (queueIn s) (g .group-at .result) (a .append .ensures) (b .append2 .ensures) ∙ with-group-is (contentsOf (queueIn s)) (meant g) (good-group g));
     })
 
-same-length : tie.Need-same-length
-same-length c = search needs
-
-same-length-2 : tie.Need-same-length-2
-same-length-2 c = search needs
-
-same-length-3 : tie.Need-same-length-3
-same-length-3 c = search needs
-
-same-length-4 : tie.Need-same-length-4
-same-length-4 c = search needs
-
-same-length-5 : tie.Need-same-length-5
-same-length-5 c = search needs
-
-same-length-6 : tie.Need-same-length-6
-same-length-6 c = search needs
-
-same-length-7 : tie.Need-same-length-7
-same-length-7 c = search needs
-
-same-length-8 : tie.Need-same-length-8
-same-length-8 c = search needs
-
 pub activate-in-spec : {M : Type 1} → statement M
 activate-in-spec =
     tie.close
     (tie.spec
-    sound-in-requires
-    refused-requires
-    same-length
-    same-length-2
+    (λ c κs. search needs)
+    (λ c κs. search needs)
+    (λ c. search needs)
+    (λ c. search needs)
     returns
-    cast-if2
-    refused-requires-2
-    same-length-3
-    same-length-4
+    (λ c. search needs)
+    (λ c κs. search needs)
+    (λ c. search needs)
+    (λ c. search needs)
     returns-2
-    group-at-requires
-    has-room-requires
-    refused-requires-3
-    same-length-5
-    same-length-6
+    (λ c κs. search needs)
+    (λ c κs. search needs)
+    (λ c κs. search needs)
+    (λ c. search needs)
+    (λ c. search needs)
     returns-3
     append-requires
     append-requires-2
     longer-requires
     longer-requires-2 (λ c κs. search needs)
-    same-length-7
-    same-length-8
+    (λ c. search needs)
+    (λ c. search needs)
     returns-4)

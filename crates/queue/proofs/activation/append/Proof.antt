@@ -64,12 +64,6 @@ fits : (s : tie.Start Inv-loop μ-loop) (i : ℕ) → i < s .args .pairs .count 
     entryOf (numberAfter (s .args .others) p) ≡ entryAfter (s .args .others) p
 fits s i k = after-number (s .args .others) _ (s .pre .1) (s .pre .0 .ports i k) (s .pre .0 .offsets i k)
 
-cast-more : tie.Need-cast-more Inv-loop μ-loop
-cast-more c = search needs
-
-cast-first : tie.Need-cast-first Inv-loop μ-loop
-cast-first c = search needs
-
 loop-holds : tie.Need-loop-holds Inv-loop μ-loop
 loop-holds c = (search needs, pasted-none, refl)
 
@@ -82,14 +76,8 @@ mul-unpack-pair c = omega (arith, start (c .before) .pre .0 .inside)
 element-copy-out-unpack-pair : tie.Need-element-copy-out-unpack-pair Inv-loop μ-loop
 element-copy-out-unpack-pair c = omega (arith, start (c .before) .pre .0 .inside)
 
-unpack-pair-requires : tie.Need-unpack-pair-requires Inv-loop μ-loop
-unpack-pair-requires c κs = search needs
-
 add-t18 : tie.Need-add-t18 Inv-loop μ-loop
 add-t18 c = omega (arith, offset-few (c .before), start (turn (c .before) .before) .pre .1)
-
-pack-requires : tie.Need-pack-requires Inv-loop μ-loop
-pack-requires c κs = search needs
 
 -- where the turn ends
 abbrev ended : tie.After-pack Inv-loop μ-loop → tie.After-unpack-pair Inv-loop μ-loop
@@ -140,15 +128,15 @@ append-spec =
     (tie.spec
     Inv-loop
     μ-loop
-    cast-more
-    cast-first
+    (λ c. search needs)
+    (λ c. search needs)
     loop-holds
     add-unpack-pair
     mul-unpack-pair
     element-copy-out-unpack-pair
-    unpack-pair-requires
+    (λ c κs. search needs)
     add-t18
-    pack-requires
+    (λ c κs. search needs)
     add-entries
     mul-entries
     slice-write-entries

@@ -4,14 +4,8 @@ use borrow.Author.Tests.{not-true, not-false}
 use Rattle.queue.proofs.activation.has_room.Statement.{statement}
 use Rattle.queue.proofs.activation.has_room.Tie as tie
 
-side-has-room-requires : tie.Need-side-has-room-requires
-side-has-room-requires c κs = search needs
-
 returns : tie.Need-returns
 returns c = rw (sym (c .before .side-has-room .ensures) ∙ not-true _ (c .if1 .taken))
-
-side-has-room-requires-2 : tie.Need-side-has-room-requires-2
-side-has-room-requires-2 c κs = search needs
 
 returns-2 : tie.Need-returns-2
 returns-2 c =
@@ -20,4 +14,4 @@ returns-2 c =
 
 pub has-room-spec : {M : Type 1} → statement M
 has-room-spec =
-    tie.close (tie.spec side-has-room-requires returns side-has-room-requires-2 returns-2)
+    tie.close (tie.spec (λ c κs. search needs) returns (λ c κs. search needs) returns-2)

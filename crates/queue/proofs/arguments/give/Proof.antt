@@ -15,43 +15,10 @@ place c =
     let a = m .before .before .args in
     c .oldest-without .ensures ∙ ap (λ (mark : Mark). firstPlace (lacks mark (a .port)) (entriesIn (a .held) (a .entries .now))) (m .mark-of .ensures)
 
-mark-of-requires : tie.Need-mark-of-requires
-mark-of-requires c κs = search needs
-
-oldest-without-requires : tie.Need-oldest-without-requires
-oldest-without-requires c κs = search needs
-
-same-length : tie.Need-same-length
-same-length c = search needs
-
 returns : tie.Need-returns
 returns c =
     let e = place (c .before) in
     record { answers = rw (← e, le-ltb _ _ (c .if1 .taken)); leaves = rw (← e, le-ltb _ _ (c .if1 .taken)) }
-
-mul-unpack : tie.Need-mul-unpack
-mul-unpack c = search needs
-
-slice-read-unpack : tie.Need-slice-read-unpack
-slice-read-unpack c = search needs
-
-unpack-requires : tie.Need-unpack-requires
-unpack-requires c κs = search needs
-
-with-argument-requires : tie.Need-with-argument-requires
-with-argument-requires c κs = search needs
-
-pack-requires : tie.Need-pack-requires
-pack-requires c κs = search needs
-
-mul-entries : tie.Need-mul-entries
-mul-entries c = search needs
-
-slice-write-entries : tie.Need-slice-write-entries
-slice-write-entries c = search needs
-
-same-length-2 : tie.Need-same-length-2
-same-length-2 c = search needs
 
 returns-2 : tie.Need-returns-2
 returns-2 c =
@@ -68,16 +35,16 @@ pub give-spec : {M : Type 1} → statement M
 give-spec =
     tie.close
     (tie.spec
-    mark-of-requires
-    oldest-without-requires
-    same-length
+    (λ c κs. search needs)
+    (λ c κs. search needs)
+    (λ c. search needs)
     returns
-    mul-unpack
-    slice-read-unpack
-    unpack-requires
-    with-argument-requires
-    pack-requires
-    mul-entries
-    slice-write-entries
-    same-length-2
+    (λ c. search needs)
+    (λ c. search needs)
+    (λ c κs. search needs)
+    (λ c κs. search needs)
+    (λ c κs. search needs)
+    (λ c. search needs)
+    (λ c. search needs)
+    (λ c. search needs)
     returns-2)

@@ -37,12 +37,6 @@ sure c = c .before
 port : (c : tie.Else2) → let p = sure (c .before) .before in anyOf (isStorePort (start p .args .port)) (groupsOf (queue p .frame .table)) ≡ true
 port c = sym (c .before .has-port .ensures) ∙ not-false _ (c .if2 .left)
 
-sound-in-requires : tie.Need-sound-in-requires
-sound-in-requires c κs = search needs
-
-same-length : tie.Need-same-length
-same-length c = search needs
-
 returns : tie.Need-returns
 returns c =
     let s = c .before in
@@ -51,9 +45,6 @@ returns c =
 
 has-port-requires : tie.Need-has-port-requires
 has-port-requires c κs = groups-few (queue (c .before) .frame .table) (table-right (queue (c .before)) (good c .right))
-
-same-length-2 : tie.Need-same-length-2
-same-length-2 c = search needs
 
 returns-2 : tie.Need-returns-2
 returns-2 c =
@@ -66,9 +57,6 @@ give-requires : tie.Need-give-requires
 give-requires c κs =
     let e = sure (c .before .before .before) in
     good e .stores-room
-
-same-length-3 : tie.Need-same-length-3
-same-length-3 c = search needs
 
 returns-3 : tie.Need-returns-3
 returns-3 c =
@@ -86,12 +74,12 @@ pub store-data-in-spec : {M : Type 1} → statement M
 store-data-in-spec =
     tie.close
     (tie.spec
-    sound-in-requires
-    same-length
+    (λ c κs. search needs)
+    (λ c. search needs)
     returns
     has-port-requires
-    same-length-2
+    (λ c. search needs)
     returns-2
     give-requires
-    same-length-3
+    (λ c. search needs)
     returns-3)

@@ -3,17 +3,11 @@ use borrow.Author.Needs.{needs}
 use Rattle.queue.proofs.entries.lacks.Statement.{statement}
 use Rattle.queue.proofs.entries.lacks.Tie as tie
 
-cast-if1 : tie.Need-cast-if1
-cast-if1 c = search needs
-
 returns : tie.Need-returns
 returns c = rw (ne-eqb _ _ (c .if1 .taken))
-
-has-requires : tie.Need-has-requires
-has-requires c κs = search needs
 
 returns-2 : tie.Need-returns-2
 returns-2 c = rw (eq-eqb _ _ (c .before .if1 .left), c .has .ensures)
 
 pub lacks-spec : {M : Type 1} → statement M
-lacks-spec = tie.close (tie.spec cast-if1 returns has-requires returns-2)
+lacks-spec = tie.close (tie.spec (λ c. search needs) returns (λ c κs. search needs) returns-2)

@@ -12,15 +12,6 @@ marks c =
     let e = c .before .before .before .args .entry in
     (rw (c .before .before .bit .ensures) (bit-small (e .addressed)), rw (c .before .bit2 .ensures) (bit-small (e .filled)), rw (c .bit3 .ensures) (bit-small (e .finished)))
 
-bit-requires : tie.Need-bit-requires
-bit-requires c κs = search needs
-
-bit-requires-2 : tie.Need-bit-requires-2
-bit-requires-2 c κs = search needs
-
-bit-requires-3 : tie.Need-bit-requires-3
-bit-requires-3 c κs = search needs
-
 mul-marks : tie.Need-mul-marks
 mul-marks c =
     let m = marks c in
@@ -46,41 +37,20 @@ add-marks-2 c =
     let m = marks c in
     omega arith
 
-cast-low : tie.Need-cast-low
-cast-low c = search needs
-
 add-low : tie.Need-add-low
 add-low c =
     let m = marks (c .before) in
     omega arith
-
-cast-low-2 : tie.Need-cast-low-2
-cast-low-2 c = search needs
-
-mul-low : tie.Need-mul-low
-mul-low c = search needs
 
 add-low-2 : tie.Need-add-low-2
 add-low-2 c =
     let m = marks (c .before .before) in
     omega arith
 
-cast-result : tie.Need-cast-result
-cast-result c = search needs
-
-mul-result : tie.Need-mul-result
-mul-result c = search needs
-
 add-result : tie.Need-add-result
 add-result c =
     let m = marks (c .before .before .before) in
     omega arith
-
-cast-result-2 : tie.Need-cast-result-2
-cast-result-2 c = search needs
-
-mul-result-2 : tie.Need-mul-result-2
-mul-result-2 c = search needs
 
 add-result-2 : tie.Need-add-result-2
 add-result-2 c =
@@ -97,23 +67,23 @@ pub pack-spec : {M : Type 1} → statement M
 pack-spec =
     tie.close
     (tie.spec
-    bit-requires
-    bit-requires-2
-    bit-requires-3
+    (λ c κs. search needs)
+    (λ c κs. search needs)
+    (λ c κs. search needs)
     mul-marks
     mul-marks-2
     add-marks
     mul-marks-3
     add-marks-2
-    cast-low
+    (λ c. search needs)
     add-low
-    cast-low-2
-    mul-low
+    (λ c. search needs)
+    (λ c. search needs)
     add-low-2
-    cast-result
-    mul-result
+    (λ c. search needs)
+    (λ c. search needs)
     add-result
-    cast-result-2
-    mul-result-2
+    (λ c. search needs)
+    (λ c. search needs)
     add-result-2
     returns)

@@ -3,17 +3,11 @@ use borrow.Author.Needs.{needs}
 use Rattle.queue.proofs.opening.group_fits.Statement.{statement}
 use Rattle.queue.proofs.opening.group_fits.Tie as tie
 
-cast-if1 : tie.Need-cast-if1
-cast-if1 c = search needs
-
 returns : tie.Need-returns
 returns c = rw (lt-leb _ _ (c .if1 .taken))
-
-cast-result : tie.Need-cast-result
-cast-result c = search needs
 
 returns-2 : tie.Need-returns-2
 returns-2 c = rw (le-leb _ _ (c .before .if1 .left))
 
 pub group-fits-spec : {M : Type 1} → statement M
-group-fits-spec = tie.close (tie.spec cast-if1 returns cast-result returns-2)
+group-fits-spec = tie.close (tie.spec (λ c. search needs) returns (λ c. search needs) returns-2)

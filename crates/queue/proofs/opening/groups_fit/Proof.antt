@@ -39,17 +39,8 @@ fits c =
     let a = turn g .before .before .args in
     fits-record (a .load-depth) (a .store-depth) (tableAt g .loads) (tableAt g .stores) (g .group-at .result) ∙ sym (c .group-fits .ensures)
 
-cast-count : tie.Need-cast-count Inv-loop μ-loop
-cast-count c = search needs
-
 loop-holds : tie.Need-loop-holds Inv-loop μ-loop
 loop-holds c = (search needs, all-none)
-
-group-at-requires : tie.Need-group-at-requires Inv-loop μ-loop
-group-at-requires c κs = search needs
-
-group-fits-requires : tie.Need-group-fits-requires Inv-loop μ-loop
-group-fits-requires c κs = search needs
 
 returns : tie.Need-returns Inv-loop μ-loop
 returns c =
@@ -80,10 +71,10 @@ groups-fit-spec =
     (tie.spec
     Inv-loop
     μ-loop
-    cast-count
+    (λ c. search needs)
     loop-holds
-    group-at-requires
-    group-fits-requires
+    (λ c κs. search needs)
+    (λ c κs. search needs)
     returns
     add-i
     loop-less

@@ -27,23 +27,11 @@ store-depth c = sym (c .before .depth-right2 .ensures) ∙ not-false _ (c .if3 .
 memory : (c : tie.Else4) → memoryRight (c .before .before .before .before .before .before .before .before .args .words) ≡ true
 memory c = sym (c .before .memory-right .ensures) ∙ not-false _ (c .if4 .left)
 
-table-fault-requires : tie.Need-table-fault-requires
-table-fault-requires c κs = search needs
-
-refused-requires : tie.Need-refused-requires
-refused-requires c κs = search needs
-
 returns : tie.Need-returns
 unfolding openQueue
 returns c =
     let t = c .before .before in
     rw (ne-eqb (tableFault (groupsOf (t .before .args .table))) 0 (λ z. c .before .if1 .taken (t .table-fault .ensures ∙ z)), ← t .table-fault .ensures) (c .refused .ensures)
-
-depth-right-requires : tie.Need-depth-right-requires
-depth-right-requires c κs = search needs
-
-refused-requires-2 : tie.Need-refused-requires-2
-refused-requires-2 c κs = search needs
 
 returns-2 : tie.Need-returns-2
 unfolding openQueue
@@ -51,23 +39,11 @@ returns-2 c =
     let p = c .before .before in
     rw (table-right (p .before), sym (p .depth-right .ensures) ∙ not-true _ (c .before .if2 .taken)) (c .refused2 .ensures)
 
-depth-right-requires-2 : tie.Need-depth-right-requires-2
-depth-right-requires-2 c κs = search needs
-
-refused-requires-3 : tie.Need-refused-requires-3
-refused-requires-3 c κs = search needs
-
 returns-3 : tie.Need-returns-3
 unfolding openQueue
 returns-3 c =
     let p = c .before .before in
     rw (table-right (p .before .before .before), load-depth (p .before), sym (p .depth-right2 .ensures) ∙ not-true _ (c .before .if3 .taken)) (c .refused3 .ensures)
-
-memory-right-requires : tie.Need-memory-right-requires
-memory-right-requires c κs = search needs
-
-refused-requires-4 : tie.Need-refused-requires-4
-refused-requires-4 c κs = search needs
 
 returns-4 : tie.Need-returns-4
 unfolding openQueue
@@ -78,9 +54,6 @@ returns-4 c =
 
 groups-fit-requires : tie.Need-groups-fit-requires
 groups-fit-requires c κs = groups-few _ (table-right (c .before .before .before .before .before .before))
-
-refused-requires-5 : tie.Need-refused-requires-5
-refused-requires-5 c κs = search needs
 
 returns-5 : tie.Need-returns-5
 unfolding openQueue
@@ -105,9 +78,6 @@ cast-fresh-frame-3 c =
     let m = c .before .before in
     omega (arith, within-most 1 4096 (m .before .before .before .before .before .before .before .before .args .words) (memory m))
 
-fresh-frame-requires : tie.Need-fresh-frame-requires
-fresh-frame-requires c κs = search needs
-
 returns-6 : tie.Need-returns-6
 unfolding openQueue contentsOf
 returns-6 c =
@@ -120,23 +90,23 @@ pub open-in-spec : {M : Type 1} → statement M
 open-in-spec =
     tie.close
     (tie.spec
-    table-fault-requires
-    refused-requires
+    (λ c κs. search needs)
+    (λ c κs. search needs)
     returns
-    depth-right-requires
-    refused-requires-2
+    (λ c κs. search needs)
+    (λ c κs. search needs)
     returns-2
-    depth-right-requires-2
-    refused-requires-3
+    (λ c κs. search needs)
+    (λ c κs. search needs)
     returns-3
-    memory-right-requires
-    refused-requires-4
+    (λ c κs. search needs)
+    (λ c κs. search needs)
     returns-4
     groups-fit-requires
-    refused-requires-5
+    (λ c κs. search needs)
     returns-5
     cast-fresh-frame
     cast-fresh-frame-2
     cast-fresh-frame-3
-    fresh-frame-requires
+    (λ c κs. search needs)
     returns-6)

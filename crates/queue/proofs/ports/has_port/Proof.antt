@@ -37,9 +37,6 @@ here c = groups-here (tableAt c) (c .before .before .before .pre) (c .before .be
 loop-holds : tie.Need-loop-holds Inv-loop μ-loop
 loop-holds c = (search needs, none-none)
 
-group-at-requires : tie.Need-group-at-requires Inv-loop μ-loop
-group-at-requires c κs = search needs
-
 group-names-requires : tie.Need-group-names-requires Inv-loop μ-loop
 group-names-requires c κs = group-inside _ _ (c .group-at .ensures)
 
@@ -71,7 +68,7 @@ has-port-spec =
     Inv-loop
     μ-loop
     loop-holds
-    group-at-requires
+    (λ c κs. search needs)
     group-names-requires
     returns
     add-i

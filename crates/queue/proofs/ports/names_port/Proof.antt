@@ -28,12 +28,6 @@ here u =
     let a = start (l .before) .args in
     rw (u .unpack-pair .ensures) (pairs-here (a .places .now) (a .pairs) (l .before .loop .i) (l .loop-test .taken))
 
-cast-first : tie.Need-cast-first Inv-loop μ-loop
-cast-first c = search needs
-
-cast-count : tie.Need-cast-count Inv-loop μ-loop
-cast-count c = search needs
-
 loop-holds : tie.Need-loop-holds Inv-loop μ-loop
 loop-holds c = (search needs, none-none)
 
@@ -45,12 +39,6 @@ mul-unpack-pair c = omega (arith, start (c .before) .pre)
 
 element-copy-out-unpack-pair : tie.Need-element-copy-out-unpack-pair Inv-loop μ-loop
 element-copy-out-unpack-pair c = omega (arith, start (c .before) .pre)
-
-unpack-pair-requires : tie.Need-unpack-pair-requires Inv-loop μ-loop
-unpack-pair-requires c κs = search needs
-
-cast-if1 : tie.Need-cast-if1 Inv-loop μ-loop
-cast-if1 c = search needs
 
 returns : tie.Need-returns Inv-loop μ-loop
 returns c =
@@ -82,14 +70,14 @@ names-port-spec =
     (tie.spec
     Inv-loop
     μ-loop
-    cast-first
-    cast-count
+    (λ c. search needs)
+    (λ c. search needs)
     loop-holds
     add-unpack-pair
     mul-unpack-pair
     element-copy-out-unpack-pair
-    unpack-pair-requires
-    cast-if1
+    (λ c κs. search needs)
+    (λ c. search needs)
     returns
     add-i
     loop-less

@@ -6,12 +6,6 @@ use Rattle.queue.proofs.ready.hand_out.Tie as tie
 returns : tie.Need-returns
 returns c = record { gives = rw (lt-leb _ _ (c .if1 .taken)); leaves = rw (lt-leb _ _ (c .if1 .taken)) }
 
-put-serials-requires : tie.Need-put-serials-requires
-put-serials-requires c κs = search needs
-
-same-length : tie.Need-same-length
-same-length c = search needs
-
 returns-2 : tie.Need-returns-2
 returns-2 c =
     let p = c .before .before in
@@ -19,4 +13,4 @@ returns-2 c =
     record { gives = rw (le-leb _ _ (e .if1 .left)); leaves = rw (le-leb _ _ (e .if1 .left)) (p .put-serials .ensures) }
 
 pub hand-out-spec : {M : Type 1} → statement M
-hand-out-spec = tie.close (tie.spec returns put-serials-requires same-length returns-2)
+hand-out-spec = tie.close (tie.spec returns (λ c κs. search needs) (λ c. search needs) returns-2)

@@ -16,29 +16,8 @@ supplied c =
     let s = e1 .before .before in
     rw (e1 .if1 .left, not-false (s .args .load .addressed) (e2 .if2 .left)) (ap supplyReady (sym (c .supply-for .ensures)))
 
-returns : tie.Need-returns
-returns c = search needs
-
 returns-2 : tie.Need-returns-2
 returns-2 c = rw (c .before .before .if1 .left, not-true (c .before .before .before .before .args .load .addressed) (c .if2 .taken))
-
-cast-supply-for : tie.Need-cast-supply-for
-cast-supply-for c = search needs
-
-supply-for-requires : tie.Need-supply-for-requires
-supply-for-requires c κs = search needs
-
-enum-told : tie.Need-enum-told
-enum-told c = search needs
-
-enum-told-2 : tie.Need-enum-told-2
-enum-told-2 c = search needs
-
-enum-told-3 : tie.Need-enum-told-3
-enum-told-3 c = search needs
-
-enum-told-4 : tie.Need-enum-told-4
-enum-told-4 c = search needs
 
 returns-3 : tie.Need-returns-3
 returns-3 c = sym (supplied (c .before .before) ∙ ap supplyReady (c .enum-told .given .1))
@@ -56,14 +35,14 @@ pub load-ready-spec : {M : Type 1} → statement M
 load-ready-spec =
     tie.close
     (tie.spec
-    returns
+    (λ c. search needs)
     returns-2
-    cast-supply-for
-    supply-for-requires
-    enum-told
-    enum-told-2
-    enum-told-3
-    enum-told-4
+    (λ c. search needs)
+    (λ c κs. search needs)
+    (λ c. search needs)
+    (λ c. search needs)
+    (λ c. search needs)
+    (λ c. search needs)
     returns-3
     returns-4
     returns-5

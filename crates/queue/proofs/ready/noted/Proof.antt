@@ -14,15 +14,6 @@ use Rattle.queue.proofs.ready.noted.Tie as tie
 returns : tie.Need-returns
 returns c = record { few = omega arith; long = refl; are = rw (not-true (c .before .args .ready) (c .if1 .taken)) (sym (append-nil (listed (c .before .args .t1)))) }
 
-mul-serials : tie.Need-mul-serials
-mul-serials c = search needs
-
-element-write-serials : tie.Need-element-write-serials
-element-write-serials c = search needs
-
-add-serials : tie.Need-add-serials
-add-serials c = search needs
-
 returns-2 : tie.Need-returns-2
 returns-2 c =
     let s = c .before in
@@ -34,4 +25,4 @@ returns-2 c =
     }
 
 pub noted-spec : {M : Type 1} → statement M
-noted-spec = tie.close (tie.spec returns mul-serials element-write-serials add-serials returns-2)
+noted-spec = tie.close (tie.spec returns (λ c. search needs) (λ c. search needs) (λ c. search needs) returns-2)

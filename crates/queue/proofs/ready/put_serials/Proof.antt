@@ -23,23 +23,8 @@ same c = copied-length (c .loop .inv .1) (omega (arith, numbers-long (c .before)
 loop-holds : tie.Need-loop-holds Inv-loop μ-loop
 loop-holds c = (search needs, copied-none)
 
-mul-serial : tie.Need-mul-serial Inv-loop μ-loop
-mul-serial c = omega arith
-
-element-copy-out-serial : tie.Need-element-copy-out-serial Inv-loop μ-loop
-element-copy-out-serial c = omega arith
-
-mul-out : tie.Need-mul-out Inv-loop μ-loop
-mul-out c = omega arith
-
 slice-write-out : tie.Need-slice-write-out Inv-loop μ-loop
 slice-write-out c = omega (arith, same (c .before .before), c .before .before .before .pre .1)
-
-add-i : tie.Need-add-i Inv-loop μ-loop
-add-i c = omega arith
-
-loop-less : tie.Need-loop-less Inv-loop μ-loop
-loop-less c = omega arith
 
 loop-again : tie.Need-loop-again Inv-loop μ-loop
 loop-again c =
@@ -59,12 +44,12 @@ put-serials-spec =
     Inv-loop
     μ-loop
     loop-holds
-    mul-serial
-    element-copy-out-serial
-    mul-out
+    (λ c. omega arith)
+    (λ c. omega arith)
+    (λ c. omega arith)
     slice-write-out
-    add-i
-    loop-less
+    (λ c. omega arith)
+    (λ c. omega arith)
     loop-again
     same-length
     returns)

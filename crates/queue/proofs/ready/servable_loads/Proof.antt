@@ -46,26 +46,14 @@ agrees : (s : tie.Start Inv-loop μ-loop) (t : Table) (right : sound (contentsOf
     → wouldServe (contentsOf (queueWith t s)) (after (oldest (s .args .outline .loads .next) (s .args .outline .loads .count)) j) ≡ loadReadyAt (s .args .load-entries .now) (s .args .store-entries .now) j
 agrees s t right j k = would-serve-at (queueWith t s) right j k (omega (arith, loads-few (queueWith t s) right)) (before-few s j k)
 
-cast-count : tie.Need-cast-count Inv-loop μ-loop
-cast-count c = omega arith
-
-oldest-serial-requires : tie.Need-oldest-serial-requires Inv-loop μ-loop
-oldest-serial-requires c κs = search needs
-
 loop-holds : tie.Need-loop-holds Inv-loop μ-loop
 loop-holds c =
     let s = start c in
     let low : c .oldest-serial .result < 2 ^ 32 = subst (λ (x : ℕ). x < 2 ^ 32) (sym (c .oldest-serial .ensures)) (oldest-small (s .args .outline .loads .next) (s .args .outline .loads .count)) in
     (search needs, gathering-none _ refl low)
 
-mul-unpack : tie.Need-mul-unpack Inv-loop μ-loop
-mul-unpack c = omega arith
-
 shared-slice-read-unpack : tie.Need-shared-slice-read-unpack Inv-loop μ-loop
 shared-slice-read-unpack c = let s = start (c .before .before .before) in omega (arith, c .before .loop-test .taken, loads-few (whole s) (s .pre .right), s .pre .loads-whole)
-
-unpack-requires : tie.Need-unpack-requires Inv-loop μ-loop
-unpack-requires c κs = search needs
 
 load-ready-requires : tie.Need-load-ready-requires Inv-loop μ-loop
 load-ready-requires c κs =
@@ -78,15 +66,6 @@ noted-requires c κs =
     let l = c .before .before .before in
     let s = start (l .before .before) in
     omega (arith, l .before .loop .inv .1 .few, l .loop-test .taken, loads-few (whole s) (s .pre .right))
-
-wrapping-add-u32-requires : tie.Need-wrapping-add-u32-requires Inv-loop μ-loop
-wrapping-add-u32-requires c κs = search needs
-
-add-i : tie.Need-add-i Inv-loop μ-loop
-add-i c = omega arith
-
-loop-less : tie.Need-loop-less Inv-loop μ-loop
-loop-less c = omega arith
 
 loop-again : tie.Need-loop-again Inv-loop μ-loop
 loop-again c =
@@ -113,16 +92,16 @@ servable-loads-spec =
     (tie.spec
     Inv-loop
     μ-loop
-    cast-count
-    oldest-serial-requires
+    (λ c. omega arith)
+    (λ c κs. search needs)
     loop-holds
-    mul-unpack
+    (λ c. omega arith)
     shared-slice-read-unpack
-    unpack-requires
+    (λ c κs. search needs)
     load-ready-requires
     noted-requires
-    wrapping-add-u32-requires
-    add-i
-    loop-less
+    (λ c κs. search needs)
+    (λ c. omega arith)
+    (λ c. omega arith)
     loop-again
     returns)

@@ -46,12 +46,6 @@ agrees : (s : tie.Start Inv-loop μ-loop) (t : Table) (right : sound (contentsOf
     → wouldWrite (contentsOf (queueWith t s)) (after (oldest (s .args .outline .stores .next) (s .args .outline .stores .count)) j) ≡ storeReadyAt (s .args .load-entries .now) (s .args .store-entries .now) j
 agrees s t right j k = would-write-at (queueWith t s) right j k (omega (arith, stores-few (queueWith t s) right)) (before-few s j k)
 
-cast-count : tie.Need-cast-count Inv-loop μ-loop
-cast-count c = omega arith
-
-oldest-serial-requires : tie.Need-oldest-serial-requires Inv-loop μ-loop
-oldest-serial-requires c κs = search needs
-
 loop-holds : tie.Need-loop-holds Inv-loop μ-loop
 loop-holds c =
     let s = start c in
@@ -68,15 +62,6 @@ noted-requires c κs =
     let l = c .before in
     let s = start (l .before .before) in
     omega (arith, l .before .loop .inv .1 .few, l .loop-test .taken, stores-few (whole s) (s .pre .right))
-
-wrapping-add-u32-requires : tie.Need-wrapping-add-u32-requires Inv-loop μ-loop
-wrapping-add-u32-requires c κs = search needs
-
-add-i : tie.Need-add-i Inv-loop μ-loop
-add-i c = omega arith
-
-loop-less : tie.Need-loop-less Inv-loop μ-loop
-loop-less c = omega arith
 
 loop-again : tie.Need-loop-again Inv-loop μ-loop
 loop-again c =
@@ -98,13 +83,13 @@ writable-stores-spec =
     (tie.spec
     Inv-loop
     μ-loop
-    cast-count
-    oldest-serial-requires
+    (λ c. omega arith)
+    (λ c κs. search needs)
     loop-holds
     write-fault-requires
     noted-requires
-    wrapping-add-u32-requires
-    add-i
-    loop-less
+    (λ c κs. search needs)
+    (λ c. omega arith)
+    (λ c. omega arith)
     loop-again
     returns)

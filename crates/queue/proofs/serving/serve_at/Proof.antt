@@ -61,37 +61,19 @@ supplied c t =
     serve-supplied (queueWith t s) (s .args .memory .now) (s .args .place) (held u .if1 .left) (u .unpack .result) (sym (u .unpack .ensures)) (e2 .if2 .left) (not-false (u .unpack .result .addressed) (e3 .if3 .left)) (before-few u)
     ∙ ap (bySupply (contentsOf (queueWith t s)) (s .args .memory .now) (s .args .place) (u .unpack .result .address)) (sym (c .supply-for .ensures))
 
-cast-if1 : tie.Need-cast-if1
-cast-if1 c = search needs
-
-unserved-requires : tie.Need-unserved-requires
-unserved-requires c κs = search needs
-
 returns : tie.Need-returns
 returns c t =
     let s = c .before .before .before .before .before .before .before in
     rw (serve-none (queueWith t s) (s .args .memory .now) (s .args .place) (c .before .if1 .taken)) (ap (λ (r : Service). handedCounts (countedOf r (queueWith t s))) (c .unserved .ensures))
 
-mul-unpack : tie.Need-mul-unpack
-mul-unpack c = search needs
-
 slice-read-unpack : tie.Need-slice-read-unpack
 slice-read-unpack c = le-trans (c .before .if1 .left) (room (start (c .before)))
-
-unpack-requires : tie.Need-unpack-requires
-unpack-requires c κs = search needs
-
-unserved-requires-2 : tie.Need-unserved-requires-2
-unserved-requires-2 c κs = search needs
 
 returns-2 : tie.Need-returns-2
 returns-2 c t =
     let u = c .before .before in
     let s = start (held u) in
     rw (serve-done (queueWith t s) (s .args .memory .now) (s .args .place) (held u .if1 .left) (u .unpack .result) (sym (u .unpack .ensures)) (c .before .if2 .taken)) (ap (λ (r : Service). handedCounts (countedOf r (queueWith t s))) (c .unserved2 .ensures))
-
-unserved-requires-3 : tie.Need-unserved-requires-3
-unserved-requires-3 c κs = search needs
 
 returns-3 : tie.Need-returns-3
 returns-3 c t =
@@ -100,29 +82,11 @@ returns-3 c t =
     let s = start (held u) in
     rw (serve-no-address (queueWith t s) (s .args .memory .now) (s .args .place) (held u .if1 .left) (u .unpack .result) (sym (u .unpack .ensures)) (e2 .if2 .left) (not-true (u .unpack .result .addressed) (c .before .if3 .taken))) (ap (λ (r : Service). handedCounts (countedOf r (queueWith t s))) (c .unserved3 .ensures))
 
-cast-supply-for : tie.Need-cast-supply-for
-cast-supply-for c = search needs
-
 supply-for-requires : tie.Need-supply-for-requires
 supply-for-requires c κs =
     let u = c .before .before .before .before in
     let s = start (held u) in
     le-trans (before-few u) (omega (arith, stores-few (queueIn s) (s .pre .0 .right), s .pre .0 .stores-whole))
-
-enum-told : tie.Need-enum-told
-enum-told c = search needs
-
-unserved-requires-4 : tie.Need-unserved-requires-4
-unserved-requires-4 c κs = search needs
-
-enum-told-2 : tie.Need-enum-told-2
-enum-told-2 c = search needs
-
-cast-served : tie.Need-cast-served
-cast-served c = search needs
-
-mul-served : tie.Need-mul-served
-mul-served c = search needs
 
 shared-slice-read-served : tie.Need-shared-slice-read-served
 shared-slice-read-served c =
@@ -134,15 +98,6 @@ served-requires : tie.Need-served-requires
 served-requires c κs =
     let u = c .before .before .before .before .before .before .before .before .before .before in
     le-trans (held u .if1 .left) (room (start (held u)))
-
-enum-told-3 : tie.Need-enum-told-3
-enum-told-3 c = search needs
-
-unserved-requires-5 : tie.Need-unserved-requires-5
-unserved-requires-5 c κs = search needs
-
-enum-known-word : tie.Need-enum-known-word
-enum-known-word c = search needs
 
 served-requires-2 : tie.Need-served-requires-2
 served-requires-2 c κs =
@@ -179,42 +134,36 @@ returns-7 c t =
     rw (supplied m t, g .before .before .before .word .given .1)
     (served-well (queueWith t s) (s .args .counts) (s .args .place) _ _ (s .pre .0 .loads-whole) (few s) (held u .if1 .left) (g .served2 .ensures .0) (g .served2 .ensures .1))
 
-same-length : tie.Need-same-length
-same-length c = search needs
-
-same-length-2 : tie.Need-same-length-2
-same-length-2 c = search needs
-
 pub serve-at-spec : {M : Type 1} → statement M
 serve-at-spec =
     tie.close
     (tie.spec
-    cast-if1
-    unserved-requires
+    (λ c. search needs)
+    (λ c κs. search needs)
     returns
-    mul-unpack
+    (λ c. search needs)
     slice-read-unpack
-    unpack-requires
-    unserved-requires-2
+    (λ c κs. search needs)
+    (λ c κs. search needs)
     returns-2
-    unserved-requires-3
+    (λ c κs. search needs)
     returns-3
-    cast-supply-for
+    (λ c. search needs)
     supply-for-requires
-    enum-told
-    unserved-requires-4
-    enum-told-2
-    cast-served
-    mul-served
+    (λ c. search needs)
+    (λ c κs. search needs)
+    (λ c. search needs)
+    (λ c. search needs)
+    (λ c. search needs)
     shared-slice-read-served
     served-requires
-    enum-told-3
-    unserved-requires-5
-    enum-known-word
+    (λ c. search needs)
+    (λ c κs. search needs)
+    (λ c. search needs)
     served-requires-2
     returns-4
-    same-length
+    (λ c. search needs)
     returns-5
     returns-6
-    same-length-2
+    (λ c. search needs)
     returns-7)

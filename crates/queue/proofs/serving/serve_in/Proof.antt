@@ -29,12 +29,6 @@ queue c = queueIn (start c)
 good : (c : tie.Else1) → Fit (queue (c .before))
 good c = fit (queue (c .before)) (c .before .sound-in .ensures) (c .if1 .left)
 
-sound-in-requires : tie.Need-sound-in-requires
-sound-in-requires c κs = search needs
-
-unserved-requires : tie.Need-unserved-requires
-unserved-requires c κs = search needs
-
 returns : tie.Need-returns
 returns c =
     let p = c .before .before in
@@ -42,20 +36,11 @@ returns c =
     let q = queueIn s in
     rw (unfit q (serve (contentsOf q) (s .args .memory .now) (s .args .serial)) (c .before .before .sound-in .ensures) (c .before .if1 .taken) (serve-unsound q (s .args .memory .now) (s .args .serial))) (ap (λ (r : Service). handedCounts (countedOf r (queueIn s))) (c .unserved .ensures))
 
-cast-if2 : tie.Need-cast-if2
-cast-if2 c = search needs
-
-unserved-requires-2 : tie.Need-unserved-requires-2
-unserved-requires-2 c κs = search needs
-
 returns-2 : tie.Need-returns-2
 returns-2 c =
     let e = c .before .before .before in
     let s = start (e .before) in
     rw (good e .full, serve-memory (queueIn s) (s .args .memory .now) (s .args .serial) (good e .right) (c .before .if2 .taken)) (ap (λ (r : Service). handedCounts (countedOf r (queueIn s))) (c .unserved2 .ensures))
-
-place-of-requires : tie.Need-place-of-requires
-place-of-requires c κs = search needs
 
 serve-at-requires : tie.Need-serve-at-requires
 serve-at-requires c κs =
@@ -72,28 +57,19 @@ returns-3 c =
     let s = start (e .before) in
     rw (good e .full, serve-place (queueIn s) (s .args .memory .now) (s .args .serial) (good e .right) (e2 .if2 .left), ← p .place-of .ensures) (g .serve-at .ensures (frame s .table))
 
-same-length : tie.Need-same-length
-same-length c = search needs
-
-same-length-2 : tie.Need-same-length-2
-same-length-2 c = search needs
-
-same-length-3 : tie.Need-same-length-3
-same-length-3 c = search needs
-
 pub serve-in-spec : {M : Type 1} → statement M
 serve-in-spec =
     tie.close
     (tie.spec
-    sound-in-requires
-    unserved-requires
-    same-length
+    (λ c κs. search needs)
+    (λ c κs. search needs)
+    (λ c. search needs)
     returns
-    cast-if2
-    unserved-requires-2
-    same-length-2
+    (λ c. search needs)
+    (λ c κs. search needs)
+    (λ c. search needs)
     returns-2
-    place-of-requires
+    (λ c κs. search needs)
     serve-at-requires
-    same-length-3
+    (λ c. search needs)
     returns-3)

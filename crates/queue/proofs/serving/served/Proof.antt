@@ -13,30 +13,6 @@ use Rattle.queue.specs.InternalArguments.{withArgument}
 use Rattle.queue.proofs.serving.served.Statement.{statement}
 use Rattle.queue.proofs.serving.served.Tie as tie
 
-mul-unpack : tie.Need-mul-unpack
-mul-unpack c = search needs
-
-slice-read-unpack : tie.Need-slice-read-unpack
-slice-read-unpack c = search needs
-
-unpack-requires : tie.Need-unpack-requires
-unpack-requires c κs = search needs
-
-with-argument-requires : tie.Need-with-argument-requires
-with-argument-requires c κs = search needs
-
-pack-requires : tie.Need-pack-requires
-pack-requires c κs = search needs
-
-mul-load-entries : tie.Need-mul-load-entries
-mul-load-entries c = search needs
-
-slice-write-load-entries : tie.Need-slice-write-load-entries
-slice-write-load-entries c = search needs
-
-counted-requires : tie.Need-counted-requires
-counted-requires c κs = search needs
-
 -- the entry that is put in place is the one with its value
 packed : (c : tie.After-pack) → let s = c .before .before .before .before .before in
     entryOf (c .pack .result) ≡ withArgument (Argument.Word (s .args .word)) (entryOf (getD (s .args .load-entries .now) (s .args .at) 0))
@@ -56,20 +32,17 @@ returns c =
       record { number = p .pack .result; holds = ap loadOf (packed p); leaves = refl },
     )
 
-same-length : tie.Need-same-length
-same-length c = search needs
-
 pub served-spec : {M : Type 1} → statement M
 served-spec =
     tie.close
     (tie.spec
-    mul-unpack
-    slice-read-unpack
-    unpack-requires
-    with-argument-requires
-    pack-requires
-    mul-load-entries
-    slice-write-load-entries
-    counted-requires
-    same-length
+    (λ c. search needs)
+    (λ c. search needs)
+    (λ c κs. search needs)
+    (λ c κs. search needs)
+    (λ c κs. search needs)
+    (λ c. search needs)
+    (λ c. search needs)
+    (λ c κs. search needs)
+    (λ c. search needs)
     returns)

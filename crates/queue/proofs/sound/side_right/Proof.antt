@@ -4,12 +4,6 @@ use borrow.Author.Needs.{needs}
 use Rattle.queue.proofs.sound.side_right.Statement.{statement}
 use Rattle.queue.proofs.sound.side_right.Tie as tie
 
-cast-depth-right : tie.Need-cast-depth-right
-cast-depth-right c = search needs
-
-depth-right-requires : tie.Need-depth-right-requires
-depth-right-requires c κs = search needs
-
 returns : tie.Need-returns
 returns c = rw (sym (c .before .depth-right .ensures) ∙ not-true _ (c .if1 .taken))
 
@@ -17,4 +11,4 @@ returns-2 : tie.Need-returns-2
 returns-2 c = rw (sym (c .before .before .depth-right .ensures) ∙ not-false _ (c .before .if1 .left))
 
 pub side-right-spec : {M : Type 1} → statement M
-side-right-spec = tie.close (tie.spec cast-depth-right depth-right-requires returns returns-2)
+side-right-spec = tie.close (tie.spec (λ c. search needs) (λ c κs. search needs) returns returns-2)

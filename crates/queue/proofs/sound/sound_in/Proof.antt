@@ -70,25 +70,13 @@ returns c = let a = c .before .before .before .args in rw (loads-not-whole (a .l
 returns-2 : tie.Need-returns-2
 returns-2 c = let a = c .before .before .before .before .args in rw (stores-not-whole (a .load-entries .now) (a .store-entries .now) (c .before .if1 .left) (c .if2 .taken))
 
-side-right-requires : tie.Need-side-right-requires
-side-right-requires c κs = search needs
-
 returns-3 : tie.Need-returns-3
 returns-3 c = rw (full (c .before .before .before .before), sound-sides (queue (c .before)), sym (c .before .side-right .ensures) ∙ not-true _ (c .if3 .taken))
-
-side-right-requires-2 : tie.Need-side-right-requires-2
-side-right-requires-2 c κs = search needs
 
 returns-4 : tie.Need-returns-4
 returns-4 c =
     let p = c .before .before in
     rw (full (p .before .before .before .before), sound-sides (at1 p), load-side p, sym (c .before .side-right2 .ensures) ∙ not-true _ (c .if4 .taken))
-
-cast-memory-right : tie.Need-cast-memory-right
-cast-memory-right c = search needs
-
-memory-right-requires : tie.Need-memory-right-requires
-memory-right-requires c κs = search needs
 
 returns-5 : tie.Need-returns-5
 returns-5 c =
@@ -118,9 +106,6 @@ returns-7 c =
     let o = p .before .before .before in
     rw (full (o .before .before .before .before .before .before), sound-sides (at4 r), load-side (o .before .before), store-side o, memory p, loads r, sym (c .before .entries-right2 .ensures) ∙ not-true _ (c .if7 .taken))
 
-fault-in-requires : tie.Need-fault-in-requires
-fault-in-requires c κs = search needs
-
 returns-8 : tie.Need-returns-8
 returns-8 c =
     let z = c .before in
@@ -135,16 +120,16 @@ sound-in-spec =
     (tie.spec
     returns
     returns-2
-    side-right-requires
+    (λ c κs. search needs)
     returns-3
-    side-right-requires-2
+    (λ c κs. search needs)
     returns-4
-    cast-memory-right
-    memory-right-requires
+    (λ c. search needs)
+    (λ c κs. search needs)
     returns-5
     entries-right-requires
     returns-6
     entries-right-requires-2
     returns-7
-    fault-in-requires
+    (λ c κs. search needs)
     returns-8)

@@ -70,18 +70,6 @@ taken c =
     ap loadIn (c .pack .ensures)
     ∙ rw (u .unpack .ensures, done-number (getD l (o .oldest-without .result) 0))
 
-sound-in-requires : tie.Need-sound-in-requires
-sound-in-requires c κs = search needs
-
-refused-requires : tie.Need-refused-requires
-refused-requires c κs = search needs
-
-same-length : tie.Need-same-length
-same-length c = search needs
-
-same-length-2 : tie.Need-same-length-2
-same-length-2 c = search needs
-
 returns : tie.Need-returns
 returns c =
     let s = c .before .before in
@@ -90,15 +78,6 @@ returns c =
 
 has-port-requires : tie.Need-has-port-requires
 has-port-requires c κs = groups-few (queue (c .before) .frame .table) (table-right (queue (c .before)) (good c .right))
-
-refused-requires-2 : tie.Need-refused-requires-2
-refused-requires-2 c κs = search needs
-
-same-length-3 : tie.Need-same-length-3
-same-length-3 c = search needs
-
-same-length-4 : tie.Need-same-length-4
-same-length-4 c = search needs
 
 returns-2 : tie.Need-returns-2
 returns-2 c =
@@ -112,18 +91,6 @@ oldest-without-requires c κs =
     let e = sure (c .before .before .before) in
     good e .loads-room
 
-cast-if3 : tie.Need-cast-if3
-cast-if3 c = search needs
-
-refused-requires-3 : tie.Need-refused-requires-3
-refused-requires-3 c κs = search needs
-
-same-length-5 : tie.Need-same-length-5
-same-length-5 c = search needs
-
-same-length-6 : tie.Need-same-length-6
-same-length-6 c = search needs
-
 returns-3 : tie.Need-returns-3
 returns-3 c =
     let o = c .before .before .before in
@@ -132,23 +99,8 @@ returns-3 c =
     let s = e .before in
     rw (good e .full, take-none (queue s) (start s .args .port) (good e .right) (port p) (o .oldest-without .result) (place o) (c .before .if3 .taken), c .refused3 .ensures)
 
-mul-unpack : tie.Need-mul-unpack
-mul-unpack c = search needs
-
 slice-read-unpack : tie.Need-slice-read-unpack
 slice-read-unpack c = inside (c .before)
-
-unpack-requires : tie.Need-unpack-requires
-unpack-requires c κs = search needs
-
-refused-requires-4 : tie.Need-refused-requires-4
-refused-requires-4 c κs = search needs
-
-same-length-7 : tie.Need-same-length-7
-same-length-7 c = search needs
-
-same-length-8 : tie.Need-same-length-8
-same-length-8 c = search needs
 
 returns-4 : tie.Need-returns-4
 returns-4 c =
@@ -159,12 +111,6 @@ returns-4 c =
     let e = sure (p .before) in
     let s = e .before in
     rw (good e .full, take-unserved (queue s) (start s .args .port) (good e .right) (port p) (o .oldest-without .result) (place o) (i .if3 .left) (u .unpack .result) (sym (u .unpack .ensures)) (not-true (u .unpack .result .filled) (c .before .if4 .taken)), c .refused4 .ensures)
-
-pack-requires : tie.Need-pack-requires
-pack-requires c κs = search needs
-
-mul-load-entries : tie.Need-mul-load-entries
-mul-load-entries c = search needs
 
 slice-write-load-entries : tie.Need-slice-write-load-entries
 slice-write-load-entries c = inside (c .before .before .before .before .before)
@@ -183,9 +129,6 @@ same-length-9 c =
     let w = t .before .before .before in
     let o = w .before .before .before .before .before .before .before in
     c .before .before .before .before .before .before .load-entries .given ∙ length-set (queue (sure (known o .before) .before) .«load_entries») (o .oldest-without .result) (w .pack .result)
-
-same-length-10 : tie.Need-same-length-10
-same-length-10 c = search needs
 
 returns-5 : tie.Need-returns-5
 returns-5 c =
@@ -209,33 +152,33 @@ pub take-in-spec : {M : Type 1} → statement M
 take-in-spec =
     tie.close
     (tie.spec
-    sound-in-requires
-    refused-requires
-    same-length
-    same-length-2
+    (λ c κs. search needs)
+    (λ c κs. search needs)
+    (λ c. search needs)
+    (λ c. search needs)
     returns
     has-port-requires
-    refused-requires-2
-    same-length-3
-    same-length-4
+    (λ c κs. search needs)
+    (λ c. search needs)
+    (λ c. search needs)
     returns-2
     oldest-without-requires
-    cast-if3
-    refused-requires-3
-    same-length-5
-    same-length-6
+    (λ c. search needs)
+    (λ c κs. search needs)
+    (λ c. search needs)
+    (λ c. search needs)
     returns-3
-    mul-unpack
+    (λ c. search needs)
     slice-read-unpack
-    unpack-requires
-    refused-requires-4
-    same-length-7
-    same-length-8
+    (λ c κs. search needs)
+    (λ c κs. search needs)
+    (λ c. search needs)
+    (λ c. search needs)
     returns-4
-    pack-requires
-    mul-load-entries
+    (λ c κs. search needs)
+    (λ c. search needs)
     slice-write-load-entries
     settle-requires (λ c κs. search needs)
     same-length-9
-    same-length-10
+    (λ c. search needs)
     returns-5)

@@ -34,28 +34,10 @@ found c =
 loop-holds : tie.Need-loop-holds Inv-loop μ-loop
 loop-holds c = (search needs, all-none)
 
-mul-unpack : tie.Need-mul-unpack Inv-loop μ-loop
-mul-unpack c = omega arith
-
-shared-slice-read-unpack : tie.Need-shared-slice-read-unpack Inv-loop μ-loop
-shared-slice-read-unpack c = omega arith
-
-unpack-requires : tie.Need-unpack-requires Inv-loop μ-loop
-unpack-requires c κs = search needs
-
-gives-way-requires : tie.Need-gives-way-requires Inv-loop μ-loop
-gives-way-requires c κs = search needs
-
 returns : tie.Need-returns Inv-loop μ-loop
 returns c =
     let l = c .before .before .before .before in
     all-stop (l .before .loop .inv .1) (here l) (found (c .before) ∙ not-true _ (c .if1 .taken))
-
-add-i : tie.Need-add-i Inv-loop μ-loop
-add-i c = omega arith
-
-loop-less : tie.Need-loop-less Inv-loop μ-loop
-loop-less c = omega arith
 
 loop-again : tie.Need-loop-again Inv-loop μ-loop
 loop-again c =
@@ -72,12 +54,12 @@ all-give-way-spec =
     Inv-loop
     μ-loop
     loop-holds
-    mul-unpack
-    shared-slice-read-unpack
-    unpack-requires
-    gives-way-requires
+    (λ c. omega arith)
+    (λ c. omega arith)
+    (λ c κs. search needs)
+    (λ c κs. search needs)
     returns
-    add-i
-    loop-less
+    (λ c. omega arith)
+    (λ c. omega arith)
     loop-again
     returns-2)

@@ -4,9 +4,6 @@ use borrow.Author.Tests.{not-true, not-false}
 use Rattle.queue.proofs.writing.gives_way.Statement.{statement}
 use Rattle.queue.proofs.writing.gives_way.Tie as tie
 
-has-requires : tie.Need-has-requires
-has-requires c κs = search needs
-
 returns : tie.Need-returns
 returns c = rw (sym (c .before .has .ensures) ∙ c .if1 .taken)
 
@@ -21,4 +18,4 @@ returns-3 c =
     rw (sym (e .before .has .ensures) ∙ e .if1 .left, not-false (e .before .before .args .entry .addressed) (c .before .if2 .left))
 
 pub gives-way-spec : {M : Type 1} → statement M
-gives-way-spec = tie.close (tie.spec has-requires returns returns-2 returns-3)
+gives-way-spec = tie.close (tie.spec (λ c κs. search needs) returns returns-2 returns-3)

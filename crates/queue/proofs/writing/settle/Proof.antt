@@ -21,12 +21,6 @@ stores-most f =
     let s = start (f .before .before) in
     omega (arith, f .finished2 .ensures, side-leaving finished entryOf 0 (s .args .outline .stores .count) (s .args .store-entries .now))
 
-finished-requires : tie.Need-finished-requires
-finished-requires c κs = search needs
-
-finished-requires-2 : tie.Need-finished-requires-2
-finished-requires-2 c κs = search needs
-
 shorter-requires : tie.Need-shorter-requires
 shorter-requires c κs = loads-most (c .before .before)
 
@@ -43,12 +37,6 @@ shift-requires-2 c κs =
     let f = c .before .before .before .before .before .before .before in
     rw (c .before .before .before .before .before .shorter2 .ensures) (omega (arith, stores-most f, start (f .before .before) .pre .1))
 
-same-length : tie.Need-same-length
-same-length c = search needs
-
-same-length-2 : tie.Need-same-length-2
-same-length-2 c = search needs
-
 returns : tie.Need-returns
 returns c t =
     let d = c .before .before in
@@ -64,12 +52,12 @@ pub settle-spec : {M : Type 1} → statement M
 settle-spec =
     tie.close
     (tie.spec
-    finished-requires
-    finished-requires-2
+    (λ c κs. search needs)
+    (λ c κs. search needs)
     shorter-requires
     shorter-requires-2
     shift-requires
     shift-requires-2
-    same-length
-    same-length-2
+    (λ c. search needs)
+    (λ c. search needs)
     returns)

@@ -29,36 +29,6 @@ put c = c .pack .ensures ∙ rw (c .before .less .ensures, c .before .before .un
 loop-holds : tie.Need-loop-holds Inv-loop μ-loop
 loop-holds c = (search needs, moved-none, refl)
 
-add-unpack : tie.Need-add-unpack Inv-loop μ-loop
-add-unpack c = omega arith
-
-mul-unpack : tie.Need-mul-unpack Inv-loop μ-loop
-mul-unpack c = omega arith
-
-slice-read-unpack : tie.Need-slice-read-unpack Inv-loop μ-loop
-slice-read-unpack c = omega arith
-
-unpack-requires : tie.Need-unpack-requires Inv-loop μ-loop
-unpack-requires c κs = search needs
-
-less-requires : tie.Need-less-requires Inv-loop μ-loop
-less-requires c κs = search needs
-
-pack-requires : tie.Need-pack-requires Inv-loop μ-loop
-pack-requires c κs = search needs
-
-mul-entries : tie.Need-mul-entries Inv-loop μ-loop
-mul-entries c = omega arith
-
-slice-write-entries : tie.Need-slice-write-entries Inv-loop μ-loop
-slice-write-entries c = omega arith
-
-add-i : tie.Need-add-i Inv-loop μ-loop
-add-i c = omega arith
-
-loop-less : tie.Need-loop-less Inv-loop μ-loop
-loop-less c = omega arith
-
 loop-again : tie.Need-loop-again Inv-loop μ-loop
 loop-again c =
     let l = c .before .before .before .before in
@@ -86,16 +56,16 @@ shift-spec =
     Inv-loop
     μ-loop
     loop-holds
-    add-unpack
-    mul-unpack
-    slice-read-unpack
-    unpack-requires
-    less-requires
-    pack-requires
-    mul-entries
-    slice-write-entries
-    add-i
-    loop-less
+    (λ c. omega arith)
+    (λ c. omega arith)
+    (λ c. omega arith)
+    (λ c κs. search needs)
+    (λ c κs. search needs)
+    (λ c κs. search needs)
+    (λ c. omega arith)
+    (λ c. omega arith)
+    (λ c. omega arith)
+    (λ c. omega arith)
     loop-again
     same-length
     returns)

@@ -76,12 +76,6 @@ put c =
     let s = start (u .before .before .before .before .before .before) in
     ap storeIn (c .pack .ensures ∙ ap (λ (e : Entry). numberOf (done e)) (u .unpack .ensures)) ∙ ap storeOf (done-number (getD (s .args .store-entries .now) (s .args .place) 0))
 
-cast-if1 : tie.Need-cast-if1
-cast-if1 c = search needs
-
-refused-requires : tie.Need-refused-requires
-refused-requires c κs = search needs
-
 returns : tie.Need-returns
 returns c table =
     let s = c .before .before .before .before .before .before .before in
@@ -94,9 +88,6 @@ write-fault-requires c κs =
     let s = start e1 in
     (placed e1, le-trans (before-few e1) (loads-room s))
 
-refused-requires-2 : tie.Need-refused-requires-2
-refused-requires-2 c κs = search needs
-
 returns-2 : tie.Need-returns-2
 returns-2 c table =
     let w = c .before .before in
@@ -105,20 +96,8 @@ returns-2 c table =
     rw (held e1 table, refused-number (mayWriteAt (s .args .load-entries .now) (s .args .store-entries .now) (s .args .place)) (λ z. c .before .if2 .taken (w .write-fault .ensures ∙ z)), ← w .write-fault .ensures)
     (record { outcome = ap (unchanged table s) (c .refused2 .ensures); memory-is = refl })
 
-mul-unpack : tie.Need-mul-unpack
-mul-unpack c = search needs
-
 slice-read-unpack : tie.Need-slice-read-unpack
 slice-read-unpack c = placed (c .before .before .before .before .before)
-
-unpack-requires : tie.Need-unpack-requires
-unpack-requires c κs = search needs
-
-cast-memory : tie.Need-cast-memory
-cast-memory c = search needs
-
-mul-memory : tie.Need-mul-memory
-mul-memory c = search needs
 
 slice-write-memory : tie.Need-slice-write-memory
 slice-write-memory c =
@@ -126,12 +105,6 @@ slice-write-memory c =
     let e1 = e2 .before .before .before .before in
     let s = start e1 in
     rw (s .pre .1, c .before .unpack .ensures) (store-address (queue s) (s .pre .0 .right) (s .args .place) (e1 .if1 .left) (puts e2 .addressed))
-
-pack-requires : tie.Need-pack-requires
-pack-requires c κs = search needs
-
-mul-store-entries : tie.Need-mul-store-entries
-mul-store-entries c = search needs
 
 slice-write-store-entries : tie.Need-slice-write-store-entries
 slice-write-store-entries c = placed (c .before .before .before .before .before .before .before .before)
@@ -148,9 +121,6 @@ same-length-4 c =
     let s = start (p .before .before .before .before .before .before .before .before) in
     c .before .before .before .before .store-entries .given ∙ length-set (s .args .store-entries .now) (s .args .place) (p .pack .result)
 
-same-length : tie.Need-same-length
-same-length c = search needs
-
 returns-3 : tie.Need-returns-3
 returns-3 c table =
     let t = c .before .before .before .before .before .before .before in
@@ -165,38 +135,29 @@ returns-3 c table =
       memory-is = rw (u .unpack .ensures);
     })
 
-same-length-2 : tie.Need-same-length-2
-same-length-2 c = search needs
-
-same-length-3 : tie.Need-same-length-3
-same-length-3 c = search needs
-
-same-length-5 : tie.Need-same-length-5
-same-length-5 c = search needs
-
 pub write-at-spec : {M : Type 1} → statement M
 write-at-spec =
     tie.close
     (tie.spec
-    cast-if1
-    refused-requires
+    (λ c. search needs)
+    (λ c κs. search needs)
     returns
     write-fault-requires
-    refused-requires-2
-    same-length
-    same-length-2
+    (λ c κs. search needs)
+    (λ c. search needs)
+    (λ c. search needs)
     returns-2
-    mul-unpack
+    (λ c. search needs)
     slice-read-unpack
-    unpack-requires
-    cast-memory
-    mul-memory
+    (λ c κs. search needs)
+    (λ c. search needs)
+    (λ c. search needs)
     slice-write-memory
-    pack-requires
-    mul-store-entries
+    (λ c κs. search needs)
+    (λ c. search needs)
     slice-write-store-entries
     settle-requires (λ c κs. search needs)
-    same-length-3
+    (λ c. search needs)
     same-length-4
-    same-length-5
+    (λ c. search needs)
     returns-3)

@@ -44,15 +44,6 @@ stores-way c =
     let u = c .before .before .before .before .before .before .before .before .before in
     c .all-give-way2 .ensures ∙ sym (side-all-same storeOf (storeGivesWay (store u .address)) (givesWay Finished (store u .address)) (λ e. store-gives-way e (store u .address)) (u .before .before .before .before .args .at) (u .before .before .before .before .args .store-entries .now))
 
-mul-unpack : tie.Need-mul-unpack
-mul-unpack c = search needs
-
-shared-slice-read-unpack : tie.Need-shared-slice-read-unpack
-shared-slice-read-unpack c = search needs
-
-unpack-requires : tie.Need-unpack-requires
-unpack-requires c κs = search needs
-
 returns : tie.Need-returns
 returns c =
     let u = c .before in
@@ -71,9 +62,6 @@ returns-3 c =
     let u = e1 .before in
     told u _ (may-no-data (loads u) (stores u) (store u) (e1 .if1 .left) (not-false (store u .addressed) (e2 .if2 .left)) (not-true (store u .filled) (c .if3 .taken)))
 
-cast-all-give-way : tie.Need-cast-all-give-way
-cast-all-give-way c = search needs
-
 all-give-way-requires : tie.Need-all-give-way-requires
 all-give-way-requires c κs =
     let u = c .before .before .before .before .before .before in
@@ -86,9 +74,6 @@ returns-4 c =
     let e1 = e2 .before .before in
     let u = e1 .before in
     told u _ (may-load (loads u) (stores u) (store u) (e1 .if1 .left) (not-false (store u .addressed) (e2 .if2 .left)) (not-false (store u .filled) (e3 .if3 .left)) (sym (loads-way (c .before)) ∙ not-true _ (c .if4 .taken)))
-
-all-give-way-requires-2 : tie.Need-all-give-way-requires-2
-all-give-way-requires-2 c κs = search needs
 
 returns-5 : tie.Need-returns-5
 returns-5 c =
@@ -112,15 +97,15 @@ pub write-fault-spec : {M : Type 1} → statement M
 write-fault-spec =
     tie.close
     (tie.spec
-    mul-unpack
-    shared-slice-read-unpack
-    unpack-requires
+    (λ c. search needs)
+    (λ c. search needs)
+    (λ c κs. search needs)
     returns
     returns-2
     returns-3
-    cast-all-give-way
+    (λ c. search needs)
     all-give-way-requires
     returns-4
-    all-give-way-requires-2
+    (λ c κs. search needs)
     returns-5
     returns-6)

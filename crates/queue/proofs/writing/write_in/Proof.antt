@@ -33,24 +33,12 @@ queue c = queueIn (start c)
 good : (c : tie.Else1) → Fit (queue (c .before))
 good c = fit (queue (c .before)) (c .before .sound-in .ensures) (c .if1 .left)
 
-sound-in-requires : tie.Need-sound-in-requires
-sound-in-requires c κs = search needs
-
-refused-requires : tie.Need-refused-requires
-refused-requires c κs = search needs
-
 returns : tie.Need-returns
 returns c =
     let s = start (c .before .before) in
     let q = queueIn s in
     rw (unfit q (write (contentsOf q) (s .args .memory .now) (s .args .serial)) (c .before .before .sound-in .ensures) (c .before .if1 .taken) (write-unsound q (s .args .memory .now) (s .args .serial)))
     (record { outcome = ap (unchanged s) (c .refused .ensures); memory-is = refl })
-
-cast-if2 : tie.Need-cast-if2
-cast-if2 c = search needs
-
-refused-requires-2 : tie.Need-refused-requires-2
-refused-requires-2 c κs = search needs
 
 returns-2 : tie.Need-returns-2
 returns-2 c =
@@ -59,17 +47,11 @@ returns-2 c =
     rw (good e1 .full, write-memory (queueIn s) (s .args .memory .now) (s .args .serial) (good e1 .right) (c .before .if2 .taken))
     (record { outcome = ap (unchanged s) (c .refused2 .ensures); memory-is = refl })
 
-place-of-requires : tie.Need-place-of-requires
-place-of-requires c κs = search needs
-
 write-at-requires : tie.Need-write-at-requires
 write-at-requires c κs =
     let e2 = c .before .before .before .before .before in
     let e1 = e2 .before .before in
     (record { table = frame (start (e1 .before)) .table; right = good e1 .right; loads-whole = good e1 .loads-whole; stores-whole = good e1 .stores-whole }, e2 .if2 .left)
-
-same-length : tie.Need-same-length
-same-length c = search needs
 
 returns-3 : tie.Need-returns-3
 returns-3 c =
@@ -80,41 +62,23 @@ returns-3 c =
     let s = start (e1 .before) in
     rw (good e1 .full, write-place (queueIn s) (s .args .memory .now) (s .args .serial) (good e1 .right) (e2 .if2 .left), ← p .place-of .ensures) (w .write-at .ensures (frame s .table))
 
-same-length-2 : tie.Need-same-length-2
-same-length-2 c = search needs
-
-same-length-3 : tie.Need-same-length-3
-same-length-3 c = search needs
-
-same-length-4 : tie.Need-same-length-4
-same-length-4 c = search needs
-
-same-length-5 : tie.Need-same-length-5
-same-length-5 c = search needs
-
-same-length-6 : tie.Need-same-length-6
-same-length-6 c = search needs
-
-same-length-7 : tie.Need-same-length-7
-same-length-7 c = search needs
-
 pub write-in-spec : {M : Type 1} → statement M
 write-in-spec =
     tie.close
     (tie.spec
-    sound-in-requires
-    refused-requires
-    same-length
-    same-length-2
+    (λ c κs. search needs)
+    (λ c κs. search needs)
+    (λ c. search needs)
+    (λ c. search needs)
     returns
-    cast-if2
-    refused-requires-2
-    same-length-3
-    same-length-4
+    (λ c. search needs)
+    (λ c κs. search needs)
+    (λ c. search needs)
+    (λ c. search needs)
     returns-2
-    place-of-requires
+    (λ c κs. search needs)
     write-at-requires
-    same-length-5
-    same-length-6
-    same-length-7
+    (λ c. search needs)
+    (λ c. search needs)
+    (λ c. search needs)
     returns-3)

@@ -38,15 +38,6 @@ right c = sym (c .before .counts-right .ensures) ∙ not-false _ (c .if1 .left)
 few : (c : tie.Else1) → (groupIn (c .before) .loads .count ≤ 16) × (groupIn (c .before) .stores .count ≤ 16)
 few c = counts-few (groupIn (c .before) .loads .count) (groupIn (c .before) .stores .count) (right c)
 
-cast-counts-right : tie.Need-cast-counts-right
-cast-counts-right c = search needs
-
-cast-counts-right-2 : tie.Need-cast-counts-right-2
-cast-counts-right-2 c = search needs
-
-counts-right-requires : tie.Need-counts-right-requires
-counts-right-requires c κs = search needs
-
 returns : tie.Need-returns
 returns c =
     let k = c .before in
@@ -92,9 +83,9 @@ pub check-group-spec : {M : Type 1} → statement M
 check-group-spec =
     tie.close
     (tie.spec
-    cast-counts-right
-    cast-counts-right-2
-    counts-right-requires
+    (λ c. search needs)
+    (λ c. search needs)
+    (λ c κs. search needs)
     returns
     check-pairs-requires
     returns-2

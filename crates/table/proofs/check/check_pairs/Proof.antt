@@ -65,12 +65,6 @@ port-low c =
     let u = turn (c .before) in
     fault-none (rightOf u) (u .before .before .before .loop .seen) (u .unpack-pair .result .port) (no-fault c) .1
 
-cast-first : tie.Need-cast-first Inv-loop μ-loop
-cast-first c = search needs
-
-cast-count : tie.Need-cast-count Inv-loop μ-loop
-cast-count c = search needs
-
 loop-holds : tie.Need-loop-holds Inv-loop μ-loop
 loop-holds c = (search needs, checking-none)
 
@@ -83,23 +77,11 @@ mul-unpack-pair c = omega (arith, start (c .before) .pre .1)
 element-copy-out-unpack-pair : tie.Need-element-copy-out-unpack-pair Inv-loop μ-loop
 element-copy-out-unpack-pair c = omega (arith, start (c .before) .pre .1)
 
-unpack-pair-requires : tie.Need-unpack-pair-requires Inv-loop μ-loop
-unpack-pair-requires c κs = search needs
-
-cast-port : tie.Need-cast-port Inv-loop μ-loop
-cast-port c = search needs
-
-cast-offset : tie.Need-cast-offset Inv-loop μ-loop
-cast-offset c = search needs
-
 cast-offset-right : tie.Need-cast-offset-right Inv-loop μ-loop
 cast-offset-right c = omega (arith, c .before .before .before .before .loop-test .taken)
 
 offset-right-requires : tie.Need-offset-right-requires Inv-loop μ-loop
 offset-right-requires c κs = start (c .before .before .before .before .before) .pre .0
-
-pair-fault-requires : tie.Need-pair-fault-requires Inv-loop μ-loop
-pair-fault-requires c κs = search needs
 
 returns : tie.Need-returns Inv-loop μ-loop
 returns c =
@@ -139,18 +121,18 @@ check-pairs-spec =
     (tie.spec
     Inv-loop
     μ-loop
-    cast-first
-    cast-count
+    (λ c. search needs)
+    (λ c. search needs)
     loop-holds
     add-unpack-pair
     mul-unpack-pair
     element-copy-out-unpack-pair
-    unpack-pair-requires
-    cast-port
-    cast-offset
+    (λ c κs. search needs)
+    (λ c. search needs)
+    (λ c. search needs)
     cast-offset-right
     offset-right-requires
-    pair-fault-requires
+    (λ c κs. search needs)
     returns
     cast-at
     element-write-seen

@@ -8,7 +8,6 @@ use borrow.Author.Needs.{needs}
 use Rattle.table.proofs.check.counts_right.Statement.{statement}
 use Rattle.table.proofs.check.counts_right.Tie as tie
 
--- src/check.rt:131:9
 some-is-not-none : (n : ℕ) → ltb 0 n ≡ not (eqb n 0)
 some-is-not-none n = go (ltb 0 n) refl
   where
@@ -19,17 +18,11 @@ some-is-not-none n = go (ltb 0 n) refl
 returns : tie.Need-returns
 returns c = rw (lt-leb _ _ (c .if1 .taken))
 
--- src/check.rt:134:9
 returns-2 : tie.Need-returns-2
 returns-2 c = rw (le-leb _ _ (c .before .if1 .left), lt-leb _ _ (c .if2 .taken))
 
--- src/check.rt:136:9
-add-result : tie.Need-add-result
-add-result c = search needs
-
--- src/check.rt:127:1
 returns-3 : tie.Need-returns-3
 returns-3 c = rw (le-leb _ _ (c .before .if1 .left), le-leb _ _ (c .if2 .left)) (some-is-not-none (c .before .before .args .loads + c .before .before .args .stores))
 
 pub counts-right-spec : {M : Type 1} → statement M
-counts-right-spec = tie.close (tie.spec returns returns-2 add-result returns-3)
+counts-right-spec = tie.close (tie.spec returns returns-2 (λ c. search needs) returns-3)

@@ -41,9 +41,6 @@ returns-2 c = table-count (tableOf (c .before .before)) (rw (le-leb _ _ (c .befo
 loop-holds : tie.Need-loop-holds Inv-loop μ-loop
 loop-holds c = (search needs, passing-none)
 
-group-at-requires : tie.Need-group-at-requires Inv-loop μ-loop
-group-at-requires c κs = search needs
-
 -- the group that a turn looks at is the table's
 abbrev groupOf : tie.After-group-at Inv-loop μ-loop → GroupPairs
 groupOf c =
@@ -95,7 +92,7 @@ fault-in-spec =
     returns
     returns-2
     loop-holds
-    group-at-requires
+    (λ c κs. search needs)
     check-group-requires
     returns-3
     add-i

@@ -5,16 +5,10 @@ use borrow.Author.Needs.{needs}
 use Rattle.table.proofs.check.more_before.Statement.{statement}
 use Rattle.table.proofs.check.more_before.Tie as tie
 
-cast-if1 : tie.Need-cast-if1
-cast-if1 c = search needs
-
 returns : tie.Need-returns
 returns c =
     let s = c .before .before in
     none-more (s .args .places .now) (s .args .loads) (s .args .n) (s .args .i) (s .pre .1) (c .if1 .taken)
-
-cast-at : tie.Need-cast-at
-cast-at c = search needs
 
 add-at : tie.Need-add-at
 add-at c = omega (arith, c .before .before .before .pre .0)
@@ -24,12 +18,6 @@ mul-unpack-pair c = omega (arith, c .before .before .before .pre .0)
 
 element-copy-out-unpack-pair : tie.Need-element-copy-out-unpack-pair
 element-copy-out-unpack-pair c = omega (arith, c .before .before .before .pre .0)
-
-unpack-pair-requires : tie.Need-unpack-pair-requires
-unpack-pair-requires c κs = search needs
-
-cast-result : tie.Need-cast-result
-cast-result c = search needs
 
 returns-2 : tie.Need-returns-2
 returns-2 c =
@@ -42,12 +30,12 @@ pub more-before-spec : {M : Type 1} → statement M
 more-before-spec =
     tie.close
     (tie.spec
-    cast-if1
+    (λ c. search needs)
     returns
-    cast-at
+    (λ c. search needs)
     add-at
     mul-unpack-pair
     element-copy-out-unpack-pair
-    unpack-pair-requires
-    cast-result
+    (λ c κs. search needs)
+    (λ c. search needs)
     returns-2)

@@ -18,9 +18,6 @@ returns c =
 returns-2 : tie.Need-returns-2
 returns-2 c = let m = c .before .before in rw (m .before .if1 .taken) (agrees-none _ _ (sym (m .more-before .ensures) ∙ c .before .if2 .left) (c .if3 .taken))
 
-sub-more-before : tie.Need-sub-more-before
-sub-more-before c = search needs
-
 more-before-requires-2 : tie.Need-more-before-requires-2
 more-before-requires-2 c κs = let t = c .before .before .before in (t .before .pre .inside, t .before .pre .rising (t .if1 .taken))
 
@@ -40,7 +37,7 @@ offset-right-spec =
     more-before-requires
     returns
     returns-2
-    sub-more-before
+    (λ c. search needs)
     more-before-requires-2
     returns-3
     returns-4

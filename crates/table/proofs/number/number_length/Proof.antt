@@ -39,12 +39,6 @@ count-most bits = go (leb bits 7) (leb bits 14) (leb bits 21) (leb bits 28)
 sub-bits : tie.Need-sub-bits
 sub-bits c = leading-le 32 (c .args .value)
 
-cast-bits : tie.Need-cast-bits
-cast-bits c = search needs
-
-array-read-result : tie.Need-array-read-result
-array-read-result c = search needs
-
 cast-result : tie.Need-cast-result
 unfolding lengths
 cast-result c = omega (arith, length-is-count (significantBits (c .args .value)) (omega arith), count-most (significantBits (c .args .value)))
@@ -56,4 +50,4 @@ returns c =
     (e, e ∙ number-length-law (c .args .value) (search needs))
 
 pub number-length-spec : {M : Type 1} → statement M
-number-length-spec = tie.close (tie.spec sub-bits cast-bits array-read-result cast-result returns)
+number-length-spec = tie.close (tie.spec sub-bits (λ c. search needs) (λ c. search needs) cast-result returns)

@@ -12,51 +12,27 @@ Inv-loop out₀ at value left₀ place₀ out left place = Putting out₀ at val
 abbrev μ-loop : tie.MeasureT-loop
 μ-loop out₀ at value left₀ place₀ out left place = left
 
--- src/number.rt:108:5
 loop-holds : tie.Need-loop-holds Inv-loop μ-loop
 loop-holds c = putting-none (search needs)
 
--- src/number.rt:109:23
-add-out : tie.Need-add-out Inv-loop μ-loop
-add-out c = omega arith
-
--- src/number.rt:109:22
-cast-out : tie.Need-cast-out Inv-loop μ-loop
-cast-out c = omega arith
-
--- src/number.rt:109:9
 slice-write-out : tie.Need-slice-write-out Inv-loop μ-loop
 slice-write-out c = putting-room (c .before .loop .inv) (c .before .before .pre)
 
--- src/number.rt:111:9
 add-place : tie.Need-add-place Inv-loop μ-loop
 add-place c = omega (arith, putting-room (c .before .loop .inv) (c .before .before .pre), c .before .loop .inv .long)
 
--- src/number.rt:108:5
-loop-less : tie.Need-loop-less Inv-loop μ-loop
-loop-less c = omega arith
-
--- src/number.rt:108:5
 loop-again : tie.Need-loop-again Inv-loop μ-loop
 loop-again c = putting-more (c .before .loop .inv) (c .before .before .pre) (c .loop-test .taken)
 
--- src/number.rt:113:18
-cast-out-2 : tie.Need-cast-out-2 Inv-loop μ-loop
-cast-out-2 c = omega arith
-
--- src/number.rt:113:5
 slice-write-out-2 : tie.Need-slice-write-out-2 Inv-loop μ-loop
 slice-write-out-2 c = putting-room (c .before .loop .inv) (c .before .before .pre)
 
--- src/number.rt:114:5
 add-result : tie.Need-add-result Inv-loop μ-loop
 add-result c = omega (arith, putting-room (c .before .loop .inv) (c .before .before .pre), c .before .loop .inv .long)
 
--- src/number.rt:102:1
 same-length : tie.Need-same-length Inv-loop μ-loop
 same-length c = simp length-set (c .before .loop .inv .long)
 
--- src/number.rt:102:1
 returns : tie.Need-returns Inv-loop μ-loop
 returns c = putting-end (c .before .loop .inv) (c .before .before .pre) (c .loop-test .left)
 
@@ -67,13 +43,13 @@ put-number-spec =
     Inv-loop
     μ-loop
     loop-holds
-    add-out
-    cast-out
+    (λ c. omega arith)
+    (λ c. omega arith)
     slice-write-out
     add-place
-    loop-less
+    (λ c. omega arith)
     loop-again
-    cast-out-2
+    (λ c. omega arith)
     slice-write-out-2
     add-result
     same-length

@@ -19,9 +19,6 @@ loop-holds c = number-begun
 returns : tie.Need-returns Inv-loop μ-loop
 returns c = number-ended (c .before .before .loop .inv) (c .if1 .taken)
 
-shared-slice-read-low : tie.Need-shared-slice-read-low Inv-loop μ-loop
-shared-slice-read-low c = search needs
-
 abbrev turn : tie.After-shared-slice-known Inv-loop μ-loop → tie.At-loop Inv-loop μ-loop
 turn c = c .before .before .before
 
@@ -43,9 +40,6 @@ more-fits c = fits (c .before) (byteAt (c .before) - 128) (omega (arith, byte-be
 
 cast-low : tie.Need-cast-low Inv-loop μ-loop
 cast-low c = omega (arith, byte-below c)
-
-add-place : tie.Need-add-place Inv-loop μ-loop
-add-place c = search needs
 
 mul-t12 : tie.Need-mul-t12 Inv-loop μ-loop
 mul-t12 c = omega (arith, fits (c .before) (byteAt (c .before)) (c .if2 .taken))
@@ -78,9 +72,6 @@ loop-again c =
 returns-3 : tie.Need-returns-3 Inv-loop μ-loop
 returns-3 c = number-ended (c .before .before .loop .inv) (c .if3 .taken)
 
-shared-slice-read-low-2 : tie.Need-shared-slice-read-low-2 Inv-loop μ-loop
-shared-slice-read-low-2 c = search needs
-
 cast-low-2 : tie.Need-cast-low-2 Inv-loop μ-loop
 cast-low-2 c = omega (arith, c .shared-slice-known2 .given (c .before .before .before .loop .place))
 
@@ -93,9 +84,6 @@ add-t21 : tie.Need-add-t21 Inv-loop μ-loop
 add-t21 c =
     let l = c .before .before .before in
     omega (arith, last-fits (l .before .loop .inv) (l .loop-test .left) _ (c .if4 .taken))
-
-add-t22 : tie.Need-add-t22 Inv-loop μ-loop
-add-t22 c = search needs
 
 returns-4 : tie.Need-returns-4 Inv-loop μ-loop
 returns-4 c =
@@ -115,9 +103,9 @@ read-number-spec =
     μ-loop
     loop-holds
     returns
-    shared-slice-read-low
+    (λ c. search needs)
     cast-low
-    add-place
+    (λ c. search needs)
     mul-t12
     add-t13
     returns-2
@@ -127,10 +115,10 @@ read-number-spec =
     loop-less
     loop-again
     returns-3
-    shared-slice-read-low-2
+    (λ c. search needs)
     cast-low-2
     mul-t20
     add-t21
-    add-t22
+    (λ c. search needs)
     returns-4
     returns-5)

@@ -13,9 +13,6 @@ use Rattle.table.proofs.number.write_number.Tie as tie
 long : (c : tie.After-number-length) → c .number-length .result ≡ length (numberBytes (c .before .before .args .value))
 long c = c .number-length .ensures .1
 
-number-length-requires : tie.Need-number-length-requires
-number-length-requires c κs = search needs
-
 returns : tie.Need-returns
 returns c = rw (wrote-short (numberBytes (c .before .before .before .args .value)) (c .before .before .before .args .out .now) (omega (arith, long (c .before)))) (refl, refl)
 
@@ -25,9 +22,6 @@ fits c = omega (arith, long (c .before))
 put-number-requires : tie.Need-put-number-requires
 put-number-requires c κs = omega (arith, fits (c .before))
 
-same-length : tie.Need-same-length
-same-length c = search needs
-
 returns-2 : tie.Need-returns-2
 returns-2 c =
     let e = c .before .before .before .before in
@@ -35,4 +29,4 @@ returns-2 c =
 
 pub write-number-spec : {M : Type 1} → statement M
 write-number-spec =
-    tie.close (tie.spec number-length-requires returns put-number-requires same-length returns-2)
+    tie.close (tie.spec (λ c κs. search needs) returns put-number-requires (λ c. search needs) returns-2)

@@ -6,12 +6,6 @@ use borrow.Author.Needs.{needs}
 use Rattle.table.proofs.parts.number_at.Statement.{statement}
 use Rattle.table.proofs.parts.number_at.Tie as tie
 
-mul-result : tie.Need-mul-result
-mul-result c = search needs
-
-element-copy-out-result : tie.Need-element-copy-out-result
-element-copy-out-result c = search needs
-
 returns : tie.Need-returns
 returns c = let t = c .before in sym (getD-take 16 (t .before .args .groups .now) (t .before .args .i) 0 (t .if1 .taken))
 
@@ -21,4 +15,4 @@ returns-2 c =
     sym (List·getD-eq-default (take 16 l) 0 (rw length-take (omega (arith, c .if1 .left))))
 
 pub number-at-spec : {M : Type 1} → statement M
-number-at-spec = tie.close (tie.spec mul-result element-copy-out-result returns returns-2)
+number-at-spec = tie.close (tie.spec (λ c. search needs) (λ c. search needs) returns returns-2)

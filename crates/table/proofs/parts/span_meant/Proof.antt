@@ -3,15 +3,6 @@ use borrow.Author.Needs.{needs}
 use Rattle.table.proofs.parts.span_meant.Statement.{statement}
 use Rattle.table.proofs.parts.span_meant.Tie as tie
 
-cast-if1 : tie.Need-cast-if1
-cast-if1 c = search needs
-
-cast-if1-2 : tie.Need-cast-if1-2
-cast-if1-2 c = search needs
-
-add-if1 : tie.Need-add-if1
-add-if1 c = search needs
-
 returns : tie.Need-returns
 returns c = rw (le-leb _ _ (c .if1 .taken))
 
@@ -22,4 +13,4 @@ returns-3 : tie.Need-returns-3
 returns-3 c = rw (lt-leb _ _ (c .before .before .if1 .left), ne-eqb _ _ (c .if2 .left))
 
 pub span-meant-spec : {M : Type 1} → statement M
-span-meant-spec = tie.close (tie.spec cast-if1 cast-if1-2 add-if1 returns returns-2 returns-3)
+span-meant-spec = tie.close (tie.spec (λ c. search needs) (λ c. search needs) (λ c. search needs) returns returns-2 returns-3)

@@ -3,15 +3,9 @@ use borrow.Author.Needs.{needs}
 use Rattle.table.proofs.parts.unpack_group.Statement.{statement}
 use Rattle.table.proofs.parts.unpack_group.Tie as tie
 
-unpack-span-requires : tie.Need-unpack-span-requires
-unpack-span-requires c κs = search needs
-
-unpack-span-requires-2 : tie.Need-unpack-span-requires-2
-unpack-span-requires-2 c κs = search needs
-
 returns : tie.Need-returns
 unfolding groupIn
 returns c = rw (c .before .unpack-span .ensures, c .unpack-span2 .ensures)
 
 pub unpack-group-spec : {M : Type 1} → statement M
-unpack-group-spec = tie.close (tie.spec unpack-span-requires unpack-span-requires-2 returns)
+unpack-group-spec = tie.close (tie.spec (λ c κs. search needs) (λ c κs. search needs) returns)

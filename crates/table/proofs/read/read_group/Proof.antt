@@ -23,41 +23,17 @@ right c = sym (c .before .counts-right .ensures) ∙ not-false _ (c .if1 .left)
 few : (c : tie.Else1) → (c .before .before .before .read .given .0 .0 ≤ 16) × (c .before .before .before .read .given .0 .1 .0 ≤ 16)
 few c = counts-few (c .before .before .before .read .given .0 .0) (c .before .before .before .read .given .0 .1 .0) (right c)
 
-read-two-requires : tie.Need-read-two-requires
-read-two-requires c κs = search needs
-
-enum-known-read : tie.Need-enum-known-read
-enum-known-read c = search needs
-
-enum-told : tie.Need-enum-told
-enum-told c = search needs
-
-two-refusal-requires : tie.Need-two-refusal-requires
-two-refusal-requires c κs = search needs
-
-no-group-requires : tie.Need-no-group-requires
-no-group-requires c κs = search needs
-
 returns : tie.Need-returns
 returns c =
     let t = c .before .before in
     let e = two-bad (t .before .before .before .before .args .bytes .now) (t .before .before .before .before .args .at) (sym (ap twoReply (t .enum-told .given .1)) ∙ t .before .before .read-two .ensures) in
     rw (group-refused _ _ e) (group-none (record { is = c .no-group .ensures ∙ c .before .two-refusal .ensures ∙ ap twoRefusal (t .enum-told .given .1); some = two-refused _ e }))
 
-counts-right-requires : tie.Need-counts-right-requires
-counts-right-requires c κs = search needs
-
-no-group-requires-2 : tie.Need-no-group-requires-2
-no-group-requires-2 c κs = search needs
-
 returns-2 : tie.Need-returns-2
 returns-2 c =
     let h = c .before .before in
     let e = group-counts-bad _ _ (seenOf (h .before .before .before .before .before .before .args .seen)) (counts (h .before .before)) (sym (h .counts-right .ensures) ∙ not-true _ (c .before .if1 .taken)) in
     rw e (group-none (record { is = c .no-group2 .ensures; some = λ z. omega arith }))
-
-no-pairs-requires : tie.Need-no-pairs-requires
-no-pairs-requires c κs = search needs
 
 cast-few-stores : tie.Need-cast-few-stores
 cast-few-stores c = omega (arith, few (c .before) .1)
@@ -66,9 +42,6 @@ read-pairs-requires : tie.Need-read-pairs-requires
 read-pairs-requires c κs =
     let e = c .before .before in
     (few e .0, counts (e .before .before .before) .inside, record { inside = rw (c .before .no-pairs .ensures) (omega arith); few = rw (c .before .no-pairs .ensures) (omega arith); few-stores = few e .1; rising = λ z. absurd (false≢true z) })
-
-no-group-requires-3 : tie.Need-no-group-requires-3
-no-group-requires-3 c κs = search needs
 
 returns-3 : tie.Need-returns-3
 returns-3 c =
@@ -100,18 +73,12 @@ read-pairs-requires-2 c κs =
       },
     )
 
-no-group-requires-4 : tie.Need-no-group-requires-4
-no-group-requires-4 c κs = search needs
-
 returns-4 : tie.Need-returns-4
 returns-4 c =
     let l = c .before .before .before .before .before .before in
     let e = c .before .before .before .before .before .before .before .before .before .before .before in
     rw (group-stores-bad _ _ (seenOf (e .before .before .before .before .before .before .before .args .seen)) (counts (e .before .before .before)) (right e) (loads l .is) (same-stores (loads l .told) _ _ ∙ pairs-bad (c .before .before .before .read-pairs2 .ensures) (c .before .if3 .taken)))
     (group-none (record { is = c .no-group4 .ensures; some = c .before .if3 .taken }))
-
-group-made-requires : tie.Need-group-made-requires
-group-made-requires c κs = search needs
 
 returns-5 : tie.Need-returns-5
 returns-5 c =
@@ -125,22 +92,22 @@ pub read-group-spec : {M : Type 1} → statement M
 read-group-spec =
     tie.close
     (tie.spec
-    read-two-requires
-    enum-known-read
-    enum-told
-    two-refusal-requires
-    no-group-requires
+    (λ c κs. search needs)
+    (λ c. search needs)
+    (λ c. search needs)
+    (λ c κs. search needs)
+    (λ c κs. search needs)
     returns
-    counts-right-requires
-    no-group-requires-2
+    (λ c κs. search needs)
+    (λ c κs. search needs)
     returns-2
-    no-pairs-requires
+    (λ c κs. search needs)
     cast-few-stores
     read-pairs-requires
-    no-group-requires-3
+    (λ c κs. search needs)
     returns-3
     read-pairs-requires-2
-    no-group-requires-4
+    (λ c κs. search needs)
     returns-4
-    group-made-requires
+    (λ c κs. search needs)
     returns-5)

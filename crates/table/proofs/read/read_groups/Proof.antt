@@ -18,14 +18,8 @@ Inv-loop bytes at count table₀ loads₀ stores₀ seen₀ place₀ i₀ table 
 abbrev μ-loop : tie.MeasureT-loop
 μ-loop bytes at count table₀ loads₀ stores₀ seen₀ place₀ i₀ table loads stores seen place i = count - i
 
-no-table-requires : tie.Need-no-table-requires Inv-loop μ-loop
-no-table-requires c κs = search needs
-
 loop-holds : tie.Need-loop-holds Inv-loop μ-loop
 loop-holds c = (search needs, gathering-none (c .before .before .pre .1) (c .no-table .ensures))
-
-read-group-requires : tie.Need-read-group-requires Inv-loop μ-loop
-read-group-requires c κs = search needs
 
 returns : tie.Need-returns Inv-loop μ-loop
 returns c =
@@ -54,12 +48,6 @@ add-loads c = omega (arith, room (c .before .before .before .before .before) .lo
 add-stores : tie.Need-add-stores Inv-loop μ-loop
 add-stores c = omega (arith, room (c .before .before .before .before .before .before) .stores-room)
 
-add-i : tie.Need-add-i Inv-loop μ-loop
-add-i c = omega arith
-
-loop-less : tie.Need-loop-less Inv-loop μ-loop
-loop-less c = omega arith
-
 loop-again : tie.Need-loop-again Inv-loop μ-loop
 loop-again c =
     let t = c .before .before .before .before .before in
@@ -79,14 +67,14 @@ read-groups-spec =
     (tie.spec
     Inv-loop
     μ-loop
-    no-table-requires
+    (λ c κs. search needs)
     loop-holds
-    read-group-requires
+    (λ c κs. search needs)
     returns
     with-group-requires
     add-loads
     add-stores
-    add-i
-    loop-less
+    (λ c. omega arith)
+    (λ c. omega arith)
     loop-again
     returns-2)

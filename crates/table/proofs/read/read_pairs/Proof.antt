@@ -26,26 +26,8 @@ abbrev μ-loop : tie.MeasureT-loop
 abbrev start : tie.At-loop Inv-loop μ-loop → tie.Start Inv-loop μ-loop
 start c = c .before .before .before .before
 
-no-pairs-requires : tie.Need-no-pairs-requires Inv-loop μ-loop
-no-pairs-requires c κs = search needs
-
 loop-holds : tie.Need-loop-holds Inv-loop μ-loop
 loop-holds c = (search needs, reading-none (c .before .before .before .pre .1) (ap (λ (p : Pairs). p .places) (c .no-pairs .ensures)))
-
-read-two-requires : tie.Need-read-two-requires Inv-loop μ-loop
-read-two-requires c κs = search needs
-
-enum-known-read : tie.Need-enum-known-read Inv-loop μ-loop
-enum-known-read c = search needs
-
-enum-told : tie.Need-enum-told Inv-loop μ-loop
-enum-told c = search needs
-
-two-refusal-requires : tie.Need-two-refusal-requires Inv-loop μ-loop
-two-refusal-requires c κs = search needs
-
-no-pairs-read-requires : tie.Need-no-pairs-read-requires Inv-loop μ-loop
-no-pairs-read-requires c κs = search needs
 
 returns : tie.Need-returns Inv-loop μ-loop
 returns c =
@@ -56,9 +38,6 @@ returns c =
 
 offset-right-requires : tie.Need-offset-right-requires Inv-loop μ-loop
 offset-right-requires c κs = start (c .before .before .before .before .before .before) .pre .2
-
-pair-fault-requires : tie.Need-pair-fault-requires Inv-loop μ-loop
-pair-fault-requires c κs = search needs
 
 two : (c : tie.After-read Inv-loop μ-loop) → TwoGot (start (c .before .before .before .before) .args .bytes .now) (c .before .before .before .before .loop .place) (c .read .given .0 .0) (c .read .given .0 .1 .0) (c .read .given .0 .1 .1 .0)
 two c = two-answer _ _ (sym (ap twoReply (c .read .given .1)) ∙ c .before .before .read-two .ensures)
@@ -78,9 +57,6 @@ turn c = c .before .before .before .before .before
 
 fault : (c : tie.After-pair-fault Inv-loop μ-loop) → c .pair-fault .result ≡ faultOf (turn c) (rightOf (turn c))
 fault c = c .pair-fault .ensures ∙ ap (faultOf (turn c)) (c .before .before .offset-right .ensures)
-
-no-pairs-read-requires-2 : tie.Need-no-pairs-read-requires-2 Inv-loop μ-loop
-no-pairs-read-requires-2 c κs = search needs
 
 returns-2 : tie.Need-returns-2 Inv-loop μ-loop
 returns-2 c =
@@ -114,9 +90,6 @@ cast-t29 c = omega (arith, small c .0)
 
 cast-t30 : tie.Need-cast-t30 Inv-loop μ-loop
 cast-t30 c = omega (arith, small c .1)
-
-pack-pair-requires : tie.Need-pack-pair-requires Inv-loop μ-loop
-pack-pair-requires c κs = search needs
 
 cast-pairs : tie.Need-cast-pairs Inv-loop μ-loop
 cast-pairs c = omega (arith, place (c .before))
@@ -171,21 +144,21 @@ read-pairs-spec =
     (tie.spec
     Inv-loop
     μ-loop
-    no-pairs-requires
+    (λ c κs. search needs)
     loop-holds
-    read-two-requires
-    enum-known-read
-    enum-told
-    two-refusal-requires
-    no-pairs-read-requires
+    (λ c κs. search needs)
+    (λ c. search needs)
+    (λ c. search needs)
+    (λ c κs. search needs)
+    (λ c κs. search needs)
     returns
     offset-right-requires
-    pair-fault-requires
-    no-pairs-read-requires-2
+    (λ c κs. search needs)
+    (λ c κs. search needs)
     returns-2
     cast-t29
     cast-t30
-    pack-pair-requires
+    (λ c κs. search needs)
     cast-pairs
     mul-pairs
     element-write-pairs

@@ -15,21 +15,6 @@ use borrow.Author.Needs.{needs}
 use Rattle.table.proofs.read.read_table.Statement.{statement}
 use Rattle.table.proofs.read.read_table.Tie as tie
 
-read-number-requires : tie.Need-read-number-requires
-read-number-requires c κs = search needs
-
-enum-known-read : tie.Need-enum-known-read
-enum-known-read c = search needs
-
-enum-told : tie.Need-enum-told
-enum-told c = search needs
-
-number-refusal-requires : tie.Need-number-refusal-requires
-number-refusal-requires c κs = search needs
-
-refused-requires : tie.Need-refused-requires
-refused-requires c κs = search needs
-
 abbrev accepted : Table → TableRead
 accepted t = record { answer = 0; table = t }
 
@@ -46,29 +31,11 @@ returns c =
     let e : readNumber (t .before .before .before .before .args .bytes .now) ≡ bad (t .enum-told .given .0 .0) = number-bad (t .before .before .before .before .args .bytes .now) 0 (sym (ap numberReply (t .enum-told .given .1)) ∙ t .before .before .read-number .ensures) in
     rw (c .refused .ensures, c .before .number-refusal .ensures ∙ ap numberRefusal (t .enum-told .given .1), e)
 
-refused-requires-2 : tie.Need-refused-requires-2
-refused-requires-2 c κs = search needs
-
 returns-2 : tie.Need-returns-2
 unfolding readTable
 returns-2 c =
     let g = c .before .before .before in
     rw (c .refused2 .ensures, fields-are g, ne-eqb _ _ (c .before .if1 .taken))
-
-read-number-requires-2 : tie.Need-read-number-requires-2
-read-number-requires-2 c κs = search needs
-
-enum-known-read-2 : tie.Need-enum-known-read-2
-enum-known-read-2 c = search needs
-
-enum-told-2 : tie.Need-enum-told-2
-enum-told-2 c = search needs
-
-number-refusal-requires-2 : tie.Need-number-refusal-requires-2
-number-refusal-requires-2 c κs = search needs
-
-refused-requires-3 : tie.Need-refused-requires-3
-refused-requires-3 c κs = search needs
 
 count-got : (c : tie.After-read2) → NumberGot (c .before .before .before .before .before .before .before .before .before .args .bytes .now) (c .before .before .before .before .before .read .given .0 .1 .0) (c .read2 .given .0 .0) (c .read2 .given .0 .1 .0)
 count-got c = number-got _ _ (sym (ap numberReply (c .read2 .given .1)) ∙ c .before .before .read-number2 .ensures)
@@ -81,18 +48,12 @@ returns-3 c =
     let g = r .before .before .before in
     rw (c .refused3 .ensures, c .before .number-refusal2 .ensures ∙ ap numberRefusal (t .enum-told2 .given .1), fields-are g, eq-eqb _ _ (r .before .if1 .left), number-bad _ _ (sym (ap numberReply (t .enum-told2 .given .1)) ∙ r .read-number2 .ensures))
 
-refused-requires-4 : tie.Need-refused-requires-4
-refused-requires-4 c κs = search needs
-
 returns-4 : tie.Need-returns-4
 unfolding readTable
 returns-4 c =
     let h = c .before .before .before in
     let g = h .before .before .before .before .before in
     rw (c .refused4 .ensures, fields-are g, eq-eqb _ _ (h .before .before .before .if1 .left), count-got h .is, lt-leb _ _ (c .before .if2 .taken))
-
-refused-requires-5 : tie.Need-refused-requires-5
-refused-requires-5 c κs = search needs
 
 returns-5 : tie.Need-returns-5
 unfolding readTable
@@ -105,9 +66,6 @@ read-groups-requires : tie.Need-read-groups-requires
 read-groups-requires c κs =
     let h = c .before .before .before in
     (c .if3 .left, count-got h .inside)
-
-refused-requires-6 : tie.Need-refused-requires-6
-refused-requires-6 c κs = search needs
 
 groups : (c : tie.Else4) → GroupsGot (c .before .before .before .before .before .before .before .before .before .before .before .before .before .before .before .args .bytes .now) (readGroups (c .before .before .before .before .before .before .read2 .given .0 .0) noneSeen (drop (c .before .before .before .before .before .before .read2 .given .0 .1 .0) (c .before .before .before .before .before .before .before .before .before .before .before .before .before .before .before .args .bytes .now))) (c .before .before .read-groups .result)
 groups c = groups-got (c .before .before .read-groups .ensures) (c .if4 .left)
@@ -123,9 +81,6 @@ returns-6 c =
     let h = k .before .before .before .before in
     let g = h .before .before .before .before .before in
     rw (c .refused6 .ensures, fields-are g, eq-eqb _ _ (h .before .before .before .if1 .left), count-got h .is, le-leb _ _ (k .before .before .if2 .left), le-leb _ _ (k .before .if3 .left), groups-bad (k .read-groups .ensures) (c .before .if4 .taken))
-
-refused-requires-7 : tie.Need-refused-requires-7
-refused-requires-7 c κs = search needs
 
 returns-7 : tie.Need-returns-7
 unfolding readTable
@@ -149,27 +104,27 @@ pub read-table-spec : {M : Type 1} → statement M
 read-table-spec =
     tie.close
     (tie.spec
-    read-number-requires
-    enum-known-read
-    enum-told
-    number-refusal-requires
-    refused-requires
+    (λ c κs. search needs)
+    (λ c. search needs)
+    (λ c. search needs)
+    (λ c κs. search needs)
+    (λ c κs. search needs)
     returns
-    refused-requires-2
+    (λ c κs. search needs)
     returns-2
-    read-number-requires-2
-    enum-known-read-2
-    enum-told-2
-    number-refusal-requires-2
-    refused-requires-3
+    (λ c κs. search needs)
+    (λ c. search needs)
+    (λ c. search needs)
+    (λ c κs. search needs)
+    (λ c κs. search needs)
     returns-3
-    refused-requires-4
+    (λ c κs. search needs)
     returns-4
-    refused-requires-5
+    (λ c κs. search needs)
     returns-5
     read-groups-requires
-    refused-requires-6
+    (λ c κs. search needs)
     returns-6
-    refused-requires-7
+    (λ c κs. search needs)
     returns-7
     returns-8)

@@ -13,35 +13,12 @@ Inv-loop numbers count total₀ i₀ total i = (i ≤ count) × (total ≤ 5 * i
 abbrev μ-loop : tie.MeasureT-loop
 μ-loop numbers count total₀ i₀ total i = count - i
 
--- src/trace.rt:168:5
 loop-holds : tie.Need-loop-holds Inv-loop μ-loop
 loop-holds c = (search needs, search needs, counted-none)
 
--- src/trace.rt:169:32
-mul-number-length : tie.Need-mul-number-length Inv-loop μ-loop
-mul-number-length c = omega arith
-
--- src/trace.rt:169:32
-element-copy-out-number-length : tie.Need-element-copy-out-number-length Inv-loop μ-loop
-element-copy-out-number-length c = omega arith
-
--- src/trace.rt:169:18
-number-length-requires : tie.Need-number-length-requires Inv-loop μ-loop
-number-length-requires c κs = search needs
-
--- src/trace.rt:169:9
 add-total : tie.Need-add-total Inv-loop μ-loop
 add-total c = omega (arith, c .number-length .ensures .1, bytes-most (getD (c .before .before .before .before .args .t1 .values) (c .before .before .before .loop .i) 0))
 
--- src/trace.rt:170:9
-add-i : tie.Need-add-i Inv-loop μ-loop
-add-i c = omega arith
-
--- src/trace.rt:168:5
-loop-less : tie.Need-loop-less Inv-loop μ-loop
-loop-less c = omega arith
-
--- src/trace.rt:168:5
 loop-again : tie.Need-loop-again Inv-loop μ-loop
 loop-again c =
     let i = c .before .before .before .loop .inv in
@@ -49,7 +26,6 @@ loop-again c =
     let r : c .before .before .before .loop .i < length (c .before .before .before .before .args .t1 .values) = omega arith in
     (omega arith, omega (arith, c .number-length .ensures .1, bytes-most (getD (c .before .before .before .before .args .t1 .values) (c .before .before .before .loop .i) 0)), counted-more (i .2) r (c .number-length .ensures .1))
 
--- src/trace.rt:161:1
 returns : tie.Need-returns Inv-loop μ-loop
 returns c = counted-end {count = c .before .before .args .t1 .count} (c .before .loop .inv .2) (omega arith)
 
@@ -60,11 +36,11 @@ numbers-length-spec =
     Inv-loop
     μ-loop
     loop-holds
-    mul-number-length
-    element-copy-out-number-length
-    number-length-requires
+    (λ c. omega arith)
+    (λ c. omega arith)
+    (λ c κs. search needs)
     add-total
-    add-i
-    loop-less
+    (λ c. omega arith)
+    (λ c. omega arith)
     loop-again
     returns)

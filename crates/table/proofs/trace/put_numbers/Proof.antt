@@ -16,7 +16,6 @@ Inv-loop out₀ numbers count place₀ i₀ out place i = (i ≤ count) × Put o
 abbrev μ-loop : tie.MeasureT-loop
 μ-loop out₀ numbers count place₀ i₀ out place i = count - i
 
--- src/trace.rt:183:5
 whole : (c : tie.Start Inv-loop μ-loop) → c .args .t1 .count ≤ length (c .args .t1 .values)
 whole c =
     let e : length (c .args .t1 .values) ≡ 4 = search needs in
@@ -31,29 +30,11 @@ next-fits c =
 loop-holds : tie.Need-loop-holds Inv-loop μ-loop
 loop-holds c = (search needs, put-none)
 
--- src/trace.rt:184:40
-mul-put-number : tie.Need-mul-put-number Inv-loop μ-loop
-mul-put-number c = omega arith
-
--- src/trace.rt:184:40
-element-copy-out-put-number : tie.Need-element-copy-out-put-number Inv-loop μ-loop
-element-copy-out-put-number c = omega arith
-
--- src/trace.rt:184:9
 put-number-requires : tie.Need-put-number-requires Inv-loop μ-loop
 put-number-requires c κs =
     let l = c .before .before in
     omega (arith, next-fits l, put-length (l .before .loop .inv .1) (omega (arith, next-fits l)), l .before .loop .inv .1 .ends)
 
--- src/trace.rt:185:9
-add-i : tie.Need-add-i Inv-loop μ-loop
-add-i c = omega arith
-
--- src/trace.rt:183:5
-loop-less : tie.Need-loop-less Inv-loop μ-loop
-loop-less c = omega arith
-
--- src/trace.rt:183:5
 loop-again : tie.Need-loop-again Inv-loop μ-loop
 loop-again c =
     let p = c .before .before in
@@ -62,14 +43,12 @@ loop-again c =
     let i = l .before .loop .i in
     (omega arith, rw (add-one, take-suc v i 0 (omega (arith, whole (l .before .before .before), l .loop-test .taken))) (put-one (l .before .loop .inv .1) (getD v i 0) (omega (arith, next-fits l)) (p .put-number .ensures .1) (p .put-number .ensures .0)))
 
--- src/trace.rt:176:1
 all-put : (c : tie.After-loop Inv-loop μ-loop) → c .before .loop .i ≡ c .before .before .before .args .t1 .count
 all-put c = omega arith
 
 same-length : tie.Need-same-length Inv-loop μ-loop
 same-length c = put-length (c .before .loop .inv .1) (rw (all-put c) (omega (arith, c .before .before .before .pre .1)))
 
--- src/trace.rt:176:1
 returns : tie.Need-returns Inv-loop μ-loop
 returns c = c .before .loop .inv .1 .is ∙ rw (all-put c)
 
@@ -80,11 +59,11 @@ put-numbers-spec =
     Inv-loop
     μ-loop
     loop-holds
-    mul-put-number
-    element-copy-out-put-number
+    (λ c. omega arith)
+    (λ c. omega arith)
     put-number-requires
-    add-i
-    loop-less
+    (λ c. omega arith)
+    (λ c. omega arith)
     loop-again
     same-length
     returns)

@@ -8,27 +8,9 @@ use borrow.Author.Needs.{needs}
 use Rattle.table.proofs.trace.read_event.Statement.{statement}
 use Rattle.table.proofs.trace.read_event.Tie as tie
 
--- src/trace.rt:135:9
 returns : tie.Need-returns
 returns c = sym (event-at-end _ _ (omega (arith, c .if1 .taken)))
 
--- src/trace.rt:137:9
-read-number-requires : tie.Need-read-number-requires
-read-number-requires c κs = search needs
-
--- src/trace.rt:139:16
-enum-known-read : tie.Need-enum-known-read
-enum-known-read c = search needs
-
--- src/trace.rt:143:35
-enum-told : tie.Need-enum-told
-enum-told c = search needs
-
--- src/trace.rt:143:35
-number-refusal-requires : tie.Need-number-refusal-requires
-number-refusal-requires c κs = search needs
-
--- src/trace.rt:143:9
 kind-got : (c : tie.After-read) → NumberGot (c .before .before .before .before .before .args .bytes .now) (c .before .before .before .before .before .args .at) (c .read .given .0 .0) (c .read .given .0 .1 .0)
 kind-got c = number-got _ _ (sym (ap numberReply (c .read .given .1)) ∙ c .before .before .read-number .ensures)
 
@@ -38,11 +20,6 @@ returns-2 c =
     let r = c .before .before .before in
     rw (event-at-inside _ _ (r .before .if1 .left), c .number-refusal .ensures ∙ ap numberRefusal (c .before .enum-told .given .1), number-bad _ _ (sym (ap numberReply (c .before .enum-told .given .1)) ∙ r .read-number .ensures))
 
--- src/trace.rt:145:5
-read-kind-requires : tie.Need-read-kind-requires
-read-kind-requires c κs = search needs
-
--- src/trace.rt:131:1
 returns-3 : tie.Need-returns-3
 unfolding readEvent
 returns-3 c =
@@ -54,10 +31,10 @@ read-event-spec =
     tie.close
     (tie.spec
     returns
-    read-number-requires
-    enum-known-read
-    enum-told
-    number-refusal-requires
+    (λ c κs. search needs)
+    (λ c. search needs)
+    (λ c. search needs)
+    (λ c κs. search needs)
     returns-2
-    read-kind-requires
+    (λ c κs. search needs)
     returns-3)

@@ -7,23 +7,9 @@ use borrow.Author.Needs.{needs}
 use Rattle.table.proofs.trace.write_numbers.Statement.{statement}
 use Rattle.table.proofs.trace.write_numbers.Tie as tie
 
--- src/trace.rt:194:9
-numbers-length-requires : tie.Need-numbers-length-requires
-numbers-length-requires c κs = search needs
-
--- src/trace.rt:196:9
 returns : tie.Need-returns
 returns c = rw (wrote-short (bytesOf (listed (c .before .before .before .args .numbers))) (c .before .before .before .args .out .now) (omega arith)) (refl, refl)
 
--- src/trace.rt:198:5
-put-numbers-requires : tie.Need-put-numbers-requires
-put-numbers-requires c κs = search needs
-
--- src/trace.rt:190:1
-same-length : tie.Need-same-length
-same-length c = search needs
-
--- src/trace.rt:190:1
 returns-2 : tie.Need-returns-2
 returns-2 c =
     let e = c .before .before .before .before in
@@ -31,4 +17,4 @@ returns-2 c =
 
 pub write-numbers-spec : {M : Type 1} → statement M
 write-numbers-spec =
-    tie.close (tie.spec numbers-length-requires returns put-numbers-requires same-length returns-2)
+    tie.close (tie.spec (λ c κs. search needs) returns (λ c κs. search needs) (λ c. search needs) returns-2)

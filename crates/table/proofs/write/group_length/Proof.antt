@@ -6,18 +6,6 @@ use borrow.Author.Needs.{needs}
 use Rattle.table.proofs.write.group_length.Statement.{statement}
 use Rattle.table.proofs.write.group_length.Tie as tie
 
-cast-number-length : tie.Need-cast-number-length
-cast-number-length c = search needs
-
-number-length-requires : tie.Need-number-length-requires
-number-length-requires c κs = search needs
-
-cast-number-length-2 : tie.Need-cast-number-length-2
-cast-number-length-2 c = search needs
-
-number-length-requires-2 : tie.Need-number-length-requires-2
-number-length-requires-2 c κs = search needs
-
 five : (c : tie.After-number-length2) → (c .before .before .number-length .result ≤ 5) × (c .number-length2 .result ≤ 5)
 five c =
     let g = c .before .before .before .before .before .before .args .group in
@@ -48,10 +36,10 @@ pub group-length-spec : {M : Type 1} → statement M
 group-length-spec =
     tie.close
     (tie.spec
-    cast-number-length
-    number-length-requires
-    cast-number-length-2
-    number-length-requires-2
+    (λ c. search needs)
+    (λ c κs. search needs)
+    (λ c. search needs)
+    (λ c κs. search needs)
     add-counts
     pairs-length-requires
     add-result

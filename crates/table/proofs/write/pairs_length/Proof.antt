@@ -23,12 +23,6 @@ start c = c .before .before .before
 size : (c : tie.At-loop Inv-loop μ-loop) → length (listOf (start c .args .places .now) (start c .args .pairs)) ≡ start c .args .pairs .count
 size c = view-length (start c .args .places .now) (start c .args .pairs)
 
-cast-first : tie.Need-cast-first Inv-loop μ-loop
-cast-first c = search needs
-
-cast-count : tie.Need-cast-count Inv-loop μ-loop
-cast-count c = search needs
-
 loop-holds : tie.Need-loop-holds Inv-loop μ-loop
 loop-holds c = (search needs, search needs, tallied-none)
 
@@ -40,21 +34,6 @@ mul-unpack-pair c = omega (arith, start (c .before) .pre)
 
 element-copy-out-unpack-pair : tie.Need-element-copy-out-unpack-pair Inv-loop μ-loop
 element-copy-out-unpack-pair c = omega (arith, start (c .before) .pre)
-
-unpack-pair-requires : tie.Need-unpack-pair-requires Inv-loop μ-loop
-unpack-pair-requires c κs = search needs
-
-cast-number-length : tie.Need-cast-number-length Inv-loop μ-loop
-cast-number-length c = search needs
-
-number-length-requires : tie.Need-number-length-requires Inv-loop μ-loop
-number-length-requires c κs = search needs
-
-cast-number-length-2 : tie.Need-cast-number-length-2 Inv-loop μ-loop
-cast-number-length-2 c = search needs
-
-number-length-requires-2 : tie.Need-number-length-requires-2 Inv-loop μ-loop
-number-length-requires-2 c κs = search needs
 
 -- each number takes at most five bytes
 five : (c : tie.After-number-length2 Inv-loop μ-loop) → (c .before .before .number-length .result ≤ 5) × (c .number-length2 .result ≤ 5)
@@ -98,17 +77,17 @@ pairs-length-spec =
     (tie.spec
     Inv-loop
     μ-loop
-    cast-first
-    cast-count
+    (λ c. search needs)
+    (λ c. search needs)
     loop-holds
     add-unpack-pair
     mul-unpack-pair
     element-copy-out-unpack-pair
-    unpack-pair-requires
-    cast-number-length
-    number-length-requires
-    cast-number-length-2
-    number-length-requires-2
+    (λ c κs. search needs)
+    (λ c. search needs)
+    (λ c κs. search needs)
+    (λ c. search needs)
+    (λ c κs. search needs)
     add-total
     add-total-2
     add-i

@@ -17,15 +17,9 @@ use Rattle.table.proofs.write.put_group.Tie as tie
 room : (c : tie.Start) → c .args .at + (length (numberBytes (c .args .group .loads .count)) + length (numberBytes (c .args .group .stores .count)) + length (bytesOf (flat pairNumbers (listOf (c .args .loads .now) (c .args .group .loads)))) + length (bytesOf (flat pairNumbers (listOf (c .args .stores .now) (c .args .group .stores))))) ≤ length (c .args .out .now)
 room c = omega (arith, group-bytes (c .args .loads .now) (c .args .stores .now) (c .args .group), c .pre .1)
 
-cast-put-number : tie.Need-cast-put-number
-cast-put-number c = search needs
-
 put-number-requires : tie.Need-put-number-requires
 put-number-requires c κs =
     omega (arith, room (c .before .before .before .before .before))
-
-cast-put-number-2 : tie.Need-cast-put-number-2
-cast-put-number-2 c = search needs
 
 put-number-requires-2 : tie.Need-put-number-requires-2
 put-number-requires-2 c κs =
@@ -79,9 +73,9 @@ pub put-group-spec : {M : Type 1} → statement M
 put-group-spec =
     tie.close
     (tie.spec
-    cast-put-number
+    (λ c. search needs)
     put-number-requires
-    cast-put-number-2
+    (λ c. search needs)
     put-number-requires-2
     put-pairs-requires
     put-pairs-requires-2

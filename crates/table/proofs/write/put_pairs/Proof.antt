@@ -48,12 +48,6 @@ room u =
     let f = rw (this u, pair-length (u .unpack-pair .result)) at (flat-room pairNumbers (listed (l .before)) (l .before .loop .i) blankPair (omega (arith, size (l .before), l .loop-test .taken))) in
     omega (arith, f, start (l .before) .pre .1)
 
-cast-first : tie.Need-cast-first Inv-loop μ-loop
-cast-first c = search needs
-
-cast-count : tie.Need-cast-count Inv-loop μ-loop
-cast-count c = search needs
-
 loop-holds : tie.Need-loop-holds Inv-loop μ-loop
 loop-holds c = (search needs, put-none)
 
@@ -65,12 +59,6 @@ mul-unpack-pair c = omega (arith, start (c .before) .pre .0)
 
 element-copy-out-unpack-pair : tie.Need-element-copy-out-unpack-pair Inv-loop μ-loop
 element-copy-out-unpack-pair c = omega (arith, start (c .before) .pre .0)
-
-unpack-pair-requires : tie.Need-unpack-pair-requires Inv-loop μ-loop
-unpack-pair-requires c κs = search needs
-
-cast-put-number : tie.Need-cast-put-number Inv-loop μ-loop
-cast-put-number c = search needs
 
 put-number-requires : tie.Need-put-number-requires Inv-loop μ-loop
 put-number-requires c κs =
@@ -87,9 +75,6 @@ first-ends : (c : tie.After-put-number Inv-loop μ-loop) → let l = turn (puts 
 first-ends c =
     let w = turn (puts c) .before .loop .inv .1 in
     (c .put-number .kept .0 ∙ put-length w (omega (arith, room (puts c))), omega (arith, c .put-number .ensures .0, w .ends))
-
-cast-put-number-2 : tie.Need-cast-put-number-2 Inv-loop μ-loop
-cast-put-number-2 c = search needs
 
 put-number-requires-2 : tie.Need-put-number-requires-2 Inv-loop μ-loop
 put-number-requires-2 c κs =
@@ -135,16 +120,16 @@ put-pairs-spec =
     (tie.spec
     Inv-loop
     μ-loop
-    cast-first
-    cast-count
+    (λ c. search needs)
+    (λ c. search needs)
     loop-holds
     add-unpack-pair
     mul-unpack-pair
     element-copy-out-unpack-pair
-    unpack-pair-requires
-    cast-put-number
+    (λ c κs. search needs)
+    (λ c. search needs)
     put-number-requires
-    cast-put-number-2
+    (λ c. search needs)
     put-number-requires-2
     add-i
     loop-less

@@ -66,9 +66,6 @@ head-end c =
     let n = fields c in
     (omega (arith, n .put-number .ensures .0, c .put-number2 .ensures .0), omega (arith, n .put-number .kept .0, c .put-number2 .kept .0))
 
-group-at-requires : tie.Need-group-at-requires Inv-loop μ-loop
-group-at-requires c κs = search needs
-
 -- the group that a turn puts is the table's
 abbrev groupOf : tie.After-group-at Inv-loop μ-loop → GroupPairs
 groupOf c =
@@ -136,7 +133,7 @@ put-table-spec =
     put-number-requires
     put-number-requires-2
     loop-holds
-    group-at-requires
+    (λ c κs. search needs)
     put-group-requires
     add-i
     loop-less

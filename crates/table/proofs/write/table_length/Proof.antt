@@ -26,9 +26,6 @@ tableOf c = record { count = c .args .count; groups = c .args .groups .now; load
 loop-holds : tie.Need-loop-holds Inv-loop μ-loop
 loop-holds c = (search needs, search needs, tallied-none)
 
-group-at-requires : tie.Need-group-at-requires Inv-loop μ-loop
-group-at-requires c κs = search needs
-
 group-length-requires : tie.Need-group-length-requires Inv-loop μ-loop
 group-length-requires c κs = group-inside _ _ (c .group-at .ensures)
 
@@ -51,12 +48,6 @@ loop-again c =
     let g = pairsOf (t .loads) (t .stores) (k .group-at .result) in
     let e = group-at t (s .pre) i (l .loop-test .taken) g (k .group-at .ensures) in
     (omega (arith, l .loop-test .taken), omega (arith, c .group-length .ensures .1, l .before .loop .inv .1), tallied-more (l .before .loop .inv .2) g (omega (arith, groups-size t, l .loop-test .taken)) (rw e (c .group-length .ensures .0)))
-
-number-length-requires : tie.Need-number-length-requires Inv-loop μ-loop
-number-length-requires c κs = search needs
-
-number-length-requires-2 : tie.Need-number-length-requires-2 Inv-loop μ-loop
-number-length-requires-2 c κs = search needs
 
 parts : (c : tie.After-number-length2 Inv-loop μ-loop) → (c .before .number-length .result ≤ 5) × (c .number-length2 .result ≤ 5) × (c .before .before .before .loop .total ≤ 10400)
 parts c =
@@ -84,14 +75,14 @@ table-length-spec =
     Inv-loop
     μ-loop
     loop-holds
-    group-at-requires
+    (λ c κs. search needs)
     group-length-requires
     add-total
     add-i
     loop-less
     loop-again
-    number-length-requires
-    number-length-requires-2
+    (λ c κs. search needs)
+    (λ c κs. search needs)
     add-result
     add-result-2
     returns)

@@ -21,9 +21,6 @@ few c =
     let t = c .before .before .before .args .t1 in
     rw (groups-size t) at (table-groups-few (groupsOf t) (right c))
 
-table-fault-requires : tie.Need-table-fault-requires
-table-fault-requires c κs = search needs
-
 returns : tie.Need-returns
 unfolding wroteTable
 returns c =
@@ -46,9 +43,6 @@ put-table-requires c κs =
     let l = c .before .before .before .before .before .before in
     (few (l .before .before .before .before .before), omega (arith, l .table-length .ensures))
 
-same-length : tie.Need-same-length
-same-length c = search needs
-
 returns-3 : tie.Need-returns-3
 unfolding wroteTable
 returns-3 c =
@@ -62,10 +56,10 @@ pub write-table-spec : {M : Type 1} → statement M
 write-table-spec =
     tie.close
     (tie.spec
-    table-fault-requires
+    (λ c κs. search needs)
     returns
     table-length-requires
     returns-2
     put-table-requires
-    same-length
+    (λ c. search needs)
     returns-3)

@@ -31,6 +31,12 @@ returns-2 c = search needs
 slice-aggregate-word : tie.Need-slice-aggregate-word
 slice-aggregate-word c = sym (length-take-le _ _ (search needs))
 
+slice-aggregate-place : tie.Need-slice-aggregate-place
+slice-aggregate-place c = search needs
+
+place-requires : tie.Need-place-requires
+place-requires c κs = search needs
+
 obey-requires : tie.Need-obey-requires
 obey-requires c κs = search needs
 
@@ -56,6 +62,8 @@ one-line-spec =
     words-requires-2
     returns-2
     slice-aggregate-word
+    slice-aggregate-place
+    place-requires
     obey-requires
     same-length
     same-length-2

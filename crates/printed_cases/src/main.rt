@@ -6,68 +6,35 @@ mod show;
 mod texts;
 
 use crate::files::Lengths;
-use check::same;
 use libc::STDIN_FILENO;
 use printed::text::MOST_BYTES;
 use script::Bytes;
 use script::bytes_of;
 use script::is_text;
 use script::next_byte;
+use script::place;
 
-const TABLE: u8 = 0;
+// The names of the commands, in the order of the numbers below.
+const NAMES: [u8; 66] = *b"table trace more-table more-trace print print-short measure replay";
 
-const TRACE: u8 = 1;
+const TABLE: usize = 0;
 
-const MORE_TABLE: u8 = 2;
+const TRACE: usize = 1;
 
-const MORE_TRACE: u8 = 3;
+const MORE_TABLE: usize = 2;
 
-const PRINT: u8 = 4;
+const MORE_TRACE: usize = 3;
 
-const PRINT_SHORT: u8 = 5;
+const PRINT: usize = 4;
 
-const MEASURE: u8 = 6;
+const PRINT_SHORT: usize = 5;
 
-const REPLAY: u8 = 7;
+const MEASURE: usize = 6;
 
-const UNKNOWN: u8 = 8;
-
-// The command that changes a file.
-fn file_command(word: &[u8]) -> u8 {
-    if same(word, b"table") {
-        return TABLE;
-    }
-    if same(word, b"trace") {
-        return TRACE;
-    }
-    if same(word, b"more-table") {
-        return MORE_TABLE;
-    }
-    if same(word, b"more-trace") {
-        return MORE_TRACE;
-    }
-    UNKNOWN
-}
-
-// The command that looks at both files.
-fn run_command(word: &[u8]) -> u8 {
-    if same(word, b"print") {
-        return PRINT;
-    }
-    if same(word, b"print-short") {
-        return PRINT_SHORT;
-    }
-    if same(word, b"measure") {
-        return MEASURE;
-    }
-    if same(word, b"replay") {
-        return REPLAY;
-    }
-    UNKNOWN
-}
+const REPLAY: usize = 7;
 
 // What a command prints of both files' bytes.
-fn look(command: u8, numbers: [u8; 4], table: &[u8], trace: &[u8]) {
+fn look(command: usize, numbers: [u8; 4], table: &[u8], trace: &[u8]) {
     match command {
         PRINT => texts::print(table, trace),
         PRINT_SHORT => texts::print_short(table, trace),
@@ -78,7 +45,7 @@ fn look(command: u8, numbers: [u8; 4], table: &[u8], trace: &[u8]) {
 }
 
 // The trace is the first `length` bytes.
-fn look_at_trace(command: u8, numbers: [u8; 4], table: &[u8], trace: &[u8], length: usize) {
+fn look_at_trace(command: usize, numbers: [u8; 4], table: &[u8], trace: &[u8], length: usize) {
     if length < trace.len() {
         return look(command, numbers, table, &trace[..length]);
     }
@@ -86,7 +53,7 @@ fn look_at_trace(command: u8, numbers: [u8; 4], table: &[u8], trace: &[u8], leng
 }
 
 // Each file is the first bytes of its buffer.
-fn look_at_both(command: u8, numbers: [u8; 4], table: &[u8], trace: &[u8], lengths: Lengths) {
+fn look_at_both(command: usize, numbers: [u8; 4], table: &[u8], trace: &[u8], lengths: Lengths) {
     if lengths.table < table.len() {
         let length = lengths.table;
         return look_at_trace(command, numbers, &table[..length], trace, lengths.trace);
@@ -99,15 +66,15 @@ fn first_four(bytes: Bytes) -> [u8; 4] {
     [values[0], values[1], values[2], values[3]]
 }
 
-// A word and the bytes behind it.
+// A command and the bytes behind it.
 fn obey(
-    word: &[u8],
+    command: usize,
     bytes: Bytes,
     table: &mut [u8],
     trace: &mut [u8],
     mut lengths: Lengths,
 ) -> Lengths {
-    match file_command(word) {
+    match command {
         TABLE => {
             lengths.table = files::replace(bytes, table);
             lengths
@@ -125,7 +92,7 @@ fn obey(
             lengths
         }
         _ => {
-            look_at_both(run_command(word), first_four(bytes), table, trace, lengths);
+            look_at_both(command, first_four(bytes), table, trace, lengths);
             lengths
         }
     }
@@ -143,7 +110,7 @@ fn one_line(line: &[u8], table: &mut [u8], trace: &mut [u8], lengths: Lengths) -
         return lengths;
     }
     let word = &line[..end];
-    obey(word, bytes, table, trace, lengths)
+    obey(place(&NAMES, word), bytes, table, trace, lengths)
 }
 
 // Every line of the script, in turn.

@@ -1,8 +1,12 @@
 // The parts of a line of a script: where a part ends, decimal numbers, bytes in hexadecimal. What the programs of cases share.
 ghost use mathlib.Core.Path.{_≡_};
+ghost use Prim.Native.Nat.{_<_, _+_};
+ghost use mathlib.Core.Bool.{true, false};
+ghost use Rattle.script.specs.Shapes.{mostOf, fitsOf, taken};
 ghost use Rattle.script.specs.Lines.{NextByte, isText};
-ghost use Rattle.script.specs.Lines.{withDigit, wrongNumbers, spaced, digited, numberStep, numbersEnd, numbersFrom};
-ghost use Rattle.script.specs.Lines.{hexadecimal, wrongBytes, firstDigit, secondDigit, byteBegun, byteStep, bytesEnd, bytesFrom};
+ghost use Rattle.script.specs.Names.{lookOn, lookEnd, lookStep, lookLast, placeOf};
+ghost use Rattle.script.specs.Decimal.{withDigit, wrongNumbers, spaced, digited, numberStep, numbersEnd, numbersFrom};
+ghost use Rattle.script.specs.Hexadecimal.{hexadecimal, wrongBytes, firstDigit, secondDigit, byteBegun, byteStep, bytesEnd, bytesFrom};
 
 // The numbers of a line, as many as `count`, each with one space before it; one that is too large counts as 18446744073709551615.
 // `right` says that there was nothing else. `bare` has a meaning while the line is read: a space is not followed by a digit yet.
@@ -21,6 +25,14 @@ pub struct Bytes {
     pub high: u8,
     pub count: usize,
     pub values: [u8; 128],
+}
+
+// A search for a word among names: how many names came before, and the word's place up to which this one is `alike`.
+pub struct Looking {
+    pub found: bool,
+    pub number: usize,
+    pub at: usize,
+    pub alike: bool,
 }
 
 // Is it a heading or an empty line?
@@ -240,4 +252,167 @@ pub fn bytes_of(line: &[u8], from: usize) -> Bytes
         i += 1;
     }
     end_bytes(found)
+}
+
+fn look_on(mut looking: Looking, word: &[u8], byte: u8) -> Looking
+    ensures { λ r. ⌜ r ≡ lookOn (now (word .entry)) looking byte ⌝ }
+{
+    let at = looking.at;
+    looking.found = false;
+    if at < word.len() {
+        looking.at = at + 1;
+        if word[at] == byte {
+            return looking;
+        }
+        looking.alike = false;
+        return looking;
+    }
+    looking.alike = false;
+    looking
+}
+
+fn next_name(looking: Looking) -> Looking
+    requires { ⌜ looking .number < 18446744073709551615 ⌝ }
+    ensures { λ r. ⌜ r ≡ record { found = false; number = looking .number + 1; at = 0; alike = true } ⌝ }
+{
+    Looking {
+        found: false,
+        number: looking.number + 1,
+        at: 0,
+        alike: true,
+    }
+}
+
+fn look_end(looking: Looking, word: &[u8]) -> Looking
+    requires { ⌜ looking .number < 18446744073709551615 ⌝ }
+    ensures { λ r. ⌜ r ≡ lookEnd (now (word .entry)) looking ⌝ }
+{
+    if looking.alike {
+        if looking.at == word.len() {
+            return Looking {
+                found: true,
+                number: looking.number,
+                at: 0,
+                alike: true,
+            };
+        }
+        return next_name(looking);
+    }
+    next_name(looking)
+}
+
+fn look_step(looking: Looking, word: &[u8], byte: u8) -> Looking
+    requires { ⌜ looking .number < 18446744073709551615 ⌝ }
+    ensures { λ r. ⌜ r ≡ lookStep (now (word .entry)) looking byte ⌝ }
+{
+    if looking.found {
+        return looking;
+    }
+    if byte == b' ' {
+        return look_end(looking, word);
+    }
+    look_on(looking, word, byte)
+}
+
+fn look_last(looking: Looking, word: &[u8]) -> Looking
+    requires { ⌜ looking .number < 18446744073709551615 ⌝ }
+    ensures { λ r. ⌜ r ≡ lookLast (now (word .entry)) looking ⌝ }
+{
+    if looking.found {
+        return looking;
+    }
+    look_end(looking, word)
+}
+
+// The place of a word among names with a space between; their number where it is none of them.
+pub fn place(names: &[u8], word: &[u8]) -> usize
+    ensures { λ r. ⌜ r ≡ placeOf (now (names .entry)) (now (word .entry)) ⌝ }
+{
+    let mut looking = Looking {
+        found: false,
+        number: 0,
+        at: 0,
+        alike: true,
+    };
+    let mut i: usize = 0;
+    while i < names.len() {
+        looking = look_step(looking, word, names[i]);
+        i += 1;
+    }
+    let last = look_last(looking, word);
+    last.number
+}
+
+// The largest number that a letter stands for.
+fn most(letter: u8) -> u64
+    ensures { λ r. ⌜ r ≡ mostOf letter ⌝ }
+{
+    if letter == b'f' {
+        return 1;
+    }
+    if letter == b'k' {
+        return 6;
+    }
+    if letter == b'g' {
+        return 15;
+    }
+    if letter == b'q' {
+        return 31;
+    }
+    if letter == b'p' {
+        return 63;
+    }
+    if letter == b'r' {
+        return 80;
+    }
+    if letter == b'l' {
+        return 128;
+    }
+    if letter == b'b' {
+        return 255;
+    }
+    if letter == b'h' {
+        return 65535;
+    }
+    if letter == b'a' {
+        return 18446744073709551615;
+    }
+    4294967295
+}
+
+// May a number stand where the letter is, or none?
+fn fits(letter: u8, given: bool, value: u64) -> bool
+    ensures { λ r. ⌜ r ≡ fitsOf letter given value ⌝ }
+{
+    if given {
+        if letter == b'.' {
+            return false;
+        }
+        return value <= most(letter);
+    }
+    if letter == b'o' {
+        return true;
+    }
+    letter == b'.'
+}
+
+// Does a command take these numbers? Eight letters for each command say so.
+pub fn takes(shapes: &[u8], command: usize, found: Numbers) -> bool
+    ensures { λ r. ⌜ r ≡ taken (now (shapes .entry)) command found ⌝ }
+{
+    if !found.right {
+        return false;
+    }
+    if shapes.len() / 8 <= command {
+        return false;
+    }
+    let mut i: usize = 0;
+    while i < 8 {
+        let letter = shapes[command * 8 + i];
+        if !fits(letter, i < found.count, found.values[i]) {
+            return false;
+        }
+        i += 1;
+    }
+    true
 }

@@ -5,9 +5,6 @@ use Rattle.exports.specs.Text.{textLength}
 use Rattle.exports.proofs.lsq_text.Statement.{statement}
 use Rattle.exports.proofs.lsq_text.Tie as tie
 
-enum-told : tie.Need-enum-told
-enum-told c = search needs
-
 returns : tie.Need-returns
 returns c =
     let p = c .before .before .before .before .before .print in
@@ -24,7 +21,7 @@ lsq-text-spec =
     (tie.spec
     (λ c κs. search needs)
     (λ c. search needs)
-    enum-told
+    (λ c. search needs)
     (λ c. search needs)
     returns
     (λ c. search needs)

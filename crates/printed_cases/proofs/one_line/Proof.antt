@@ -20,6 +20,8 @@ one-line-spec =
     (λ c κs. search needs)
     (λ c. search needs)
     slice-aggregate-word
+    (λ c. search needs)
+    (λ c κs. search needs)
     (λ c κs. search needs)
     (λ c. search needs)
     (λ c. search needs)

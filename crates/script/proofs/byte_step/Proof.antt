@@ -1,5 +1,5 @@
 use borrow.Author.Tests.{eq-eqb, ne-eqb}
-use Rattle.script.specs.Lines.{byteStep}
+use Rattle.script.specs.Hexadecimal.{byteStep}
 use borrow.Author.Needs.{needs}
 use Rattle.script.proofs.byte_step.Statement.{statement}
 use Rattle.script.proofs.byte_step.Tie as tie

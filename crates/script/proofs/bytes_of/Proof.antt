@@ -3,7 +3,7 @@ use Prim.Native.Nat.{_-_}
 use borrow.Author.Needs.{needs}
 use lib.ListN.{length, drop}
 use native.Mathlib.Numerals.{add-one}
-use Rattle.script.specs.Lines.{byteSteps, noBytes}
+use Rattle.script.specs.Hexadecimal.{byteSteps, noBytes}
 use Rattle.script.proofs.LineLaws.{byte-steps-next, byte-steps-end}
 use Rattle.script.proofs.bytes_of.Statement.{statement}
 use Rattle.script.proofs.bytes_of.Tie as tie

@@ -1,5 +1,5 @@
 use borrow.Author.Tests.{lt-ltb, le-ltb, eq-eqb, ne-eqb}
-use Rattle.script.specs.Lines.{numberStep}
+use Rattle.script.specs.Decimal.{numberStep}
 use borrow.Author.Needs.{needs}
 use Rattle.script.proofs.number_step.Statement.{statement}
 use Rattle.script.proofs.number_step.Tie as tie

@@ -3,7 +3,7 @@ use Prim.Native.Nat.{_-_}
 use borrow.Author.Needs.{needs}
 use lib.ListN.{length, drop}
 use native.Mathlib.Numerals.{add-one}
-use Rattle.script.specs.Lines.{numberSteps, noNumbers}
+use Rattle.script.specs.Decimal.{numberSteps, noNumbers}
 use Rattle.script.proofs.LineLaws.{number-steps-next, number-steps-end}
 use Rattle.script.proofs.numbers_of.Statement.{statement}
 use Rattle.script.proofs.numbers_of.Tie as tie

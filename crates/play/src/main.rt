@@ -1,6 +1,7 @@
 // Prints the run of the files table.bin and trace.bin of the current folder.
 ghost use Prim.Native.Nat.{_≤_};
 ghost use lib.ListN.{length};
+use libc::STDERR_FILENO;
 use libc::STDOUT_FILENO;
 use printed::text::MOST_BYTES;
 use printed::text::MOST_TEXT;
@@ -29,12 +30,22 @@ fn read_file(name: &[u8], into: &mut [u8]) -> usize
     n
 }
 
+// Writes all of the text to standard output; where that fails, says so on standard error, since part of the text may be lost.
+fn write_out(text: &[u8]) {
+    if !io::write_all(STDOUT_FILENO, text) {
+        io::write_all(
+            STDERR_FILENO,
+            b"play: standard output took only part of the text\n",
+        );
+    }
+}
+
 // Prints the text of both files' bytes.
 fn show(table: &[u8], trace: &[u8]) {
     let mut out = text_buffer();
     let written = printed::text::print(table, trace, &mut out);
     if let Written::Bytes(n) = written {
-        io::write_all(STDOUT_FILENO, &out[..n]);
+        write_out(&out[..n]);
     }
 }
 

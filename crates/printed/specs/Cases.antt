@@ -9,6 +9,7 @@ use Rattle.table.specs.TableBytes.{readGroup, readTable}
 use Rattle.queue.specs.Ruled.{number}
 use Rattle.queue.specs.Open.{openQueue}
 use Rattle.queue.specs.Counts.{share}
+use Rattle.printed.specs.Words.{bytes}
 use Rattle.printed.specs.Text.{text}
 
 pub record Case : Type 0 where
@@ -59,82 +60,21 @@ k1Seven = k1Two ++ 0x01 ∷ 0x00 ∷ 0x03 ∷ 0x01 ∷ 0x00 ∷ 0x03 ∷ 0x04 �
 abbrev pub k1Trace : List ℕ
 k1Trace = k1Header ++ k1Seven ++ 0x02 ∷ 0x00 ∷ 0x03 ∷ 0x03 ∷ 0x00 ∷ 0x01 ∷ 0x04 ∷ 0x00 ∷ 0x05 ∷ 0xFF ∷ 0xFF ∷ 0xFF ∷ 0xFF ∷ 0x0F ∷ 0x06 ∷ 0x00 ∷ []
 
--- 1 0 -
-abbrev pub k1Line1 : List ℕ
-k1Line1 = 49 ∷ 32 ∷ 48 ∷ 32 ∷ 45 ∷ 10 ∷ []
-
--- 2 0 -
-abbrev pub k1Line2 : List ℕ
-k1Line2 = 50 ∷ 32 ∷ 48 ∷ 32 ∷ 45 ∷ 10 ∷ []
-
--- 3 0 -
-abbrev pub k1Line3 : List ℕ
-k1Line3 = 51 ∷ 32 ∷ 48 ∷ 32 ∷ 45 ∷ 10 ∷ []
-
--- 4 0 -
-abbrev pub k1Line4 : List ℕ
-k1Line4 = 52 ∷ 32 ∷ 48 ∷ 32 ∷ 45 ∷ 10 ∷ []
-
--- 5 28 -
-abbrev pub k1Line5 : List ℕ
-k1Line5 = 53 ∷ 32 ∷ 50 ∷ 56 ∷ 32 ∷ 45 ∷ 10 ∷ []
-
--- 6 0 0
-abbrev pub k1Line6 : List ℕ
-k1Line6 = 54 ∷ 32 ∷ 48 ∷ 32 ∷ 48 ∷ 10 ∷ []
-
--- 7 0 0
-abbrev pub k1Line7 : List ℕ
-k1Line7 = 55 ∷ 32 ∷ 48 ∷ 32 ∷ 48 ∷ 10 ∷ []
-
--- 8 0 -
-abbrev pub k1Line8 : List ℕ
-k1Line8 = 56 ∷ 32 ∷ 48 ∷ 32 ∷ 45 ∷ 10 ∷ []
-
--- 9 0 -
-abbrev pub k1Line9 : List ℕ
-k1Line9 = 57 ∷ 32 ∷ 48 ∷ 32 ∷ 45 ∷ 10 ∷ []
-
--- 10 0 1
-abbrev pub k1Line10 : List ℕ
-k1Line10 = 49 ∷ 48 ∷ 32 ∷ 48 ∷ 32 ∷ 49 ∷ 10 ∷ []
-
--- 11 0 -
-abbrev pub k1Line11 : List ℕ
-k1Line11 = 49 ∷ 49 ∷ 32 ∷ 48 ∷ 32 ∷ 45 ∷ 10 ∷ []
-
--- 12 0 1
-abbrev pub k1Line12 : List ℕ
-k1Line12 = 49 ∷ 50 ∷ 32 ∷ 48 ∷ 32 ∷ 49 ∷ 10 ∷ []
-
--- word 3 1
-abbrev pub k1Line13 : List ℕ
-k1Line13 = 119 ∷ 111 ∷ 114 ∷ 100 ∷ 32 ∷ 51 ∷ 32 ∷ 49 ∷ 10 ∷ []
-
--- loads 2 forwarded 1 share 500
-abbrev pub k1Line14 : List ℕ
-k1Line14 = 108 ∷ 111 ∷ 97 ∷ 100 ∷ 115 ∷ 32 ∷ 50 ∷ 32 ∷ 102 ∷ 111 ∷ 114 ∷ 119 ∷ 97 ∷ 114 ∷ 100 ∷ 101 ∷ 100 ∷ 32 ∷ 49 ∷ 32 ∷ 115 ∷ 104 ∷ 97 ∷ 114 ∷ 101 ∷ 32 ∷ 53 ∷ 48 ∷ 48 ∷ 10 ∷ []
-
+-- what the paper says that it prints
 abbrev pub k1Text : List ℕ
-k1Text = (k1Line1 ++ (k1Line2 ++ (k1Line3 ++ (k1Line4 ++ (k1Line5 ++ (k1Line6 ++ (k1Line7 ++ (k1Line8 ++ (k1Line9 ++ (k1Line10 ++ (k1Line11 ++ (k1Line12 ++ (k1Line13 ++ k1Line14)))))))))))))
-
--- loads 0 forwarded 0 share 0
-abbrev pub k0Line : List ℕ
-k0Line = 108 ∷ 111 ∷ 97 ∷ 100 ∷ 115 ∷ 32 ∷ 48 ∷ 32 ∷ 102 ∷ 111 ∷ 114 ∷ 119 ∷ 97 ∷ 114 ∷ 100 ∷ 101 ∷ 100 ∷ 32 ∷ 48 ∷ 32 ∷ 115 ∷ 104 ∷ 97 ∷ 114 ∷ 101 ∷ 32 ∷ 48 ∷ 10 ∷ []
-
--- loads 1 forwarded 0 share 0
-abbrev pub k0Second : List ℕ
-k0Second = 108 ∷ 111 ∷ 97 ∷ 100 ∷ 115 ∷ 32 ∷ 49 ∷ 32 ∷ 102 ∷ 111 ∷ 114 ∷ 119 ∷ 97 ∷ 114 ∷ 100 ∷ 101 ∷ 100 ∷ 32 ∷ 48 ∷ 32 ∷ 115 ∷ 104 ∷ 97 ∷ 114 ∷ 101 ∷ 32 ∷ 48 ∷ 10 ∷ []
+k1Text =
+    bytes "1 0 -\n2 0 -\n3 0 -\n4 0 -\n5 28 -\n6 0 0\n7 0 0\n"
+    ++ bytes "8 0 -\n9 0 -\n10 0 1\n11 0 -\n12 0 1\nword 3 1\nloads 2 forwarded 1 share 500\n"
 
 -- K8: a third activation, after event 2 and after event 7; K9: address 4
 abbrev pub k8First : List ℕ
-k8First = k1Line1 ++ k1Line2 ++ 51 ∷ 32 ∷ 50 ∷ 49 ∷ 32 ∷ 45 ∷ 10 ∷ k0Line
+k8First = bytes "1 0 -\n2 0 -\n3 21 -\nloads 0 forwarded 0 share 0\n"
 
 abbrev pub k8Second : List ℕ
-k8Second = k1Line1 ++ (k1Line2 ++ (k1Line3 ++ (k1Line4 ++ (k1Line5 ++ (k1Line6 ++ (k1Line7 ++ 56 ∷ 32 ∷ 50 ∷ 49 ∷ 32 ∷ 45 ∷ 10 ∷ k0Second))))))
+k8Second = bytes "1 0 -\n2 0 -\n3 0 -\n4 0 -\n5 28 -\n6 0 0\n7 0 0\n8 21 -\nloads 1 forwarded 0 share 0\n"
 
 abbrev pub k9Text : List ℕ
-k9Text = k1Line1 ++ k1Line2 ++ 51 ∷ 32 ∷ 50 ∷ 51 ∷ 32 ∷ 45 ∷ 10 ∷ k0Line
+k9Text = bytes "1 0 -\n2 0 -\n3 23 -\nloads 0 forwarded 0 share 0\n"
 
 -- K5's group, and K6's
 abbrev pub k5Group : List ℕ

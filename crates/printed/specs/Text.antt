@@ -13,7 +13,7 @@ use Rattle.queue.specs.Ruled.{Ruled, refuse, accept}
 use Rattle.queue.specs.Counts.{share}
 use Rattle.replay.specs.Playing.{Logged}
 use Rattle.replay.specs.Replay.{Start, prepare, Replay, replayed}
-use Rattle.printed.specs.Words.{tableWord, traceWord, wordWord, loadsWord, forwardedWord, shareWord, dash, line}
+use Rattle.printed.specs.Words.{bytes, line}
 use Rattle.printed.specs.Decimal.{decimal}
 
 -- "each at most 16,384 bytes (else 36, checked first for that file)"
@@ -25,7 +25,7 @@ fileTooLong = 36
 
 -- the value of an accepted serve or take, else `-`
 abbrev pub shown : Option ℕ → List ℕ
-shown none = dash
+shown none = bytes "-"
 shown (some v) = decimal v
 
 -- "one line per event: its number from 1, the answer, and the value"
@@ -38,7 +38,7 @@ eventLines n (l ∷ ls) = eventLine n l ++ eventLines (suc n) ls
 
 -- "then `word`, address and content for each word not 0, by address"
 abbrev pub wordLine : ℕ → ℕ → List ℕ
-wordLine a w = pick (eqb w 0) [] (line wordWord (decimal a ∷ decimal w ∷ []))
+wordLine a w = pick (eqb w 0) [] (line (bytes "word") (decimal a ∷ decimal w ∷ []))
 
 abbrev pub wordLines : ℕ → List ℕ → List ℕ
 wordLines a [] = []
@@ -46,7 +46,7 @@ wordLines a (w ∷ ws) = wordLine a w ++ wordLines (suc a) ws
 
 -- "then one line of `loads`, `forwarded` and `share`, each followed by its number"
 abbrev pub countsLine : Counts → List ℕ
-countsLine c = line loadsWord (decimal (c .loads) ∷ forwardedWord ∷ decimal (c .forwarded) ∷ shareWord ∷ decimal (share c) ∷ [])
+countsLine c = line (bytes "loads") (decimal (c .loads) ∷ bytes "forwarded" ∷ decimal (c .forwarded) ∷ bytes "share" ∷ decimal (share c) ∷ [])
 
 abbrev pub playText : Replay → List ℕ
 playText r = eventLines 1 (r .log) ++ wordLines 0 (r .left .machine .memory) ++ countsLine (r .left .counts)
@@ -55,10 +55,10 @@ abbrev pub noCounts : Counts
 noCounts = record { loads = 0; forwarded = 0 }
 
 abbrev pub tableFaultText : ℕ → List ℕ
-tableFaultText n = line tableWord (decimal n ∷ [])
+tableFaultText n = line (bytes "table") (decimal n ∷ [])
 
 abbrev pub traceFaultText : ℕ → List ℕ
-traceFaultText n = line traceWord (decimal n ∷ [])
+traceFaultText n = line (bytes "trace") (decimal n ∷ [])
 
 -- "a fault in the trace's four leading numbers, then in opening, then in any event, found before one is played, prints
 -- `trace N`"; else the events are played on a memory all zero

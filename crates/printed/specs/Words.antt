@@ -1,34 +1,18 @@
 -- The words of the printed run, as bytes.
 use Prim.Native.Nat.{ℕ}
+use Prim.Native.Char.{code}
+use Prim.Native.String.{String, []ˢ, _∷ˢ_}
 use mathlib.Core.List.{List, [], _∷_, _++_}
 
--- table, trace, word, loads, forwarded, share
-abbrev pub tableWord : List ℕ
-tableWord = 116 ∷ 97 ∷ 98 ∷ 108 ∷ 101 ∷ []
-
-abbrev pub traceWord : List ℕ
-traceWord = 116 ∷ 114 ∷ 97 ∷ 99 ∷ 101 ∷ []
-
-abbrev pub wordWord : List ℕ
-wordWord = 119 ∷ 111 ∷ 114 ∷ 100 ∷ []
-
-abbrev pub loadsWord : List ℕ
-loadsWord = 108 ∷ 111 ∷ 97 ∷ 100 ∷ 115 ∷ []
-
-abbrev pub forwardedWord : List ℕ
-forwardedWord = 102 ∷ 111 ∷ 114 ∷ 119 ∷ 97 ∷ 114 ∷ 100 ∷ 101 ∷ 100 ∷ []
-
-abbrev pub shareWord : List ℕ
-shareWord = 115 ∷ 104 ∷ 97 ∷ 114 ∷ 101 ∷ []
-
--- `-`, for no value
-abbrev pub dash : List ℕ
-dash = 45 ∷ []
+-- A text as its bytes. All texts are ASCII, where a character's code is its byte.
+abbrev pub bytes : String → List ℕ
+bytes []ˢ = []
+bytes (c ∷ˢ s) = code c ∷ bytes s
 
 -- "One space parts fields": a line of fields, ended by a line feed.
 abbrev pub moreFields : List (List ℕ) → List ℕ
-moreFields [] = 10 ∷ []
-moreFields (f ∷ fs) = 32 ∷ f ++ moreFields fs
+moreFields [] = bytes "\n"
+moreFields (f ∷ fs) = bytes " " ++ f ++ moreFields fs
 
 abbrev pub line : List ℕ → List (List ℕ) → List ℕ
 line f fs = f ++ moreFields fs

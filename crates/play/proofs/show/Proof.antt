@@ -19,8 +19,8 @@ fits c =
 array-share-prefix-out : tie.Need-array-share-prefix-out
 array-share-prefix-out c = fits c
 
-slice-aggregate-write-all : tie.Need-slice-aggregate-write-all
-slice-aggregate-write-all c = sym (length-take-le _ _ (fits (c .before)))
+slice-aggregate-write-out : tie.Need-slice-aggregate-write-out
+slice-aggregate-write-out c = sym (length-take-le _ _ (fits (c .before)))
 
 pub show-spec : {M : Type 1} → statement M
 show-spec =
@@ -31,7 +31,7 @@ show-spec =
     (λ c κs. search needs)
     (λ c. search needs)
     array-share-prefix-out
-    slice-aggregate-write-all
+    slice-aggregate-write-out
     (λ c κs. search needs)
     (λ c. search needs)
     (λ c. search needs)

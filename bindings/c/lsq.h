@@ -34,6 +34,9 @@ extern "C" {
 #define LSQ_HOLDS(condition) _Static_assert(condition, #condition)
 #endif
 
+/* The version of this header and of the Rust wrapper. */
+#define LSQ_VERSION "0.1.0"
+
 /* The least length of the text buffer of lsq_text: no text is longer. */
 #define LSQ_TEXT_BYTES 1224789
 
@@ -302,10 +305,10 @@ lsq_listed lsq_ready_stores_in(lsq_frame frame, const uint64_t *loads, size_t lo
  *
  * Whatever a queue holds when it comes back, the calls test it (40) and go by
  * what it holds. That each port gets the values of one access after another is
- * proved of every list of the queue's own calls on the records that an opened
- * frame and two runs make, on one memory (frames-demand3 of the crate queue).
- * The library's functions are stated by the same rules, call by call; no
- * theorem speaks of lists of them. */
+ * proved of every list of calls on parts, from an opened frame with any two runs
+ * of LSQ_ENTRIES numbers, on one memory (parts-demand3 of the crate queue). Each
+ * of the library's functions states the same rule of the same parts; no theorem
+ * speaks of lists of these functions. */
 typedef struct lsq_queue {
     lsq_frame frame;
     uint64_t loads[LSQ_ENTRIES], stores[LSQ_ENTRIES];

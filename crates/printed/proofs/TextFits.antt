@@ -35,7 +35,7 @@ use Rattle.queue.proofs.Refusals.{andThen-accepts}
 use Rattle.replay.specs.Playing.{Playing, playing, stepOf, played, log, playedAll}
 use Rattle.replay.specs.Replay.{Start, startOf, openTrace, prepare, replayed}
 use Rattle.replay.proofs.EventLaws.{events-few-from}
-use Rattle.replay.proofs.PrepareLaws.{header-shorter}
+use Rattle.table.proofs.TraceSteps.{header-shorter}
 use Rattle.printed.specs.Text.{mostBytes, fileTooLong, tableFaultText, traceFaultText, noCounts, eventLines, wordLines, countsLine, playText, startText, traceText, groupsText, text}
 use Rattle.printed.specs.Outcome.{mostText, TextFits, TextSome, printed}
 use Rattle.printed.specs.Internal.{item}

@@ -20,6 +20,7 @@ use Rattle.printed.specs.Decimal.{decimal}
 abbrev pub mostBytes : ℕ
 mostBytes = 16384
 
+-- the refusal of a file above 16,384 bytes
 abbrev pub fileTooLong : ℕ
 fileTooLong = 36
 

@@ -23,8 +23,9 @@ use table::refusal::TOO_SHORT;
 // A file is at most this long.
 pub const MOST_BYTES: usize = 16384;
 
+// the refusal of a longer file
 const FILE_TOO_LONG: u64 = 36;
-// No text is longer.
+// no text is longer
 pub const MOST_TEXT: usize = 1224789;
 
 // Room for an answer to each event, and for its value.

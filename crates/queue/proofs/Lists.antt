@@ -103,7 +103,7 @@ module _ {A : Type 0} where
       go true h = omega arith
       go false h = h
 
-  -- ---- takeWhile, dropWhile
+  -- ---- frontWhile, afterWhile
 
   pub all-frontWhile : (p : A → Bool) (xs : List A) → allOf p (frontWhile p xs) ≡ true
   all-frontWhile p [] = refl

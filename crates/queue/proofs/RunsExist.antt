@@ -20,7 +20,7 @@ use Rattle.queue.specs.Ruled.{Ruled, refuse, accept, number}
 use Rattle.queue.specs.Contents.{Contents, contentsOf}
 use Rattle.queue.specs.Sound.{sound}
 use Rattle.queue.specs.Open.{opened, openQueue}
-use Rattle.queue.specs.NoQueue.{freshFrame, freshQueue}
+use Rattle.queue.specs.NoQueue.{noQueue, freshFrame, freshQueue}
 use Rattle.queue.specs.Activate.{activate}
 use Rattle.queue.specs.Serve.{Served, serve}
 use Rattle.queue.specs.Write.{Written, write}
@@ -227,24 +227,18 @@ openings-exist table memory loadDepth storeDepth first small accepted =
     go (openQueue (groupsOf table) loadDepth storeDepth first (length memory)) refl accepted
   where
     go : (rule : Ruled Contents) → openQueue (groupsOf table) loadDepth storeDepth first (length memory) ≡ rule → number rule ≡ 0
-        → (o : Opened) × OpenedRecord table memory o × Stored (o .queue) × (o .queue .frame .table ≡ table)
+        → (o : Opened) × Opens noQueue (openQueue (groupsOf table) loadDepth storeDepth first (length memory)) o × (o .answer ≡ 0)
+        × Stored (o .queue) × (o .queue .frame .table ≡ table)
     go (refuse n) e z = absurd (eqb-false n 0 (open-refuses (groupsOf table) loadDepth storeDepth first (length memory) n e) z)
     go (accept c) e z =
         let (limits, queue-is) = limits-opened (groupsOf table) loadDepth storeDepth first (length memory) c e in
         let fresh : Queue = freshQueue (freshFrame table loadDepth storeDepth first (length memory)) in
         let holds : contentsOf fresh ≡ c = fresh-holds table loadDepth storeDepth first (length memory) ∙ queue-is in
         let zeros : StoredEntries (replicate 64 0) = record { places = refl; numbers = refl } in
-        let opens : Opens fresh (accept c) (record { answer = 0; queue = fresh }) = (refl, holds) in (
+        let opens : Opens noQueue (accept c) (record { answer = 0; queue = fresh }) = (refl, holds) in (
           record { answer = 0; queue = fresh },
-          record {
-            loadDepth = loadDepth;
-            storeDepth = storeDepth;
-            first = first;
-            serial = small;
-            refused = fresh;
-            opens = rw e opens;
-            accepted = refl;
-          },
+          rw e opens,
+          refl,
           fresh-stored table loadDepth storeDepth first (length memory) small limits (replicate 64 0) (replicate 64 0) zeros zeros,
           refl,
         )

@@ -22,7 +22,7 @@ use Rattle.queue.specs.Calls.{Call, Activate, Give, Serve, Write, Take, 
 use Rattle.queue.specs.Call.{ready, Answered}
 use Rattle.queue.specs.Records.{Hands, Runs, done, next}
 use Rattle.queue.specs.RunsExist.{StoredEntries, Stored, StoredOutcome, Throughout, SomeRun}
-use Rattle.queue.specs.RunsOnParts.{onEntries, HandsOnParts, RunsOnParts, ended, more}
+use Rattle.queue.specs.RunsOnParts.{onEntries, HandsOnParts, RunsOnParts, ended, more, ThroughoutParts}
 use Rattle.queue.specs.RunsOnParts.{ServeInHands, ReadyInHands, PartsAreRecords, PartsDemand3, RunsOnPartsExist}
 use Rattle.queue.proofs.PartsLaws.{both-whole}
 use Rattle.queue.proofs.Run.{limits-opened}
@@ -77,7 +77,7 @@ hands-on-parts q m (Write s) r left e w = rw e w
 hands-on-parts q m (Take p) r left e w = rw e w
 hands-on-parts q m (Ready side run) r left e w = rw e w
 
-runs-on-parts : {q q₂ : Queue} {m m₂ : List ℕ} {calls : List Call} {log : List Answered} (table : Table)
+unfoldable runs-on-parts : {q q₂ : Queue} {m m₂ : List ℕ} {calls : List Call} {log : List Answered} (table : Table)
     → length (q .«load_entries») ≡ 64 → length (q .«store_entries») ≡ 64
     → (run : Runs q m calls log q₂ m₂) → Throughout (StoredOutcome table) run → RunsOnParts q m calls log q₂ m₂
 runs-on-parts table l s done t = ended
@@ -88,6 +88,13 @@ runs-on-parts table l s (next {q} {m = m} {m₁} {c = c} r h k) (held, t) =
     (hands-on-parts q m c r m₁ (both-whole (q .«load_entries») (q .«store_entries») l s) h)
     (record { loads = l₁ ∙ sym l; stores = s₁ ∙ sym s })
     (runs-on-parts table l₁ s₁ k t)
+
+parts-stored : {q q₂ : Queue} {m m₂ : List ℕ} {calls : List Call} {log : List Answered} (table : Table)
+    (l : length (q .«load_entries») ≡ 64) (s : length (q .«store_entries») ≡ 64)
+    (run : Runs q m calls log q₂ m₂) (t : Throughout (StoredOutcome table) run) → ThroughoutParts (StoredOutcome table) (runs-on-parts table l s run t)
+unfolding runs-on-parts
+parts-stored table l s done t = tt
+parts-stored table l s (next r h k) (held, t) = (held, parts-stored table (held .queue .loadEntries .places) (held .queue .storeEntries .places) k t)
 
 -- an opened frame, with any two runs of 64 numbers, is one that a program holds
 frame-stored : (table : Table) (loadDepth storeDepth first : ℕ) (memory : List ℕ) (o : OpenedFrame) → first < 2 ^ 32
@@ -116,4 +123,5 @@ runs-on-parts-exist table loadDepth storeDepth first memory o small opens accept
       last = some .last;
       left = some .left;
       run = runs-on-parts (o .frame .table) (ls .places) (ss .places) (some .run) (some .stored stored);
+      stored = parts-stored (o .frame .table) (ls .places) (ss .places) (some .run) (some .stored stored);
     }

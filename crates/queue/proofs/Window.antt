@@ -249,7 +249,7 @@ module _ {A B : Type 0} (K : Kind A) (K′ : Kind B) (opposite : Opposite K K′
     shows = w .shows;
   }
 
-  -- of the other side so many have left, and the others are queued
+  -- of the other side `gone` have left, and the others are queued
   pub others-queued : (log : List Entry) {gone gone′ : ℕ} {held′ : List B} → Window K′ log gone′ gone held′ → others K log ≡ gone′ + length held′
   others-queued log {gone} {gone′} {held′} w =
       others-length log ∙ sym (side-length K′ 0 log) ∙ ap length (w .parts) ∙ length-append (w .old) (w .live)

@@ -19,7 +19,7 @@ newLoad port before = record { port = port; address = none; value = none; taken 
 abbrev pub newStore : ℕ → ℕ → Store
 newStore port before = record { port = port; address = none; word = none; written = false; before = before }
 
--- The new entries of accesses in program order, where `before` of the other kind are queued before them.
+-- The new entries of accesses in program order, by how many of the other kind are queued before them.
 abbrev pub newLoads : ℕ → List Access → List Load
 newLoads stores [] = []
 newLoads stores (load p ∷ rest) = newLoad p stores ∷ newLoads stores rest

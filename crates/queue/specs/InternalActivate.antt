@@ -14,7 +14,7 @@ use Rattle.queue.specs.Contents.{Load, Store, Contents, after}
 use Rattle.queue.specs.Activate.{newLoad, newStore}
 use Rattle.queue.specs.Internal.{entriesIn}
 
--- the entry of a pair, where `others` of the other kind are held
+-- the entry of a pair, where this many of the other kind are held
 abbrev pub loadAfter : ℕ → Pair → Load
 loadAfter stores p = newLoad (p .port) (stores + p .offset)
 

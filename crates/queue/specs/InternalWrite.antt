@@ -22,7 +22,7 @@ use Rattle.queue.specs.Internal.{entriesIn, loadsIn, storesIn, has}
 abbrev pub givesWay : Mark → ℕ → Entry → Bool
 givesWay done a e = has done e || pick (e .addressed) (not (eqb (e .address) a)) false
 
--- an entry after `others` of the other kind have left
+-- an entry after n of the other kind have left
 abbrev pub lowered : ℕ → Entry → Entry
 lowered n e =
     record { port = e .port; before = e .before - n; addressed = e .addressed; filled = e .filled; finished = e .finished; address = e .address; word = e .word }

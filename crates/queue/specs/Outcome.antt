@@ -34,7 +34,7 @@ pub record Handed : Type 0 where
 abbrev pub handed : Outcome → Handed
 handed r = record { answer = r .answer; value = valueIn (r .value); queue = r .queue }
 
--- this number, no value, and this very queue: what a refused call hands back
+-- this number, no value, and this very queue: what a refused call hands back, and every ready call
 abbrev pub noValue : ℕ → Queue → Handed
 noValue n q = record { answer = n; value = none; queue = q }
 
@@ -61,7 +61,7 @@ pub record ServedWell (s : Served) (c : Counts) (r : Counted) : Type 0 where
   pub holds : contentsOf (r .queue) ≡ s .queue
   pub counts : r .counts ≡ counted (s .forwarded) c
 
--- the same, with the counts that follow
+-- what a serve hands back in the same terms, with the counts that follow
 pub record HandedCounts : Type 0 where
   pub outcome : Handed
   pub counts : Counts

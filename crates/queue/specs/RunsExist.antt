@@ -18,7 +18,8 @@ use Rattle.queue.specs.Ruled.{number}
 use Rattle.queue.specs.Open.{openQueue}
 use Rattle.queue.specs.Calls.{Call, Activate, Give, Serve, Write, Take, Ready}
 use Rattle.queue.specs.Call.{Answered}
-use Rattle.queue.specs.Outcome.{valueIn}
+use Rattle.queue.specs.Outcome.{valueIn, Opens}
+use Rattle.queue.specs.NoQueue.{noQueue}
 use Rattle.queue.specs.Records.{Runs, done, next, OpenedRecord}
 
 -- a number below 2 to the power `bits`; a word of 32 bits, where there is one
@@ -77,12 +78,14 @@ pub record SomeRun (q : Queue) (memory : List ℕ) (calls : List Call) : Type 0 
   pub run : Runs q memory calls log last left
   pub stored : Stored q → Throughout (StoredOutcome (q .frame .table)) run
 
--- An opening exists: where the rule accepts, there is a record that it may hand back, and one that a program holds.
+-- An opening exists: where the rule accepts these depths and this serial, there is a record that opening with them may hand
+-- back, and that a program holds.
 abbrev pub OpeningsExist : Type 0
 OpeningsExist =
     (table : Table) (memory : List ℕ) (loadDepth storeDepth first : ℕ) → first < 2 ^ 32 →
     number (openQueue (groupsOf table) loadDepth storeDepth first (length memory)) ≡ 0 →
-    (o : Opened) × OpenedRecord table memory o × Stored (o .queue) × (o .queue .frame .table ≡ table)
+    (o : Opened) × Opens noQueue (openQueue (groupsOf table) loadDepth storeDepth first (length memory)) o × (o .answer ≡ 0)
+    × Stored (o .queue) × (o .queue .frame .table ≡ table)
 
 -- A run exists: after an accepted opening, with any memory of the length opened for whose words are of 32 bits.
 abbrev pub RunsExist : Type 0

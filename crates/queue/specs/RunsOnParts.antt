@@ -32,7 +32,7 @@ use Rattle.queue.specs.Call.{give, ready, Answered}
 use Rattle.queue.specs.Plain.{Filling}
 use Rattle.queue.specs.Demand3.{Sequential}
 use Rattle.queue.specs.Records.{logged, machineOf, Runs}
-use Rattle.queue.specs.RunsExist.{fits, argumentFits, StoredEntries}
+use Rattle.queue.specs.RunsExist.{fits, argumentFits, StoredEntries, StoredOutcome}
 
 -- a rule, on the runs of entries of the record that the parts make
 abbrev pub onEntries : {A : Type 0} → Queue → Ruled A → Ruled A
@@ -48,7 +48,8 @@ HandsOnParts q m (Write s) r left = Writes q m (onEntries q (write (contentsOf q
 HandsOnParts q m (Take p) r left = Takes q (onEntries q (takeRule (contentsOf q) p)) r × (left ≡ m)
 HandsOnParts q m (Ready side run) r left = (handed r ≡ noValue (number (onEntries q (ready side (contentsOf q) run))) q) × (left ≡ m)
 
--- A lent run keeps its length: no call has a way to change it.
+-- A lent run keeps its length. No contract says so: it is the language's own rule of a lent slice, which the logic tells every
+-- caller of a function that one is lent to.
 pub record SameLengths (q r : Queue) : Type 0 where
   pub loads : length (r .«load_entries») ≡ length (q .«load_entries»)
   pub stores : length (r .«store_entries») ≡ length (q .«store_entries»)
@@ -60,7 +61,8 @@ pub data RunsOnParts : Queue → List ℕ → List Call → List Answered → Qu
       → HandsOnParts q m c r m₁ → SameLengths q (r .queue) → RunsOnParts (r .queue) m₁ cs log q₂ m₂
       → RunsOnParts q m (c ∷ cs) (logged c r ∷ log) q₂ m₂
 
--- The contracts of `serve_in`, and of `ready_loads_in` and `ready_stores_in`, give this; those of the others say it as it stands.
+-- The contracts of `serve_in`, and of `ready_loads_in` and `ready_stores_in`, give what is handed over; those of the others say it
+-- as it stands.
 abbrev pub ServeInHands : Type 0
 ServeInHands =
     (q after : Queue) (m : List ℕ) (lent : Counts) (serial : ℕ) (s : Service) →
@@ -94,12 +96,19 @@ PartsDemand3 =
     (fill : Filling) → ((k : ℕ) → fill .address k < length memory) →
     Sequential (groupsOf table) memory log (machineOf q left) fill
 
--- And there is such a list of calls, as there is a run of records (`RunsExist`).
+-- so it is after every call of such a list
+abbrev pub ThroughoutParts : (Outcome → List ℕ → Type 0) → {q q₂ : Queue} {m m₂ : List ℕ} {calls : List Call} {log : List Answered} →
+    RunsOnParts q m calls log q₂ m₂ → Type 0
+ThroughoutParts P ended = Unit {0}
+ThroughoutParts P (more {m₁ = m₁} r hands same run) = P r m₁ × ThroughoutParts P run
+
+-- And there is such a list of calls, as there is a run of records (`RunsExist`): all that it hands over is what a program holds.
 pub record SomeRunOnParts (q : Queue) (memory : List ℕ) (calls : List Call) : Type 0 where
   pub log : List Answered
   pub last : Queue
   pub left : List ℕ
   pub run : RunsOnParts q memory calls log last left
+  pub stored : ThroughoutParts (StoredOutcome (q .frame .table)) run
 
 abbrev pub RunsOnPartsExist : Type 0
 RunsOnPartsExist =

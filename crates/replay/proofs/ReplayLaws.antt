@@ -29,7 +29,7 @@ use Rattle.replay.specs.Playing.{Playing, playing, stepOf, played, Logge
 use Rattle.replay.specs.Replay.{Start, prepare, Replay, replayed, Buffers, fits, replay}
 use Rattle.replay.specs.Outcome.{over, logIn, Replays, Replayed-as}
 use Rattle.replay.specs.Internal.{Plays, Put, Playable, eventsIn, through}
-use Rattle.replay.proofs.EventLaws.{EventGot}
+use Rattle.table.proofs.TraceSteps.{EventGot}
 
 abbrev pub buffers : List ℕ → List ℕ → List ℕ → Buffers
 buffers a g w = record { answers = a; given = g; words = w }

@@ -24,7 +24,7 @@ use Rattle.table.specs.Packed.{pairIn, packedPair, SmallPair}
 use Rattle.table.specs.Group.{GroupPairs}
 use Rattle.table.specs.Table.{loadRule, storeRule, pairFault, pairsFault, seeing, countsRight, Seen, noneSeen, seenAfter, groupFault}
 use Rattle.table.specs.TableBytes.{unless, pair, before, readPairs, readGroup, readGroups, pack}
-use Rattle.table.specs.Internal.{Two, two, readTwo, pairsIn, packPairs, PairsFound, PairsResult, found, none, seenOf, groupMade, GroupFound, GroupResult, group-found, group-none, Growing, Grown, GroupsFound, GroupsResult, groups-found, groups-none}
+use Rattle.table.specs.Internal.{Two, two, readTwo, pairsIn, packPairs, PairsFound, PairsResult, found, pairs-none, seenOf, groupMade, GroupFound, GroupResult, group-found, group-none, Growing, Grown, GroupsFound, GroupsResult, groups-found, groups-none}
 use Rattle.table.proofs.NumberLaws.{NumberGot, number-got}
 use Rattle.table.proofs.PackedLaws.{pairs-read-back, map-append}
 use Rattle.table.proofs.CheckLaws.{held-few}
@@ -202,7 +202,7 @@ made n places = record { count = n; places = places }
 
 -- what a caller is told, where the bytes give a refusal and where they give pairs
 pub pairs-refused : {s : List ℕ} {seen : List Bool} {g : Got (List Pair)} {r : PairsRead} {k : ℕ} → g ≡ bad k → r .answer ≡ k → (k ≡ 0 → ⊥) → PairsResult s seen g r
-pairs-refused e f z = rw e (none (record { is = f; some = z }))
+pairs-refused e f z = rw e (pairs-none (record { is = f; some = z }))
 
 pub pairs-found : {s : List ℕ} {seen : List Bool} {g : Got (List Pair)} {r : PairsRead} {ps : List Pair} {rest : List ℕ} → g ≡ got ps rest → PairsFound s seen ps rest r → PairsResult s seen g r
 pairs-found e f = rw e (found f)
@@ -220,7 +220,7 @@ module _ (n i : ℕ) (places : List ℕ) (e : n ≡ i) (g : length (take i place
 -- ---- what the caller of `read_pairs` learns
 pub pairs-bad : {s : List ℕ} {seen : List Bool} {g : Got (List Pair)} {r : PairsRead} → PairsResult s seen g r → (r .answer ≡ 0 → ⊥) → g ≡ bad (r .answer)
 pairs-bad (found f) z = absurd (z (f .answer))
-pairs-bad (none f) z = rw (f .is)
+pairs-bad (pairs-none f) z = rw (f .is)
 
 pub record PairsGot (s : List ℕ) (seen : List Bool) (g : Got (List Pair)) (r : PairsRead) : Type 0 where
   pub pairs : List Pair
@@ -230,7 +230,7 @@ pub record PairsGot (s : List ℕ) (seen : List Bool) (g : Got (List Pair)) (r :
 
 pub pairs-got : {s : List ℕ} {seen : List Bool} {g : Got (List Pair)} {r : PairsRead} → PairsResult s seen g r → r .answer ≡ 0 → PairsGot s seen g r
 pairs-got (found {ps} {rest} f) z = record { pairs = ps; rest = rest; is = refl; told = f }
-pairs-got (none f) z = absurd (f .some (sym (f .is) ∙ z))
+pairs-got (pairs-none f) z = absurd (f .some (sym (f .is) ∙ z))
 
 -- ---- pairs that were read are right, and as many as were asked for
 pub read-right : (rule : ℕ → ℕ → ℕ → Bool) (n low i : ℕ) (seen : List Bool) (s : List ℕ) {ps : List Pair} {rest : List ℕ} → readPairs rule n low i seen s ≡ got ps rest → (pairsFault rule low i seen ps ≡ 0) × (length ps ≡ n)

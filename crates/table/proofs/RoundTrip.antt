@@ -16,7 +16,7 @@ use Rattle.table.specs.Group.{GroupPairs, beforeStore}
 use Rattle.table.specs.Table.{loadRule, storeRule, pairFault, pairsFault, countsRight, Seen, noneSeen, seenAfter, groupFault, groupsFault, tableFault}
 use Rattle.table.specs.TableBytes.{unless, pair, before, readPairs, readGroup, readGroups, readTable, pairNumbers, groupNumbers, tableNumbers, tableBytes}
 use Rattle.table.specs.Event.{eventNumbers, hasSecond, eventOf, readKind, readEvent, readHeader}
-use Rattle.table.specs.RoundTrip.{Spelled, nothing, next, Fit, none, one, TablesAreSpelled, OnlyRightTables, TablesReadBack, RecordsHoldGroups, EventsAreSpelled, OnlySpelledEvents, HeadersAreSpelled, OnlySpelledHeaders}
+use Rattle.table.specs.RoundTrip.{Spelled, nothing, next, Fit, fit-none, fit-one, TablesAreSpelled, OnlyRightTables, TablesReadBack, RecordsHoldGroups, EventsAreSpelled, OnlySpelledEvents, HeadersAreSpelled, OnlySpelledHeaders}
 use Rattle.table.proofs.CheckLaws.{and-right, fault-none, counts-few, count-most}
 use Rattle.table.proofs.PackLaws.{group-fault, groups-packed}
 use Rattle.table.proofs.ReadLaws.{read-right, groupOf}
@@ -50,8 +50,8 @@ with-none a w = rw append-nil w
 
 -- the writer spells
 pub written : {ns : List ℕ} → Fit ns → Spelled (bytesOf ns) ns
-written none = nothing
-written (one {n} {ns} h f) =
+written fit-none = nothing
+written (fit-one {n} {ns} h f) =
     let w = written-up-to 4 n h in
     let k = next (numberBytes n) (w .0) (written f) in
     rw (w .1) at k
@@ -302,7 +302,7 @@ fit-pairs rule small low i seen [] e w = w
 fit-pairs rule small low i seen (p ∷ ps) e w =
     let f = or-else-both (pairFault (rule low i (p .offset)) seen (p .port)) _ e in
     let g = fault-none (rule low i (p .offset)) seen (p .port) (f .0) in
-    one {n = p .offset} (omega (arith, small low i (p .offset) (g .0))) (one {n = p .port} (omega (arith, g .1)) (fit-pairs rule small (p .offset) (suc i) (set seen (p .port) true) ps (f .1) w))
+    fit-one {n = p .offset} (omega (arith, small low i (p .offset) (g .0))) (fit-one {n = p .port} (omega (arith, g .1)) (fit-pairs rule small (p .offset) (suc i) (set seen (p .port) true) ps (f .1) w))
 
 fit-group : (seen : Seen) (g : GroupPairs) {ns : List ℕ} → groupFault seen g ≡ 0 → Fit ns → Fit (groupNumbers g ++ ns)
 fit-group seen g {ns} e w =
@@ -311,7 +311,7 @@ fit-group seen g {ns} e w =
     let r : Fit (flat pairNumbers (g .loads) ++ flat pairNumbers (g .stores) ++ ns) = rw (append-assoc (flat pairNumbers (g .loads)) (flat pairNumbers (g .stores)) ns)
     (fit-pairs (loadRule (length (g .stores))) (λ low i offset f. load-small low offset f (few .1)) 0 0 (seen .loads) (g .loads) ls
     (fit-pairs (storeRule (g .loads)) (λ low i offset f. store-small i offset f (few .0)) 0 0 (seen .stores) (g .stores) ss w)) in
-    one {n = length (g .loads)} (omega (arith, few .0)) (one {n = length (g .stores)} (omega (arith, few .1)) r)
+    fit-one {n = length (g .loads)} (omega (arith, few .0)) (fit-one {n = length (g .stores)} (omega (arith, few .1)) r)
   where
     load-small : (low offset : ℕ) → loadRule (length (g .stores)) low 0 offset ≡ true → length (g .stores) ≤ 16 → offset ≤ 16
     load-small low offset f h = omega (arith, leb-true offset (length (g .stores)) (and-right (leb low offset) _ f))
@@ -321,7 +321,7 @@ fit-group seen g {ns} e w =
 
 fit-groups : (seen : Seen) (gs : List GroupPairs) → groupsFault seen gs ≡ 0 → Fit (flat groupNumbers gs)
 unfolding groupsFault
-fit-groups seen [] e = none
+fit-groups seen [] e = fit-none
 fit-groups seen (g ∷ gs) e =
     let f = or-else-both (groupFault seen g) _ e in
     fit-group seen g (f .0) (fit-groups (seenAfter g seen) gs (f .1))
@@ -330,7 +330,7 @@ pub tables-read-back : TablesReadBack
 tables-read-back gs e =
     let (few, right) = table-fault gs e in
     let n = leb-true (length gs) 16 (and-right (leb 1 (length gs)) _ few) in
-    tables-are-spelled gs (tableBytes gs) e (written (one {n = 2} (omega arith) (one {n = length gs} (omega arith) (fit-groups noneSeen gs right))))
+    tables-are-spelled gs (tableBytes gs) e (written (fit-one {n = 2} (omega arith) (fit-one {n = length gs} (omega arith) (fit-groups noneSeen gs right))))
 
 -- ---- the record of a table that was read
 pub records-hold-groups : RecordsHoldGroups

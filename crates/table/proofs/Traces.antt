@@ -13,9 +13,8 @@ use Rattle.table.specs.Number.{Got, got, bad, andThen, placeOf, spells, 
 use Rattle.table.specs.TableBytes.{before}
 use Rattle.table.specs.Event.{eventNumbers, readEvent, eventAt, eventBytes, eventsBytes, headerNumbers, headerBytes, readHeader, yielded}
 use Rattle.table.specs.Trace.{Trace, eventsUpTo, readEvents, readTrace, traceBytes}
-use Rattle.table.specs.RoundTrip.{Spelled, nothing, next, Fit, none, one, Yields, ends, yields}
-use Rattle.table.specs.RoundTrip.{TracesAreSpelled, OnlySpelledTraces, TracesReadBack, TracesStepBack}
-use Rattle.table.proofs.TraceLaws.{event-at-end, event-at-inside}
+use Rattle.table.specs.RoundTrip.{Spelled, nothing, next, Fit, fit-none, fit-one}
+use Rattle.table.specs.RoundTrip.{TracesAreSpelled, OnlySpelledTraces, TracesReadBack}
 use Rattle.table.proofs.RoundTrip.{written, events-are-spelled, only-spelled-events, headers-are-spelled, only-spelled-headers}
 
 -- ---- numbers that are spelled one after the other
@@ -43,8 +42,8 @@ spelled-append nothing w = w
 spelled-append {t = t} (next bytes {rest} e k) w = rw (append-assoc bytes rest t) (next bytes e (spelled-append k w))
 
 fit-split : (a : List ℕ) {b : List ℕ} → Fit (a ++ b) → Fit a × Fit b
-fit-split [] w = (none, w)
-fit-split (n ∷ ns) (one h w) = let k = fit-split ns w in (one h (k .0), k .1)
+fit-split [] w = (fit-none, w)
+fit-split (n ∷ ns) (fit-one h w) = let k = fit-split ns w in (fit-one h (k .0), k .1)
 
 -- a number is spelled by a byte at least
 spelled-few : {s ns : List ℕ} → Spelled s ns → length ns ≤ length s
@@ -238,39 +237,3 @@ pub traces-read-back : TracesReadBack
 traces-read-back t f =
     let k = fit-split (headerNumbers (t .header)) f in
     traces-are-spelled t (traceBytes t) (spelled-append (written (k .0)) (events-written (t .events) (k .1)))
-
--- ---- step by step
-yields-from : (prefix : List ℕ) (es : List Event) → Fit (flat eventNumbers es) → (s : List ℕ) → s ≡ prefix ++ eventsBytes es → Yields s (length prefix) es
-yields-from prefix [] f s e = ends (event-at-end s (length prefix) (rw (e, append-nil) (omega arith)))
-yields-from prefix (ev ∷ es) f s e =
-    let k = fit-split (eventNumbers ev) f in
-    let w = written (k .0) in
-    let more = yields-from (prefix ++ eventBytes ev) es (k .1) s (e ∙ sym (append-assoc prefix (eventBytes ev) (eventsBytes es))) in
-    yields (found (event-some ev w) (events-are-spelled ev (eventBytes ev) (eventsBytes es) w)) (rw long at more)
-  where
-    long : length (prefix ++ eventBytes ev) ≡ length prefix + length (eventBytes ev)
-    long = length-append prefix (eventBytes ev)
-
-    rest-place : placeOf s (eventsBytes es) ≡ length prefix + length (eventBytes ev)
-    rest-place = rw (e, length-append, length-append) (omega arith)
-
-    found : 0 < length (eventBytes ev) → readEvent (eventBytes ev ++ eventsBytes es) ≡ got ev (eventsBytes es) →
-        eventAt s (length prefix) ≡ accepts (yielded ev (length prefix + length (eventBytes ev)))
-    found some r =
-        let d : drop (length prefix) s ≡ eventBytes ev ++ eventsBytes es = rw e (drop-append-seam prefix (eventBytes ev ++ eventsBytes es)) in
-        event-at-inside s (length prefix) (rw (e, length-append, length-append) (omega arith)) ∙ rw (d, r, rest-place)
-
-pub traces-step-back : TracesStepBack
-traces-step-back t f =
-    let k = fit-split (headerNumbers (t .header)) f in
-    let h = headers-are-spelled (t .header) front (eventsBytes (t .events)) (written (k .0)) in
-    (length front, leading front (eventsBytes (t .events)) h, yields-from front (t .events) (k .1) (traceBytes t) refl)
-  where
-    front : List ℕ
-    front = headerBytes (t .header)
-
-    leading : (bytes rest : List ℕ) → readHeader (bytes ++ rest) ≡ got (t .header) rest →
-        readIn (bytes ++ rest) (readHeader (bytes ++ rest)) ≡ accepts (reading (t .header) (length bytes))
-    leading bytes rest e =
-        let k : placeOf (bytes ++ rest) rest ≡ length bytes = rw length-append (omega arith) in
-        rw (e, k)

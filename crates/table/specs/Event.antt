@@ -62,7 +62,7 @@ pub data Yield : Type 0 where
   yielded : Event → ℕ → Yield
   atEnd : Yield
 
--- the number and the values of each case of `EventRead`
+-- the number and the values of each case of `EventRead`; the paper gives "end" no number, and here it is accepted
 abbrev pub eventReply : EventRead → Reply Yield
 eventReply (Found e next) = accepts (yielded e next)
 eventReply End = accepts atEnd

@@ -77,6 +77,7 @@ abbrev pub twoReply : TwoRead → Reply (Reading Two)
 twoReply (TwoRead.Two x y next) = accepts (reading (two x y) next)
 twoReply (TwoRead.NoTwo k) = refuses k
 
+-- its number: 0 where both were read
 abbrev pub twoRefusal : TwoRead → ℕ
 twoRefusal read = replyNumber (twoReply read)
 
@@ -114,7 +115,7 @@ pub record PairsFound (s : List ℕ) (seen : List Bool) (ps : List Pair) (rest :
 
 pub data PairsResult (s : List ℕ) (seen : List Bool) : Got (List Pair) → PairsRead → Type 0 where
   found : {ps : List Pair} {rest : List ℕ} {r : PairsRead} → PairsFound s seen ps rest r → PairsResult s seen (got ps rest) r
-  none : {k : ℕ} {r : PairsRead} → IsRefusal k (r .answer) → PairsResult s seen (bad k) r
+  pairs-none : {k : ℕ} {r : PairsRead} → IsRefusal k (r .answer) → PairsResult s seen (bad k) r
 
 -- the record of a group, made of what reading its loads and its stores gave
 abbrev pub groupMade : PairsRead → PairsRead → GroupRead

@@ -52,6 +52,7 @@ pub data Reply (A : Type 0) : Type 0 where
   accepts : A → Reply A
   refuses : ℕ → Reply A
 
+-- "accepted is 0"
 abbrev pub replyNumber : {A : Type 0} → Reply A → ℕ
 replyNumber (accepts a) = 0
 replyNumber (refuses k) = k
@@ -70,6 +71,7 @@ abbrev pub numberReply : NumberRead → Reply (Reading ℕ)
 numberReply (Number n next) = accepts (reading n next)
 numberReply (Refused k) = refuses k
 
+-- its number: 0 where a number was read
 abbrev pub numberRefusal : NumberRead → ℕ
 numberRefusal read = replyNumber (numberReply read)
 
@@ -116,11 +118,12 @@ wrote bytes buffer =
     (record { answer = accepts (length bytes); buffer = bytes ++ drop (length bytes) buffer })
     (unwritten tooShort buffer)
 
--- Bytes that spell a number, padding or not: all but the last have bit 7, and the last of the most there may be is at most `top`.
+-- are there no bytes
 abbrev pub isEmpty : List ℕ → Bool
 isEmpty [] = true
 isEmpty (b ∷ bs) = false
 
+-- Bytes that spell a number, padding or not: all but the last have bit 7, and the last of the most there may be is at most `top`.
 unfoldable pub spells : ℕ → ℕ → List ℕ → Bool
 spells more top [] = false
 spells zero top (b ∷ bs) = leb b top && isEmpty bs

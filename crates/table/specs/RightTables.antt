@@ -29,18 +29,23 @@ NeverFall (n ∷ ns) = Each (λ (m : ℕ). n ≤ m) ns × NeverFall ns
 abbrev pub offsetOf : Pair → ℕ
 offsetOf p = p .offset
 
+-- each count is 0 to 16, and not both are 0
 abbrev pub CountsWithin : GroupPairs → Type 0
 CountsWithin g = (length (g .loads) ≤ 16) × (length (g .stores) ≤ 16) × (0 < length (g .loads) + length (g .stores))
 
+-- the load offsets never fall
 abbrev pub LoadsNeverFall : GroupPairs → Type 0
 LoadsNeverFall g = NeverFall (map offsetOf (g .loads))
 
+-- no load offset is above the group's store count
 abbrev pub LoadsWithin : GroupPairs → Type 0
 LoadsWithin g = Each (λ (offset : ℕ). offset ≤ length (g .stores)) (map offsetOf (g .loads))
 
+-- the offset of store j is how many loads are before it
 abbrev pub StoresAgree : GroupPairs → Type 0
 StoresAgree g = (j : ℕ) → j < length (g .stores) → getD (g .stores) j blankPair .offset ≡ countWhere (beforeStore j) (g .loads)
 
+-- every port is 0 to 31
 abbrev pub PortsWithin : List Pair → Type 0
 PortsWithin ps = Each (λ (port : ℕ). port ≤ 31) (map portOf ps)
 

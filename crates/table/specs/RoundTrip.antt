@@ -3,6 +3,7 @@
 -- PackLaws.antt and Traces.antt.
 use Prim.Native.Nat.{ℕ, _+_, _≤_, _<_, _^_}
 use mathlib.Core.Path.{_≡_}
+use mathlib.Core.Logic.{_↔_}
 use mathlib.Core.Bool.{Bool, true}
 use mathlib.Core.List.{List, [], _∷_, _++_}
 use lib.Dec.{ltb}
@@ -24,8 +25,8 @@ pub data Spelled : List ℕ → List ℕ → Type 0 where
 
 -- every number is one of 32 bits
 pub data Fit : List ℕ → Type 0 where
-  none : Fit []
-  one : {n : ℕ} {ns : List ℕ} → n < 2 ^ 32 → Fit ns → Fit (n ∷ ns)
+  fit-none : Fit []
+  fit-one : {n : ℕ} {ns : List ℕ} → n < 2 ^ 32 → Fit ns → Fit (n ∷ ns)
 
 -- Bytes that spell a number are read as it, whatever follows, and nothing else is read as a number.
 abbrev pub NumbersAreSpelled : Type 0
@@ -95,8 +96,15 @@ OnlySpelledTraces = (s rest : List ℕ) (t : Trace) → readTrace s ≡ got t re
 abbrev pub TracesReadBack : Type 0
 TracesReadBack = (t : Trace) → Fit (traceNumbers t) → readTrace (traceBytes t) ≡ got t []
 
--- And step by step: the leading numbers, each event, and then the end.
+-- Step by step it is the same: bytes are read as a trace just where its leading numbers are read, then each event at the place
+-- after the last one, and then the end. So a trace that was written is read back by a reader that steps.
+pub record SteppedThrough (s : List ℕ) (t : Trace) : Type 0 where
+  pub place : ℕ
+  pub header : readIn s (readHeader s) ≡ accepts (reading (t .header) place)
+  pub events : Yields s place (t .events)
+
+abbrev pub TracesStep : Type 0
+TracesStep = (s : List ℕ) (t : Trace) → (readTrace s ≡ got t []) ↔ SteppedThrough s t
+
 abbrev pub TracesStepBack : Type 0
-TracesStepBack =
-    (t : Trace) → Fit (traceNumbers t) →
-    (place : ℕ) × (readIn (traceBytes t) (readHeader (traceBytes t)) ≡ accepts (reading (t .header) place)) × Yields (traceBytes t) place (t .events)
+TracesStepBack = (t : Trace) → Fit (traceNumbers t) → SteppedThrough (traceBytes t) t

@@ -14,7 +14,7 @@ pub const BAD_COUNTS: u8 = 5;
 pub const BAD_PORT: u8 = 6;
 // a port was seen before in the table
 pub const PORT_SEEN: u8 = 7;
-// an offset is wrong
+// an offset is wrong: a load's above the store count or below the load before, a store's disagreeing with the loads
 pub const BAD_OFFSET: u8 = 8;
 // bytes are left over after a table
 pub const LEFT_OVER: u8 = 9;

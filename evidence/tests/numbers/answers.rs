@@ -1,5 +1,5 @@
 //! The answers of each call, in the order that comments give: those of `lsq.h`,
-//! of the Rust wrapper and of the crate `live`, and those that the runs of
+//! of the Rust wrapper, of the crate `live` and of `docs/FORMATS.md`, and those that the runs of
 //! `evidence/` must come by.
 
 use std::collections::{BTreeMap, BTreeSet};
@@ -14,7 +14,10 @@ const LIVE: &str = "bindings/rust/src/live.rs";
 const BYTES: &str = "bindings/rust/src/bytes.rs";
 const CRATE: [&str; 2] = ["crates/live/src/calls.rt", "crates/live/src/bytes.rt"];
 const TALLY: &str = "evidence/src/live/tally.rs";
-pub const PATHS: [&str; 7] = [HEADER, DIRECT, LIVE, BYTES, CRATE[0], CRATE[1], TALLY];
+const FORMATS: &str = "docs/FORMATS.md";
+pub const PATHS: [&str; 8] = [
+    HEADER, DIRECT, LIVE, BYTES, CRATE[0], CRATE[1], TALLY, FORMATS,
+];
 
 /// A function's name without `lsq_`, and a comment's part that gives answers.
 type Told = (String, Range<usize>);
@@ -55,6 +58,7 @@ pub fn read(check: &mut Check, sources: &Sources) {
     }
     tell(BYTES, errors(sources.get(BYTES), ""));
     tell(LIVE, errors(sources.get(LIVE), "_in"));
+    tell(FORMATS, in_rows(sources.get(FORMATS)));
     come_by(check, sources.get(TALLY), &orders);
 }
 
@@ -111,6 +115,23 @@ fn in_header(source: &Source) -> Vec<Told> {
         });
         if let Some((name, _)) = declared {
             told.push((name.to_string(), first_sentence(source, &comment)));
+        }
+    }
+    told
+}
+
+/// The rows `| load address, store address | 40, 22, 23, 24 |` of the calls on a queue.
+fn in_rows(source: &Source) -> Vec<Told> {
+    let lines = source.lines();
+    let rows = lines.skip_while(|(_, line)| !line.starts_with("| activate |"));
+    let mut told = Vec::new();
+    for (range, line) in rows.take_while(|(_, line)| !line.contains("replay")) {
+        let calls = line.trim_start_matches("| ").split(" |").next();
+        let calls = calls
+            .expect("a first cell")
+            .replace("ready", "ready loads, ready stores");
+        for call in calls.split(", ") {
+            told.push((call.replace(' ', "_") + "_in", range.clone()));
         }
     }
     told

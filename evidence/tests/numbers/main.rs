@@ -1,6 +1,6 @@
 //! Every number that stands in more than one source (`lsq.h`, the Rust wrapper,
-//! the crates' code and definitions, the reference) is the same in all of them;
-//! where one is changed, the test names it and every other place.
+//! the crates' code and definitions, the reference, `docs/FORMATS.md`) is the same
+//! in all of them; where one is changed, the test names it and every other place.
 
 mod answers;
 mod check;
@@ -16,6 +16,10 @@ const TEXT_SPECS: &str = "crates/printed/specs/Outcome.antt";
 const LENGTHS: [(&str, &str); 2] = [
     ("crates/table/src/number.rt", "const LENGTHS: [u8; "),
     ("reference/src/number.rs", "const BYTE_COUNT: [usize; "),
+];
+const VERSIONS: [(&str, &str); 2] = [
+    ("bindings/c/lsq.h", "#define LSQ_VERSION \""),
+    ("bindings/rust/Cargo.toml", "version = \""),
 ];
 
 /// The sources of which every number must be compared with another's: `lsq.h`
@@ -42,6 +46,7 @@ fn sources() -> Sources {
     let paths = paths.chain(refusals::PATHS).chain(layout::PATHS);
     let paths = paths.chain(answers::PATHS).chain([TEXT_SPECS]);
     let paths = paths.chain(LENGTHS.map(|(path, _)| path));
+    let paths = paths.chain(VERSIONS.map(|(path, _)| path));
     let paths = paths.map(String::from).chain(whole()).chain(crates());
     Sources::read(paths)
 }
@@ -54,6 +59,7 @@ fn checked(sources: &Sources) -> Check {
     answers::read(&mut check, sources);
     longest_text(&mut check, sources);
     byte_counts(&mut check, sources);
+    versions(&mut check, sources);
     let compiled = "bindings/rust/src/saved.rs, as compiled,".into();
     check.say("bytes of a saved queue", compiled, lsq::QUEUE_BYTES);
     check
@@ -102,6 +108,23 @@ fn byte_counts(check: &mut Check, sources: &Sources) {
         numerals
             .iter()
             .for_each(|&numeral| check.mark(source, numeral));
+    }
+}
+
+/// The version of `lsq.h` and of the wrapper.
+fn versions(check: &mut Check, sources: &Sources) {
+    for (path, head) in VERSIONS {
+        let source = sources.get(path);
+        let line = source.lines().find(|(_, line)| line.starts_with(head));
+        let Some((range, line)) = line else {
+            check.fault(format!("{path}: nothing like `{head}`"));
+            continue;
+        };
+        let version = line[head.len()..].trim_end().trim_end_matches('"');
+        check.say("version", source.place(range.start), version);
+        for numeral in source.numerals_in(&range) {
+            check.mark(source, numeral);
+        }
     }
 }
 

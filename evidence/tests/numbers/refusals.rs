@@ -6,7 +6,7 @@ use std::collections::BTreeMap;
 use crate::check::Check;
 use crate::source::{Source, Sources};
 
-pub const PATHS: [&str; 7] = [
+pub const PATHS: [&str; 8] = [
     "bindings/c/lsq.h",
     "bindings/rust/src/refusal.rs",
     "reference/src/refusal.rs",
@@ -14,6 +14,7 @@ pub const PATHS: [&str; 7] = [
     "crates/queue/src/refusal.rt",
     "crates/table/specs/Refusal.antt",
     "crates/queue/specs/Refusal.antt",
+    "docs/FORMATS.md",
 ];
 
 /// Names of the crates that differ from those of `lsq.h`.
@@ -38,19 +39,21 @@ const CRATES_NAMES: [(&str, &str); 16] = [
 
 /// Names that a kind of source need not have: 0 is no refusal, and the crates
 /// below `printed` have no files.
-const ABSENT: [(&str, &str); 5] = [
+const ABSENT: [(&str, &str); 6] = [
     ("ACCEPTED", "bindings/rust"),
     ("ACCEPTED", "src/refusal.rt"),
     ("ACCEPTED", "specs/Refusal.antt"),
+    ("ACCEPTED", "docs/FORMATS.md"),
     ("FILE_TOO_LONG", "src/refusal.rt"),
     ("FILE_TOO_LONG", "specs/Refusal.antt"),
 ];
-const KINDS: [&str; 5] = [
+const KINDS: [&str; 6] = [
     "bindings/c",
     "bindings/rust",
     "reference",
     "src/refusal.rt",
     "specs/Refusal.antt",
+    "docs/FORMATS.md",
 ];
 
 pub fn read(check: &mut Check, sources: &Sources) {
@@ -77,7 +80,7 @@ pub fn read(check: &mut Check, sources: &Sources) {
 fn named(source: &Source) -> Vec<(String, usize)> {
     let mut found = Vec::new();
     for (range, line) in source.lines() {
-        let Some((name, value)) = line.split_once(" = ") else {
+        let Some((name, value)) = line.split_once(" = ").or_else(|| in_row(line)) else {
             continue;
         };
         let numerals = source.numerals_in(&range);
@@ -87,6 +90,13 @@ fn named(source: &Source) -> Vec<(String, usize)> {
         }
     }
     found
+}
+
+/// The name and the number of a row ``| 1 | `LSQ_BYTES_END` | .. |``.
+fn in_row(line: &str) -> Option<(&str, &str)> {
+    let (number, rest) = line.strip_prefix("| ")?.split_once(" | `LSQ_")?;
+    let (name, _) = rest.split_once('`')?;
+    Some((name, number))
 }
 
 /// The name of `lsq.h`, without its `LSQ_`, for what stands before the `=`.

@@ -19,7 +19,7 @@ use Rattle.queue.proofs.PartsLaws.{both-whole}
 use Rattle.replay.specs.Events.{eventsFrom}
 use Rattle.replay.specs.Playing.{playing}
 use Rattle.replay.specs.Internal.{playedOf}
-use Rattle.replay.proofs.EventLaws.{EventGot, event-got, event-end, event-fault}
+use Rattle.table.proofs.TraceSteps.{EventGot, event-got, event-end, event-fault}
 use Rattle.replay.proofs.ReplayLaws.{buffers, Walk, walk-none, Room, walk-room, walk-lengths, walk-more, walk-end, walk-no-fault}
 use Rattle.replay.proofs.replaying.play_all.Statement.{statement}
 use Rattle.replay.proofs.replaying.play_all.Tie as tie

@@ -16,7 +16,7 @@ use Rattle.table.specs.Basics.{pick}
 use Rattle.queue.specs.declared.Counts.{Counts}
 use Rattle.queue.specs.Counts.{share}
 use Rattle.replay.specs.Playing.{Logged, answerOf, givenOf, wordOf, givenIn, wordIn}
-use Rattle.printed.specs.Words.{wordWord, line}
+use Rattle.printed.specs.Words.{bytes, line}
 use Rattle.printed.specs.Text.{shown, eventLine, eventLines, wordLine, wordLines, countsLine, tableFaultText, traceFaultText}
 use Rattle.printed.specs.Internal.{Puts, item, loggedAs, rows}
 use Rattle.printed.proofs.PutLaws.{puts-length, puts-puts, decimal-few}
@@ -120,7 +120,7 @@ word-some a w h = rw (ne-eqb w 0 h) (item-then wordSpace a 32 (item [] w 10))
 word-few : (a w : ℕ) → length (wordLine a w) ≤ 47
 word-few a w = go (eqb w 0)
   where
-    go : (t : Bool) → length (pick t [] (line wordWord (decimal a ∷ decimal w ∷ []))) ≤ 47
+    go : (t : Bool) → length (pick t [] (line (bytes "word") (decimal a ∷ decimal w ∷ []))) ≤ 47
     go true = omega arith
     go false = omega (arith, length-append (decimal a) (32 ∷ (decimal w ++ 10 ∷ [])), length-append (decimal w) (10 ∷ []), decimal-few a, decimal-few w)
 

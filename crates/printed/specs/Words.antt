@@ -1,7 +1,7 @@
 -- The words of the printed run, as bytes.
 use Prim.Native.Nat.{ℕ}
 use Prim.Native.Char.{code}
-use Prim.Native.String.{String, []ˢ, _∷ˢ_}
+use Prim.Native.String.{String, [] as []ˢ, _∷_ as _∷ˢ_}
 use mathlib.Core.List.{List, [], _∷_, _++_}
 
 -- A text as its bytes. All texts are ASCII, where a character's code is its byte.

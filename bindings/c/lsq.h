@@ -303,9 +303,9 @@ lsq_listed lsq_ready_stores_in(lsq_frame frame, const uint64_t *loads, size_t lo
  * Whatever a queue holds when it comes back, the calls test it (40) and go by
  * what it holds. That each port gets the values of one access after another is
  * proved of every list of the queue's own calls on the records that an opened
- * frame and two runs make, on one memory (frames-demand3 of the crate queue).
- * The library's functions are stated by the same rules, call by call; no
- * theorem speaks of lists of them. */
+ * frame and two runs make, on one memory (frames-demand3 of the crate
+ * sequential). The library's functions are stated by the same rules, call by
+ * call; no theorem speaks of lists of them. */
 typedef struct lsq_queue {
     lsq_frame frame;
     uint64_t loads[LSQ_ENTRIES], stores[LSQ_ENTRIES];

@@ -306,7 +306,7 @@ lsq_listed lsq_ready_stores_in(lsq_frame frame, const uint64_t *loads, size_t lo
  * Whatever a queue holds when it comes back, the calls test it (40) and go by
  * what it holds. That each port gets the values of one access after another is
  * proved of every list of calls on parts, from an opened frame with any two runs
- * of LSQ_ENTRIES numbers, on one memory (parts-demand3 of the crate queue). Each
+ * of LSQ_ENTRIES numbers, on one memory (parts-demand3 of the crate sequential). Each
  * of the library's functions states the same rule of the same parts; no theorem
  * speaks of lists of these functions. */
 typedef struct lsq_queue {

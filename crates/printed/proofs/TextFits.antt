@@ -28,10 +28,10 @@ use Rattle.queue.specs.Activate.{activate}
 use Rattle.queue.specs.Serve.{Served, serve}
 use Rattle.queue.specs.Write.{Written, loadGivesWay, storeGivesWay, write}
 use Rattle.queue.specs.Take.{Taken}
-use Rattle.queue.specs.Calls.{Argument}
-use Rattle.queue.specs.Call.{Machine, moved, served, written, taken, give}
 use Rattle.queue.specs.Take as Takes
 use Rattle.queue.proofs.Refusals.{andThen-accepts}
+use Rattle.sequential.specs.Calls.{Argument}
+use Rattle.sequential.specs.Call.{Machine, moved, served, written, taken, give}
 use Rattle.replay.specs.Playing.{Playing, playing, stepOf, played, log, playedAll}
 use Rattle.replay.specs.Replay.{Start, startOf, openTrace, prepare, replayed}
 use Rattle.replay.proofs.EventLaws.{events-few-from}

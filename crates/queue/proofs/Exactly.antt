@@ -20,7 +20,7 @@ use Rattle.queue.specs.ReadyExact.{ServableExactly, WritableExactly}
 use Rattle.queue.proofs.Lists.{and-right}
 use Rattle.queue.proofs.ContentsLaws.{getElem?-past}
 use Rattle.queue.proofs.SoundLaws.{Parts, parts}
-use Rattle.queue.proofs.Progress.{oldest-small}
+use Rattle.queue.proofs.Serials.{oldest-small}
 use Rattle.queue.proofs.Refusals.{serve-proper, write-proper}
 use Rattle.queue.proofs.ReadyLaws.{readyIn, writableIn, serve-ready, would-serve, write-ready, would-write, accepted-number}
 

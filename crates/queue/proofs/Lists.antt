@@ -1,5 +1,5 @@
 -- Laws of the definitions that rules are written with: tests over lists, places, one element made anew.
-use Prim.Native.Nat.{ℕ, zero, suc, _+_, _-_, _≤_}
+use Prim.Native.Nat.{ℕ, zero, suc, _+_, _-_, _≤_, _<_}
 use native.Mathlib.Nat.{zero-add, sub-zero, zero-sub}
 use native.Mathlib.Omega.{arith}
 use mathlib.Core.Path.{_≡_, refl, sym, ap, _∙_}
@@ -174,6 +174,11 @@ module _ {A : Type 0} where
   getElem?-split [] i h = let e : false ≡ true = cc in false-true e
   getElem?-split (y ∷ xs) zero {x} h = let e : y ≡ x = cc in ([], xs, rw e, refl)
   getElem?-split (y ∷ xs) (suc i) h = let (b, a, e, l) = getElem?-split xs i h in (y ∷ b, a, ap (λ (t : List A). y ∷ t) e, ap suc l)
+
+  pub getElem?-short : (xs : List A) (i : ℕ) {x : A} → getElem? xs i ≡ some x → i < length xs
+  getElem?-short [] i h = let e : false ≡ true = cc in false-true e
+  getElem?-short (y ∷ xs) zero h = omega arith
+  getElem?-short (y ∷ xs) (suc i) h = let k : i < length xs = getElem?-short xs i h in omega arith
 
   pub getElem?-seam : (xs : List A) (x : A) (ys : List A) → getElem? (xs ++ x ∷ ys) (length xs) ≡ some x
   getElem?-seam [] x ys = refl

@@ -37,7 +37,7 @@ use Rattle.queue.specs.InternalWrite.{mayWrite, mayWriteAt, writtenWith,
 use Rattle.queue.specs.InternalReady.{supplyReady, addressReady, loadReady, loadReadyAt, storeReadyAt, listed, Noted, Lists, HandedOut}
 use Rattle.queue.proofs.ContentsLaws.{side-length, side-getElem?, side-take, loads-held, stores-held, load-place, store-place}
 use Rattle.queue.proofs.Refusals.{proper, need-proper, have-proper}
-use Rattle.queue.proofs.Progress.{place-of-serial, oldest-small}
+use Rattle.queue.proofs.Serials.{place-of-serial, oldest-small}
 use Rattle.queue.proofs.ServeLaws.{bySupply, by-supply, serve-by-place}
 use Rattle.queue.proofs.WriteLaws.{write-by-place, write-held}
 

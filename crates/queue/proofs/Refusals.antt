@@ -18,8 +18,6 @@ use Rattle.queue.specs.Serve.{hasAddress, nearest, storesBefore, serve, 
 use Rattle.queue.specs.Write.{loadGivesWay, storeGivesWay, write}
 use Rattle.queue.specs.Take.{untaken, takeRule}
 use Rattle.queue.specs.Ready.{servable, writable, readyLoads, readyStores}
-use Rattle.queue.specs.Calls.{Argument, LoadAddress, StoreAddress, StoreData, Side, LoadSide, StoreSide}
-use Rattle.queue.specs.Call.{give, ready}
 use Rattle.queue.proofs.Lists.{false-true, and-left, and-right}
 
 module _ {A : Type 0} where
@@ -68,7 +66,7 @@ module _ {A : Type 0} where
   number-small (refuse n) h = ltb-true n 256 (and-right (not (eqb n 0)) (ltb n 256) h)
   number-small (accept a) h = omega arith
 
-  small-proper : (r : Ruled A) → small r ≡ true → proper r ≡ true
+  pub small-proper : (r : Ruled A) → small r ≡ true → proper r ≡ true
   small-proper (refuse n) h = and-left (not (eqb n 0)) (ltb n 256) h
   small-proper (accept a) h = refl
 
@@ -89,17 +87,23 @@ pub activate-small : (q : Contents) (g : ℕ) → small (activate q g) ≡ true
 unfolding activate
 activate-small q g = need-small (sound q) _ _ refl (have-small (getElem? (q .groups) g) _ _ refl λ p. need-small (room q p) _ _ refl refl)
 
-pub give-small : (kind : Argument) (q : Contents) (port x : ℕ) → small (give kind q port x) ≡ true
-unfolding loadAddress storeAddress storeData
-give-small LoadAddress q port x =
+pub load-address-small : (q : Contents) (port x : ℕ) → small (loadAddress q port x) ≡ true
+unfolding loadAddress
+load-address-small q port x =
     need-small (sound q) _ _ refl
     (need-small (anyOf (isLoadPort port) (q .groups)) _ _ refl
     (need-small (ltb x (q .memoryLength)) _ _ refl (need-small (anyOf (loadLacksAddress port) (q .loads)) _ _ refl refl)))
-give-small StoreAddress q port x =
+
+pub store-address-small : (q : Contents) (port x : ℕ) → small (storeAddress q port x) ≡ true
+unfolding storeAddress
+store-address-small q port x =
     need-small (sound q) _ _ refl
     (need-small (anyOf (isStorePort port) (q .groups)) _ _ refl
     (need-small (ltb x (q .memoryLength)) _ _ refl (need-small (anyOf (storeLacksAddress port) (q .stores)) _ _ refl refl)))
-give-small StoreData q port x =
+
+pub store-data-small : (q : Contents) (port x : ℕ) → small (storeData q port x) ≡ true
+unfolding storeData
+store-data-small q port x =
     need-small (sound q) _ _ refl
     (need-small (anyOf (isStorePort port) (q .groups)) _ _ refl (need-small (anyOf (storeLacksWord port) (q .stores)) _ _ refl refl))
 
@@ -137,17 +141,17 @@ take-small q port =
     (need-small (anyOf (isLoadPort port) (q .groups)) _ _ refl
     (have-small (getElem? (q .loads) (firstPlace (untaken port) (q .loads))) _ _ refl λ l. have-small (l .value) _ _ refl λ v. refl))
 
-pub ready-small : (side : Side) (q : Contents) (run : List ℕ) → small (ready side q run) ≡ true
-unfolding readyLoads readyStores
-ready-small LoadSide q run = need-small (sound q) _ _ refl (need-small (leb (length (servable q)) (length run)) _ _ refl refl)
-ready-small StoreSide q run = need-small (sound q) _ _ refl (need-small (leb (length (writable q)) (length run)) _ _ refl refl)
+pub ready-loads-small : (q : Contents) (run : List ℕ) → small (readyLoads q run) ≡ true
+unfolding readyLoads
+ready-loads-small q run = need-small (sound q) _ _ refl (need-small (leb (length (servable q)) (length run)) _ _ refl refl)
+
+pub ready-stores-small : (q : Contents) (run : List ℕ) → small (readyStores q run) ≡ true
+unfolding readyStores
+ready-stores-small q run = need-small (sound q) _ _ refl (need-small (leb (length (writable q)) (length run)) _ _ refl refl)
 
 -- so none is 0
 pub activate-proper : (q : Contents) (g : ℕ) → proper (activate q g) ≡ true
 activate-proper q g = small-proper (activate q g) (activate-small q g)
-
-pub give-proper : (kind : Argument) (q : Contents) (port x : ℕ) → proper (give kind q port x) ≡ true
-give-proper kind q port x = small-proper (give kind q port x) (give-small kind q port x)
 
 pub serve-proper : (q : Contents) (m : List ℕ) (serial : ℕ) → proper (serve q m serial) ≡ true
 serve-proper q m serial = small-proper (serve q m serial) (serve-small q m serial)

@@ -1,4 +1,4 @@
--- What the calls of the queue mean, and demand 3, in the order of document 01.
+-- What the calls of the queue mean, in the order of document 01.
 pub mod Refusal
 pub mod Ruled
 pub mod Entry
@@ -18,13 +18,6 @@ pub mod ServeLent
 pub mod ReadyOutcome
 pub mod Parts
 pub mod ReadyExact
-pub mod Calls
-pub mod Call
-pub mod Plain
-pub mod Demand3
-pub mod Records
-pub mod RunsExist
-pub mod RunsOnParts
 pub mod Internal
 pub mod InternalActivate
 pub mod InternalArguments

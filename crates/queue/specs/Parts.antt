@@ -47,7 +47,7 @@ abbrev pub onParts : {A : Type 0} → List ℕ → List ℕ → Ruled A → Rule
 onParts loads stores rule = need (whole loads stores) unsound rule
 
 -- On two runs of 64 numbers it is the rule itself (proofs/PartsLaws.antt). So a list of calls on parts is a run of the records
--- that these parts make, and demand 3 is said of it (`RunsOnParts.antt`).
+-- that these parts make, and demand 3 is said of it (`RunsOnParts.antt` of the crate `sequential`).
 abbrev pub OnWholeRuns : Type 1
 OnWholeRuns = (A : Type 0) (loads stores : List ℕ) (rule : Ruled A) → length loads ≡ 64 → length stores ≡ 64 → onParts loads stores rule ≡ rule
 

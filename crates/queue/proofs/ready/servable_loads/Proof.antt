@@ -17,7 +17,7 @@ use Rattle.queue.specs.Parts.{queueOf}
 use Rattle.queue.specs.Internal.{storesIn, frameWith}
 use Rattle.queue.specs.InternalReady.{loadReady, loadReadyAt}
 use Rattle.queue.proofs.SoundLaws.{loads-few, stores-few, load-before}
-use Rattle.queue.proofs.Progress.{oldest-small}
+use Rattle.queue.proofs.Serials.{oldest-small}
 use Rattle.queue.proofs.ReadyLaws.{Gathering, gathering-none, gathering-more, gathering-end, would-serve-at, servable-record}
 use Rattle.queue.proofs.ready.servable_loads.Statement.{statement}
 use Rattle.queue.proofs.ready.servable_loads.Tie as tie

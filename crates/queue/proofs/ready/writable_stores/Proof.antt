@@ -17,7 +17,7 @@ use Rattle.queue.specs.Parts.{queueOf}
 use Rattle.queue.specs.Internal.{frameWith}
 use Rattle.queue.specs.InternalReady.{storeReadyAt}
 use Rattle.queue.proofs.SoundLaws.{loads-few, stores-few, store-before}
-use Rattle.queue.proofs.Progress.{oldest-small}
+use Rattle.queue.proofs.Serials.{oldest-small}
 use Rattle.queue.proofs.ReadyLaws.{Gathering, gathering-none, gathering-more, gathering-end, would-write-at, writable-record}
 use Rattle.queue.proofs.ready.writable_stores.Statement.{statement}
 use Rattle.queue.proofs.ready.writable_stores.Tie as tie

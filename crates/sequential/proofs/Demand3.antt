@@ -1,0 +1,89 @@
+-- Demand 3, proved: the invariant that every call keeps (Run.antt) gives the three claims, and two alike lists follow.
+use Prim.Native.Nat.{ℕ, suc, _≤_, _<_}
+use native.Mathlib.Omega.{arith}
+use mathlib.Core.Path.{_≡_, refl, sym, ap, _∙_, fun-ext}
+use mathlib.Core.Bool.{Bool, true, false, _&&_}
+use mathlib.Core.List.{List, [], _∷_, map}
+use mathlib.Core.Option.{some}
+use lib.Dec.{leb}
+use lib.ListN.{length, getElem?}
+use borrow.Author.Tests.{leb-true}
+use Rattle.table.specs.Basics.{pick, allOf, countWhere}
+use Rattle.table.specs.Group.{GroupPairs}
+use Rattle.queue.specs.Write.{storeFinished}
+use Rattle.queue.proofs.Lists.{and-left, and-both}
+use Rattle.sequential.specs.Call.{Machine, Answered, answers, leaves}
+use Rattle.sequential.specs.Plain.{Told, Rows, Filling, rowsOf, inOrder, accesses, loadedFrom, valuesAt, plainLoads, plainMemory}
+use Rattle.sequential.specs.Demand3.{told, takenAt, isStore, Sequential, Demand3, Alike, AlikeLists}
+use Rattle.sequential.proofs.Log.{Entry, ofLoad, ofStore, stores, ownIn}
+use Rattle.sequential.proofs.PlainRun.{accessOf, taken-is-loaded, written-is-plain}
+use Rattle.sequential.proofs.State.{State, written}
+use Rattle.sequential.proofs.Run.{opening-limits, reached}
+use Rattle.sequential.proofs.Progress.{state-moves}
+
+-- ---- as many writes as stores: every store is written
+
+written-stores : (es : List Entry) → countWhere written es ≤ countWhere isStore (map accessOf es)
+written-stores [] = omega arith
+written-stores (ofLoad l ∷ es) = written-stores es
+written-stores (ofStore s ∷ es) = go (s .written) (written-stores es)
+  where
+    go : (b : Bool) → countWhere written es ≤ countWhere isStore (map accessOf es) → pick b (suc (countWhere written es)) (countWhere written es) ≤ suc (countWhere isStore (map accessOf es))
+    go true h = omega arith
+    go false h = omega arith
+
+all-written : (es : List Entry) → countWhere written es ≡ countWhere isStore (map accessOf es) → allOf storeFinished (ownIn stores es) ≡ true
+all-written [] h = refl
+all-written (ofLoad l ∷ es) h = all-written es h
+all-written (ofStore s ∷ es) h = go (s .written) refl h (written-stores es) (λ k. all-written es k)
+  where
+    go : (b : Bool) → s .written ≡ b → pick b (suc (countWhere written es)) (countWhere written es) ≡ suc (countWhere isStore (map accessOf es)) → countWhere written es ≤ countWhere isStore (map accessOf es)
+        → (countWhere written es ≡ countWhere isStore (map accessOf es) → allOf storeFinished (ownIn stores es) ≡ true) → (s .written) && allOf storeFinished (ownIn stores es) ≡ true
+    go true e k le rec = and-both e (rec (omega arith))
+    go false e k le rec = absurd (omega arith)
+
+-- ---- the three claims
+
+sequential : (groups : List GroupPairs) (memory : List ℕ) (answered : List Answered) (left : Machine) → State groups memory answered left → (fill : Filling)
+    → Sequential groups memory answered left fill
+unfolding plainLoads plainMemory
+sequential groups memory answered left st fill = record {
+  takes = λ port n v h.
+      rw (st .seen .shape) at
+      (taken-is-loaded fill port (st .log) 0 (left .memory) memory (rowsOf (told answered)) (st .seen .rows) (st .holds .agree) (takenAt port answered) (st .seen .takes port) n v h);
+  writes = λ full.
+      rw (st .seen .shape) at
+      (written-is-plain fill (st .log) 0 (left .memory) memory (rowsOf (told answered)) (st .seen .rows) (st .holds .agree)
+      (all-written (st .log) (st .seen .writes ∙ full ∙ sym (ap (countWhere isStore) (st .seen .shape)))));
+  moves = state-moves groups memory answered left st;
+}
+
+-- DEMAND 3. The bound on what is filled in is not used: a taken load and the stores before it have their addresses (28), and
+-- so has every written store, so that nothing filled in is ever read.
+pub demand3 : Demand3
+demand3 groups memory m o calls fill low = sequential groups memory (answers m calls) (leaves m calls) (reached o calls) fill
+
+-- ---- two lists alike
+
+-- the plain run's values depend on the accepted activations and the rows alone
+alike-loads : (groups : List GroupPairs) (memory : List ℕ) (a b : List Told) → Alike a b → (fill : Filling) (port : ℕ) → plainLoads groups memory a fill port ≡ plainLoads groups memory b fill port
+unfolding plainLoads
+alike-loads groups memory a b h fill port =
+    let rows : rowsOf a ≡ rowsOf b = fun-ext (λ kind. fun-ext (λ p. h .arguments kind p)) in
+    ap (λ (r : Rows). valuesAt port (loadedFrom fill 0 (record { memory = memory; rows = r }) (accesses groups a))) rows
+    ∙ ap (λ (gs : List ℕ). valuesAt port (loadedFrom fill 0 (record { memory = memory; rows = rowsOf b }) (inOrder groups gs))) (h .activations)
+
+-- any filling serves; the memory has a word 0
+zeros : Filling
+zeros = record { address = λ k. 0; word = λ k. 0 }
+
+pub alike : AlikeLists
+unfolding zeros
+alike groups memory m₁ m₂ o₁ o₂ calls₁ calls₂ same port n v w h₁ h₂ =
+    let low : 0 < length memory = leb-true 1 (length memory) (and-left (leb 1 (length memory)) _ (opening-limits o₁ .wordsRight)) in
+    let e₁ : getElem? (plainLoads groups memory (told (answers m₁ calls₁)) zeros port) n ≡ some v = demand3 groups memory m₁ o₁ calls₁ zeros (λ k. low) .takes port n v h₁ in
+    let e₂ : getElem? (plainLoads groups memory (told (answers m₂ calls₂)) zeros port) n ≡ some w = demand3 groups memory m₂ o₂ calls₂ zeros (λ k. low) .takes port n w h₂ in
+    let e : plainLoads groups memory (told (answers m₁ calls₁)) zeros port ≡ plainLoads groups memory (told (answers m₂ calls₂)) zeros port
+    = alike-loads groups memory (told (answers m₁ calls₁)) (told (answers m₂ calls₂)) same zeros port in
+    let both : some v ≡ some w = sym e₁ ∙ ap (λ (l : List ℕ). getElem? l n) e ∙ e₂ in
+    cc

@@ -1,0 +1,143 @@
+-- Two memories side by side, one walk through the log. `n` is the plain run's memory so far. `m` is what the queue's memory
+-- would be if every unwritten store up to here had been done in order. They agree on all that is still to be read.
+-- "However missing arguments are filled in" is said entry by entry: a completion has whatever arguments the entry has.
+use Prim.Native.Nat.{ℕ, _<_}
+use mathlib.Core.Path.{_≡_, refl, sym, ap, _∙_}
+use mathlib.Core.Bool.{Bool, true, false, not, _&&_, _||_}
+use mathlib.Core.List.{List, [], _∷_, _++_, map}
+use mathlib.Core.Option.{Option, none, some}
+use lib.Dec.{eqb}
+use lib.ListN.{length, getD, set, length-set}
+use lib.Seq.{getD-set-same, getD-set-other, set-comm}
+use borrow.Author.Tests.{eqb-true, eqb-false, not-true}
+use Rattle.table.specs.Basics.{pick, allOf}
+use Rattle.table.specs.Group.{Access, load, store}
+use Rattle.queue.specs.Ruled.{isSome}
+use Rattle.queue.specs.Contents.{Load, Store}
+use Rattle.queue.specs.Activate.{newLoad, newStore}
+use Rattle.queue.specs.Serve.{addressIs, supplies, loadWithValue}
+use Rattle.queue.specs.Write.{addressApart, loadGivesWay, storeGivesWay, storeDone}
+use Rattle.queue.proofs.Lists.{false-true, and-left, and-right}
+use Rattle.sequential.proofs.Log.{Entry, ofLoad, ofStore, loads, stores, ownIn}
+
+-- may x stand where this is known
+abbrev pub fits : Option ℕ → ℕ → Type 0
+fits none x = Unit {0}
+fits (some y) x = y ≡ x
+
+-- what a load reads at a: what it was served, else what memory would give
+abbrev pub reads : Option ℕ → List ℕ → ℕ → ℕ
+reads none m a = getD m a 0
+reads (some v) m a = v
+
+-- what a store does to m: its write, or nothing where it is written already
+abbrev pub does : Bool → List ℕ → ℕ → ℕ → List ℕ
+does true m a w = m
+does false m a w = set m a w
+
+abbrev pub Agree : List ℕ → List ℕ → List Entry → Type 0
+Agree m n [] = m ≡ n
+Agree m n (ofLoad l ∷ es) = ((a : ℕ) → fits (l .address) a → reads (l .value) m a ≡ getD n a 0) × Agree m n es
+Agree m n (ofStore s ∷ es) = (a w : ℕ) → fits (s .address) a → fits (s .word) w → Agree (does (s .written) m a w) (set n a w) es
+
+-- ---- one entry made anew
+
+pub agree-change : (e e′ : Entry) (post : List Entry) → ((m n : List ℕ) → Agree m n (e ∷ post) → Agree m n (e′ ∷ post))
+    → (pre : List Entry) (m n : List ℕ) → Agree m n (pre ++ e ∷ post) → Agree m n (pre ++ e′ ∷ post)
+agree-change e e′ post change [] m n h = change m n h
+agree-change e e′ post change (ofLoad l ∷ pre) m n h = (h .0, agree-change e e′ post change pre m n (h .1))
+agree-change e e′ post change (ofStore s ∷ pre) m n h = λ a w p q. agree-change e e′ post change pre (does (s .written) m a w) (set n a w) (h a w p q)
+
+-- ---- new entries
+
+abbrev pub fresh : Access → Entry
+fresh (load p) = ofLoad (newLoad p 0)
+fresh (store p) = ofStore (newStore p 0)
+
+pub agree-fresh : (m : List ℕ) (new : List Access) → Agree m m (map fresh new)
+agree-fresh m [] = refl
+agree-fresh m (load p ∷ new) = (λ a f. refl, agree-fresh m new)
+agree-fresh m (store p ∷ new) = λ a w f g. agree-fresh (set m a w) new
+
+pub agree-append : (es : List Entry) (new : List Access) (m n : List ℕ) → Agree m n es → Agree m n (es ++ map fresh new)
+agree-append [] new m n h = rw (← h) (agree-fresh m new)
+agree-append (ofLoad l ∷ es) new m n h = (h .0, agree-append es new m n (h .1))
+agree-append (ofStore s ∷ es) new m n h = λ a w p q. agree-append es new (does (s .written) m a w) (set n a w) (h a w p q)
+
+-- ---- serve: what the earlier stores make known of the word at an address
+
+-- Walked from the oldest: each unwritten store to the address overrides what was known before it.
+abbrev pub known : ℕ → Option ℕ → List Store → Option ℕ
+known a k [] = k
+known a k (s ∷ ss) = known a (pick (supplies a s) (s .word) k) ss
+
+-- a store that is written, or whose address is known
+abbrev pub settled : Store → Bool
+settled s = (s .written) || isSome (s .address)
+
+-- what is known is what memory holds
+abbrev pub Holding : Option ℕ → ℕ → Type 0
+Holding k x = (v : ℕ) → k ≡ some v → x ≡ v
+
+-- One more store: known before, and the store done, give known after.
+holding-store : (s : Store) (a : ℕ) (k : Option ℕ) (m : List ℕ) → a < length m → settled s ≡ true → Holding k (getD m a 0)
+    → (b w : ℕ) → fits (s .address) b → fits (s .word) w → Holding (pick (supplies a s) (s .word) k) (getD (does (s .written) m b w) a 0)
+holding-store s a k m low known-address h b w = go (s .written) (s .address) (s .word) known-address
+  where
+    word : (o : Option ℕ) → fits o w → Holding o w
+    word none f v e = cc
+    word (some x) f v e = let g : x ≡ v = cc in sym f ∙ g
+
+    go : (written : Bool) (address word′ : Option ℕ) → written || isSome address ≡ true → fits address b → fits word′ w
+        → Holding (pick (not written && addressIs a address) word′ k) (getD (does written m b w) a 0)
+    go true address word′ t f g = h
+    go false none word′ t f g = false-true t
+    go false (some c) word′ t f g = at (eqb c a) refl
+      where
+        at : (t : Bool) → eqb c a ≡ t → Holding (pick t word′ k) (getD (set m b w) a 0)
+        at true e = let same : b ≡ a = sym f ∙ eqb-true c a e in rw same (rw (getD-set-same m a w 0 low) (word word′ g))
+        at false e = rw (getD-set-other m b a w 0 (λ p. eqb-false c a e (f ∙ sym p))) h
+
+pub agree-serve : (l : Load) (post : List Entry) (a v : ℕ) → l .address ≡ some a → l .value ≡ none
+    → (pre : List Entry) (k : Option ℕ) (m n : List ℕ) → a < length m → Holding k (getD m a 0)
+    → allOf settled (ownIn stores pre) ≡ true → known a k (ownIn stores pre) ≡ some v
+    → Agree m n (pre ++ ofLoad l ∷ post) → Agree m n (pre ++ ofLoad (loadWithValue v l) ∷ post)
+agree-serve l post a v address unserved [] k m n low h t e g = (λ b f. served b f, g .1)
+  where
+    served : (b : ℕ) → fits (l .address) b → v ≡ getD n b 0
+    served b f = let same : a ≡ b = (rw address at f) in sym (h v e) ∙ (rw (unserved) at (g .0 a (rw address refl))) ∙ ap (λ (i : ℕ). getD n i 0) same
+agree-serve l post a v address unserved (ofLoad k₁ ∷ pre) k m n low h t e g = (g .0, agree-serve l post a v address unserved pre k m n low h t e (g .1))
+agree-serve l post a v address unserved (ofStore s ∷ pre) k m n low h t e g =
+    λ b w p q. agree-serve l post a v address unserved pre (pick (supplies a s) (s .word) k) (does (s .written) m b w) (set n b w) (long (s .written) b w)
+    (holding-store s a k m low (and-left (settled s) (allOf settled (ownIn stores pre)) t) h b w p q) (and-right (settled s) (allOf settled (ownIn stores pre)) t) e (g b w p q)
+  where
+    long : (written : Bool) (b w : ℕ) → a < length (does written m b w)
+    long true b w = low
+    long false b w = rw (length-set m b w) low
+
+-- ---- write: the store may go ahead of everything before it
+
+pub agree-write : (s : Store) (post : List Entry) (a w : ℕ) → s .address ≡ some a → s .word ≡ some w → s .written ≡ false
+    → (pre : List Entry) (m n : List ℕ) → allOf (loadGivesWay a) (ownIn loads pre) ≡ true → allOf (storeGivesWay a) (ownIn stores pre) ≡ true
+    → Agree m n (pre ++ ofStore s ∷ post) → Agree (set m a w) n (pre ++ ofStore (storeDone s) ∷ post)
+agree-write s post a w address word unwritten [] m n tl ts g = λ b x f h. done b x f h (rw address at f) (rw word at h)
+  where
+    done : (b x : ℕ) → fits (s .address) b → fits (s .word) x → a ≡ b → w ≡ x → Agree (set m a w) (set n b x) post
+    done b x f h same same′ = rw (same, same′) (rw unwritten at (g b x f h))
+agree-write s post a w address word unwritten (ofLoad l ∷ pre) m n tl ts g = (
+  λ b f. ahead (l .value) (l .address) (and-left (loadGivesWay a l) (allOf (loadGivesWay a) (ownIn loads pre)) tl) b f (g .0 b f),
+  agree-write s post a w address word unwritten pre m n (and-right (loadGivesWay a l) (allOf (loadGivesWay a) (ownIn loads pre)) tl) ts (g .1),
+)
+  where
+    ahead : (value address′ : Option ℕ) → isSome value || addressApart a address′ ≡ true → (b : ℕ) → fits address′ b → reads value m b ≡ getD n b 0 → reads value (set m a w) b ≡ getD n b 0
+    ahead (some v) address′ t b f h = h
+    ahead none none t b f h = false-true t
+    ahead none (some c) t b f h = rw (getD-set-other m a b w 0 (λ p. eqb-false c a (not-true (eqb c a) t) (f ∙ p))) h
+agree-write s post a w address word unwritten (ofStore r ∷ pre) m n tl ts g =
+    λ b x f h. rw (ahead (r .written) (r .address) (and-left (storeGivesWay a r) (allOf (storeGivesWay a) (ownIn stores pre)) ts) b x f)
+    (agree-write s post a w address word unwritten pre (does (r .written) m b x) (set n b x) tl (and-right (storeGivesWay a r) (allOf (storeGivesWay a) (ownIn stores pre)) ts) (g b x f h))
+  where
+    ahead : (written : Bool) (address′ : Option ℕ) → written || addressApart a address′ ≡ true → (b x : ℕ) → fits address′ b → does written (set m a w) b x ≡ set (does written m b x) a w
+    ahead true address′ t b x f = refl
+    ahead false none t b x f = false-true t
+    ahead false (some c) t b x f = set-comm m a b w x (λ p. eqb-false c a (not-true (eqb c a) t) (f ∙ sym p))

@@ -1,0 +1,240 @@
+-- Progress: where every access has its arguments and some load is unserved or some store unwritten, the oldest such access of
+-- the log stands in the queue, and a serve or write of it is accepted.
+use Prim.Native.Nat.{ℕ, suc, _^_, _≤_, _<_}
+use native.Mathlib.Omega.{arith}
+use mathlib.Core.Path.{_≡_, refl, sym, ap, _∙_}
+use mathlib.Core.Logic.{_⊎_, inl, inr}
+use mathlib.Core.Bool.{Bool, true, false, not, _&&_}
+use mathlib.Core.List.{List, [], _∷_, _++_, map}
+use mathlib.Core.Option.{Option, none, some}
+use lib.Dec.{leb, eqb}
+use lib.ListN.{length, take, getElem?}
+use borrow.Author.Tests.{eq-eqb, leb-true}
+use Rattle.table.specs.Basics.{allOf, countWhere}
+use Rattle.table.specs.Group.{GroupPairs}
+use Rattle.queue.specs.Ruled.{number, isSome}
+use Rattle.queue.specs.Contents.{Load, Store, Contents, after, oldest, loadPlace, storePlace}
+use Rattle.queue.specs.Sound.{sound}
+use Rattle.queue.specs.Serve.{hasAddress, nearest, serve}
+use Rattle.queue.specs.Write.{addressApart, loadGivesWay, storeGivesWay, storeFinished, write}
+use Rattle.queue.proofs.Lists.{false-true, is-none, and-left, and-right, and-both, or-left, all-left, all-middle, getElem?-short}
+use Rattle.queue.proofs.Serials.{place-of-serial, oldest-small, after-small}
+use Rattle.sequential.specs.Calls.{Argument, LoadAddress, StoreAddress, StoreData}
+use Rattle.sequential.specs.Call.{Machine, Answered}
+use Rattle.sequential.specs.Plain.{rowsOf, accesses, consOption}
+use Rattle.sequential.specs.Demand3.{told, uses, isLoad, isStore, someUnserved, someUnwritten, allArguments, wouldMove}
+use Rattle.sequential.proofs.Log.{Entry, ofLoad, ofStore, Kind, loads, stores, ownIn, loads-stores, stores-loads, ownIn-append}
+use Rattle.sequential.proofs.Window.{Located, turned, unfinished-queued, before-queued}
+use Rattle.sequential.proofs.Rows.{given, cellFor, lacking, row-full, eqb-self}
+use Rattle.sequential.proofs.PlainRun.{accessOf}
+use Rattle.sequential.proofs.State.{Holds, State, rightLoad, untaken-unserved, served, written}
+use Rattle.sequential.proofs.ReachedSound.{holds-sound}
+
+-- ---- what is accepted
+
+serve-accepted : (q : Contents) (m : List ℕ) (serial : ℕ) (l : Load) (a : ℕ) → sound q ≡ true → length m ≡ q .memoryLength → getElem? (q .loads) (loadPlace q serial) ≡ some l
+    → l .value ≡ none → l .address ≡ some a → allOf hasAddress (take (l .before) (q .stores)) ≡ true → nearest a none (take (l .before) (q .stores)) ≡ none
+    → number (serve q m serial) ≡ 0
+unfolding serve
+serve-accepted q m serial l a right long at unserved address earlier none-supplies =
+    rw (right, eq-eqb (length m) (q .memoryLength) long, at, unserved, address, earlier, none-supplies)
+
+write-accepted : (q : Contents) (m : List ℕ) (serial : ℕ) (s : Store) (a w : ℕ) → sound q ≡ true → length m ≡ q .memoryLength → getElem? (q .stores) (storePlace q serial) ≡ some s
+    → s .written ≡ false → s .address ≡ some a → s .word ≡ some w → allOf (loadGivesWay a) (take (s .before) (q .loads)) ≡ true
+    → allOf (storeGivesWay a) (take (storePlace q serial) (q .stores)) ≡ true → number (write q m serial) ≡ 0
+unfolding write
+write-accepted q m serial s a w right long at unwritten address word loadsApart storesApart =
+    rw (right, eq-eqb (length m) (q .memoryLength) long, at, unwritten, address, word, loadsApart, storesApart)
+
+-- written stores supply nothing
+nearest-written : (a : ℕ) (found : Option Store) (ss : List Store) → allOf storeFinished ss ≡ true → nearest a found ss ≡ found
+nearest-written a found [] h = refl
+nearest-written a found (s ∷ ss) h = rw (and-left (s .written) (allOf storeFinished ss) h) (nearest-written a found ss (and-right (s .written) (allOf storeFinished ss) h))
+
+-- ---- complete and done entries
+
+abbrev complete : Entry → Bool
+complete (ofLoad l) = isSome (l .address)
+complete (ofStore s) = isSome (s .address) && isSome (s .word)
+
+abbrev done : Entry → Bool
+done (ofLoad l) = isSome (l .value)
+done (ofStore s) = s .written
+
+-- a test of entries, read for one kind
+all-own : {A : Type 0} (K : Kind A) (p : Entry → Bool) (r : A → Bool) → ((a : A) → p (K .put a) ≡ true → r a ≡ true) → (es : List Entry) → allOf p es ≡ true → allOf r (ownIn K es) ≡ true
+all-own K p r w [] h = refl
+all-own {A} K p r w (e ∷ es) h = go (K .own e) refl (all-own K p r w es (and-right (p e) (allOf p es) h))
+  where
+    go : (o : Option A) → K .own e ≡ o → allOf r (ownIn K es) ≡ true → allOf r (consOption o (ownIn K es)) ≡ true
+    go none own k = k
+    go (some a) own k = let is : e ≡ K .put a = K .put-own e a own in and-both (w a (rw is at (and-left (p e) (allOf p es) h))) k
+
+filled-some : (port : ℕ) (o : Option ℕ) → not (lacking (cellFor (eqb port port) o)) ≡ true → isSome o ≡ true
+filled-some port o h = go o (rw (eqb-self port) at h)
+  where
+    go : (o : Option ℕ) → not (lacking (some o)) ≡ true → isSome o ≡ true
+    go none k = k
+    go (some x) k = refl
+
+-- where no cell waits, every entry is complete
+all-complete : (es : List Entry) → ((kind : Argument) (port : ℕ) → allOf (λ d. not (lacking (given kind port d))) es ≡ true) → allOf complete es ≡ true
+all-complete [] h = refl
+all-complete (ofLoad l ∷ es) h =
+    and-both (filled-some (l .port) (l .address) (and-left (not (lacking (given LoadAddress (l .port) (ofLoad l)))) _ (h LoadAddress (l .port))))
+    (all-complete es (λ kind port. and-right (not (lacking (given kind port (ofLoad l)))) _ (h kind port)))
+all-complete (ofStore s ∷ es) h =
+    and-both
+    (and-both (filled-some (s .port) (s .address) (and-left (not (lacking (given StoreAddress (s .port) (ofStore s)))) _ (h StoreAddress (s .port))))
+    (filled-some (s .port) (s .word) (and-left (not (lacking (given StoreData (s .port) (ofStore s)))) _ (h StoreData (s .port)))))
+    (all-complete es (λ kind port. and-right (not (lacking (given kind port (ofStore s)))) _ (h kind port)))
+
+cell-there : (b : Bool) (o : Option ℕ) → isSome (cellFor b o) ≡ b
+cell-there true o = refl
+cell-there false o = refl
+
+-- an entry has a cell in the row of what its access uses
+given-uses : (kind : Argument) (port : ℕ) (e : Entry) → isSome (given kind port e) ≡ uses kind port (accessOf e)
+given-uses LoadAddress port (ofLoad l) = cell-there (eqb (l .port) port) (l .address)
+given-uses LoadAddress port (ofStore s) = refl
+given-uses StoreAddress port (ofLoad l) = refl
+given-uses StoreAddress port (ofStore s) = cell-there (eqb (s .port) port) (s .address)
+given-uses StoreData port (ofLoad l) = refl
+given-uses StoreData port (ofStore s) = cell-there (eqb (s .port) port) (s .word)
+
+count-uses : (kind : Argument) (port : ℕ) (es : List Entry) → countWhere (λ d. isSome (given kind port d)) es ≡ countWhere (uses kind port) (map accessOf es)
+count-uses kind port [] = refl
+count-uses kind port (e ∷ es) = rw (given-uses kind port e, count-uses kind port es)
+
+-- all is done, or there is an oldest entry that is not
+first-undone : (es : List Entry) → (allOf done es ≡ true) ⊎ ((pre : List Entry) × (e : Entry) × (post : List Entry) × (es ≡ pre ++ e ∷ post) × (allOf done pre ≡ true) × (done e ≡ false))
+first-undone [] = inl refl
+first-undone (e ∷ es) = go (done e) refl (first-undone es)
+  where
+    Undone : List Entry → Type 0
+    Undone l = (allOf done l ≡ true) ⊎ ((pre : List Entry) × (d : Entry) × (post : List Entry) × (l ≡ pre ++ d ∷ post) × (allOf done pre ≡ true) × (done d ≡ false))
+
+    go : (b : Bool) → done e ≡ b → Undone es → Undone (e ∷ es)
+    go false t rest = inr ([], e, es, refl, refl, t)
+    go true t (inl h) = inl (and-both t h)
+    go true t (inr (pre, d, post, is, h, f)) = inr (e ∷ pre, d, post, ap (λ (l : List Entry). e ∷ l) is, and-both t h, f)
+
+done-served : (es : List Entry) → allOf done es ≡ true → countWhere served es ≡ countWhere isLoad (map accessOf es)
+done-served [] h = refl
+done-served (ofLoad l ∷ es) h = rw (and-left (isSome (l .value)) (allOf done es) h) (ap suc (done-served es (and-right (isSome (l .value)) (allOf done es) h)))
+done-served (ofStore s ∷ es) h = done-served es (and-right (s .written) (allOf done es) h)
+
+done-written : (es : List Entry) → allOf done es ≡ true → countWhere written es ≡ countWhere isStore (map accessOf es)
+done-written [] h = refl
+done-written (ofLoad l ∷ es) h = done-written es (and-right (isSome (l .value)) (allOf done es) h)
+done-written (ofStore s ∷ es) h = rw (and-left (s .written) (allOf done es) h) (ap suc (done-written es (and-right (s .written) (allOf done es) h)))
+
+is-some : (o : Option ℕ) → isSome o ≡ true → (x : ℕ) × (o ≡ some x)
+is-some none h = false-true h
+is-some (some x) h = (x, refl)
+
+-- ---- the oldest undone entry moves
+
+module _ (q : Contents) (m memory : List ℕ) (log : List Entry) (h : Holds q m memory log) (filled : allOf complete log ≡ true) where
+  right : sound q ≡ true
+  right = holds-sound q m memory log h
+
+  -- a place of the queue is far below the number of serials
+  load-depth : q .loadDepth ≤ 64
+  load-depth = leb-true (q .loadDepth) 64 (and-right (leb 1 (q .loadDepth)) _ (h .limits .loadDepthRight))
+
+  store-depth : q .storeDepth ≤ 64
+  store-depth = leb-true (q .storeDepth) 64 (and-right (leb 1 (q .storeDepth)) _ (h .limits .storeDepthRight))
+
+  load-moves : (pre : List Entry) (l : Load) (post : List Entry) → log ≡ pre ++ ofLoad l ∷ post → allOf done pre ≡ true → isSome (l .value) ≡ false
+      → wouldMove (record { queue = q; memory = m })
+  load-moves pre l post log-is before unserved =
+      go (unfinished-queued loads stores loads-stores (h .windows) pre l post log-is untaken) (is-some (l .address) (all-middle complete pre post (ofLoad l) (rw log-is at filled)))
+    where
+      value : l .value ≡ none
+      value = is-none (l .value) (rw unserved)
+
+      untaken : l .taken ≡ false
+      untaken =
+          untaken-unserved (q .memoryLength) l
+          (all-middle (rightLoad (q .memoryLength)) (ownIn loads pre) (ownIn loads post) l (rw (log-is, ownIn-append loads pre (ofLoad l ∷ post)) at (h .rightLoads))) value
+
+      storesWritten : allOf storeFinished (ownIn stores pre) ≡ true
+      storesWritten = all-own stores done storeFinished (λ s t. t) pre before
+
+      storesAddressed : allOf hasAddress (ownIn stores pre) ≡ true
+      storesAddressed = all-own stores complete hasAddress (λ s t. and-left (isSome (s .address)) _ t) pre (all-left complete pre (ofLoad l ∷ post) (rw log-is at filled))
+
+      go : (i : ℕ) × Located loads stores log (q .loads) (q .stores) i pre l post → (a : ℕ) × (l .address ≡ some a) → wouldMove (record { queue = q; memory = m })
+      go (i, place) (a, address) =
+          let low : i < 2 ^ 32 = (let short : i < length (q .loads) = getElem?-short (q .loads) i (place .at) in omega (arith, h .roomLoads, load-depth)) in
+          let serial : ℕ = after (oldest (q .nextLoad) (length (q .loads))) i in
+          let is : loadPlace q serial ≡ i = place-of-serial (oldest (q .nextLoad) (length (q .loads))) i (oldest-small (q .nextLoad) (length (q .loads))) low in (
+            serial,
+            after-small (oldest (q .nextLoad) (length (q .loads))) i,
+            inl
+                (serve-accepted q m serial (loads .remember (place .number) l) a right (h .long) (ap (getElem? (q .loads)) is ∙ place .at) value address
+                (before-queued (place .before′) hasAddress (λ n s. refl) storesAddressed)
+                (nearest-written a none (take (place .number) (q .stores)) (before-queued (place .before′) storeFinished (λ n s. refl) storesWritten))),
+          )
+
+  store-moves : (pre : List Entry) (s : Store) (post : List Entry) → log ≡ pre ++ ofStore s ∷ post → allOf done pre ≡ true → s .written ≡ false
+      → wouldMove (record { queue = q; memory = m })
+  store-moves pre s post log-is before unwritten =
+      go (unfinished-queued stores loads stores-loads (turned (h .windows)) pre s post log-is unwritten)
+      (is-some (s .address) (and-left (isSome (s .address)) (isSome (s .word)) filled-it)) (is-some (s .word) (and-right (isSome (s .address)) (isSome (s .word)) filled-it))
+    where
+      filled-it : isSome (s .address) && isSome (s .word) ≡ true
+      filled-it = all-middle complete pre post (ofStore s) (rw log-is at filled)
+
+      loadsApart : (a : ℕ) → allOf (loadGivesWay a) (ownIn loads pre) ≡ true
+      loadsApart a = all-own loads done (loadGivesWay a) (λ l t. or-left (isSome (l .value)) (addressApart a (l .address)) t) pre before
+
+      storesApart : (a : ℕ) → allOf (storeGivesWay a) (ownIn stores pre) ≡ true
+      storesApart a = all-own stores done (storeGivesWay a) (λ r t. or-left (r .written) (addressApart a (r .address)) t) pre before
+
+      go : (i : ℕ) × Located stores loads log (q .stores) (q .loads) i pre s post → (a : ℕ) × (s .address ≡ some a) → (w : ℕ) × (s .word ≡ some w)
+          → wouldMove (record { queue = q; memory = m })
+      go (i, place) (a, address) (w, word) =
+          let low : i < 2 ^ 32 = (let short : i < length (q .stores) = getElem?-short (q .stores) i (place .at) in omega (arith, h .roomStores, store-depth)) in
+          let serial : ℕ = after (oldest (q .nextStore) (length (q .stores))) i in
+          let is : storePlace q serial ≡ i = place-of-serial (oldest (q .nextStore) (length (q .stores))) i (oldest-small (q .nextStore) (length (q .stores))) low in (
+            serial,
+            after-small (oldest (q .nextStore) (length (q .stores))) i,
+            inr
+                (write-accepted q m serial (stores .remember (place .number) s) a w right (h .long) (ap (getElem? (q .stores)) is ∙ place .at) unwritten address word
+                (before-queued (place .before′) (loadGivesWay a) (λ n l. refl) (loadsApart a))
+                (rw is (before-queued (place .before) (storeGivesWay a) (λ n r. refl) (storesApart a)))),
+          )
+
+  -- some serve or write would be accepted, unless all is done
+  pub undone-moves : (allOf done log ≡ true) ⊎ wouldMove (record { queue = q; memory = m })
+  undone-moves = go (first-undone log)
+    where
+      at : (pre : List Entry) (e : Entry) (post : List Entry) → log ≡ pre ++ e ∷ post → allOf done pre ≡ true → done e ≡ false → wouldMove (record { queue = q; memory = m })
+      at pre (ofLoad l) post is before undone = load-moves pre l post is before undone
+      at pre (ofStore s) post is before undone = store-moves pre s post is before undone
+
+      go : (allOf done log ≡ true) ⊎ ((pre : List Entry) × (e : Entry) × (post : List Entry) × (log ≡ pre ++ e ∷ post) × (allOf done pre ≡ true) × (done e ≡ false))
+          → (allOf done log ≡ true) ⊎ wouldMove (record { queue = q; memory = m })
+      go (inl h₁) = inl h₁
+      go (inr (pre, e, post, is, before, undone)) = inr (at pre e post is before undone)
+
+-- Progress, of a state that calls led to.
+pub state-moves : (groups : List GroupPairs) (memory : List ℕ) (answered : List Answered) (m : Machine) → State groups memory answered m
+    → (someUnserved groups (told answered) ⊎ someUnwritten groups (told answered)) → allArguments groups (told answered) → wouldMove m
+state-moves groups memory answered m st undone full = go (undone-moves (m .queue) (m .memory) memory (st .log) (st .holds) filled) undone
+  where
+    filled : allOf complete (st .log) ≡ true
+    filled =
+        all-complete (st .log) (λ kind port. row-full (given kind port) (st .log) (rowsOf (told answered) kind port) (st .seen .rows kind port)
+        (full kind port ∙ sym (ap (countWhere (uses kind port)) (st .seen .shape)) ∙ sym (count-uses kind port (st .log))))
+
+    go : (allOf done (st .log) ≡ true) ⊎ wouldMove m → (someUnserved groups (told answered) ⊎ someUnwritten groups (told answered)) → wouldMove m
+    go (inr moves) u = moves
+    go (inl h) (inl fewer) =
+        let e : countWhere served (st .log) ≡ countWhere isLoad (accesses groups (told answered)) = done-served (st .log) h ∙ ap (countWhere isLoad) (st .seen .shape) in
+        absurd (omega (arith, st .seen .serves))
+    go (inl h) (inr fewer) =
+        let e : countWhere written (st .log) ≡ countWhere isStore (accesses groups (told answered)) = done-written (st .log) h ∙ ap (countWhere isStore) (st .seen .shape) in
+        absurd (omega (arith, st .seen .writes))

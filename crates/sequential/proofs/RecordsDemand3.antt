@@ -1,0 +1,216 @@
+-- A run of the records is the definitions' run of what they hold, so demand 3 carries over.
+use Prim.Native.Nat.{ℕ, _^_, _<_}
+use mathlib.Core.Path.{_≡_, refl, sym, ap, ap₂, _∙_}
+use mathlib.Core.Bool.{Bool, true, false}
+use mathlib.Core.List.{List, _∷_}
+use mathlib.Core.Option.{Option, none}
+use lib.Dec.{eqb}
+use lib.ListN.{length}
+use borrow.Author.Tests.{eqb-false}
+use Rattle.table.specs.declared.Table.{Table}
+use Rattle.table.specs.Basics.{allOf}
+use Rattle.table.specs.Group.{GroupPairs}
+use Rattle.table.specs.Table.{groupsOf, tableFault}
+use Rattle.queue.specs.declared.Queue.{Queue}
+use Rattle.queue.specs.declared.Counts.{Counts}
+use Rattle.queue.specs.declared.Outcome.{Outcome}
+use Rattle.queue.specs.declared.Opened.{Opened}
+use Rattle.queue.specs.declared.Readied.{Readied}
+use Rattle.queue.specs.declared.Frame.{Frame}
+use Rattle.queue.specs.declared.opening.OpenedFrame.{OpenedFrame}
+use Rattle.queue.specs.Ruled.{Ruled, refuse, accept, number, need}
+use Rattle.queue.specs.Contents.{Contents, contentsOf}
+use Rattle.queue.specs.Sound.{depthRight, memoryRight}
+use Rattle.queue.specs.Open.{groupFits, openQueue}
+use Rattle.queue.specs.Activate.{activate}
+use Rattle.queue.specs.Serve.{Served, serve}
+use Rattle.queue.specs.Write.{Written, write}
+use Rattle.queue.specs.Take.{Taken, takeRule}
+use Rattle.queue.specs.Outcome.{valueIn, Handed, handed, noValue, Accepted, HandedCounts, Moves, Takes, Serves, Writes, Opens}
+use Rattle.queue.specs.ServeLent.{withCounts}
+use Rattle.queue.specs.ReadyOutcome.{Readies}
+use Rattle.queue.specs.NoQueue.{freshFrame}
+use Rattle.queue.specs.Parts.{queueOf, OpensFrame}
+use Rattle.queue.proofs.Refusals.{proper, need-proper, refusal-not-zero}
+use Rattle.sequential.specs.Calls.{Call, Activate, Give, Serve, Write, Take, Ready}
+use Rattle.sequential.specs.Call.{Machine, Step, moved, served, written, taken, give, ready, step, Answered, answers, leaves}
+use Rattle.sequential.specs.Records.{logged, Hands, Runs, done, next, machineOf, OpenedRecord}
+use Rattle.sequential.specs.Records.{ServeCountedHands, ServeHands, ReadyIntoHands, ReadyHands}
+use Rattle.sequential.specs.Records.{RecordsDemand3, FramesDemand3, AlikeRecords, RecordsSound}
+use Rattle.sequential.specs.Demand3.{Opening}
+use Rattle.sequential.proofs.ReachedSound.{reached-sound}
+use Rattle.sequential.proofs.Demand3.{demand3, alike}
+
+-- ---- one call: what it hands over is what the definitions' step gives
+pub record Same (s : Step) (r : Outcome) (left : List ℕ) : Type 0 where
+  pub number : s .number ≡ r .answer
+  pub value : s .value ≡ valueIn (r .value)
+  pub queue : s .machine .queue ≡ contentsOf (r .queue)
+  pub memory : s .machine .memory ≡ left
+
+accepted-same : {v : Option ℕ} {c : Contents} {r : Outcome} (left : List ℕ) → Accepted v c r
+    → Same (record { number = 0; value = v; machine = record { queue = c; memory = left } }) r left
+accepted-same left w = record { number = sym (w .answer); value = sym (w .gives); queue = sym (w .holds); memory = refl }
+
+module _ (q : Queue) (m : List ℕ) where
+  refused-same : {n : ℕ} {r : Outcome} → handed r ≡ noValue n q → Same (record { number = n; value = none; machine = machineOf q m }) r m
+  refused-same e = record {
+    number = sym (ap (λ (x : Handed). x .answer) e);
+    value = sym (ap (λ (x : Handed). x .value) e);
+    queue = sym (ap (λ (x : Handed). contentsOf (x .queue)) e);
+    memory = refl;
+  }
+
+  moves-same : (rule : Ruled Contents) (r : Outcome) → Moves q rule r → Same (moved (machineOf q m) rule) r m
+  moves-same (refuse n) r e = refused-same e
+  moves-same (accept c) r w = accepted-same m w
+
+  takes-same : (rule : Ruled Taken) (r : Outcome) → Takes q rule r → Same (taken (machineOf q m) rule) r m
+  takes-same (refuse n) r e = refused-same e
+  takes-same (accept t) r w = accepted-same m w
+
+  serves-same : (rule : Ruled Served) (lent left : Counts) (r : Outcome) → Serves q lent rule (withCounts r left) → Same (served (machineOf q m) rule) r m
+  serves-same (refuse n) lent left r e = refused-same (ap (λ (x : HandedCounts). x .outcome) e)
+  serves-same (accept s) lent left r w = record { number = sym (w .answer); value = sym (w .gives); queue = sym (w .holds); memory = refl }
+
+  writes-same : (rule : Ruled Written) (r : Outcome) (left : List ℕ) → Writes q m rule r left → Same (written (machineOf q m) rule) r left
+  writes-same (refuse n) r left w = rw (w .memory-is) (refused-same (w .outcome))
+  writes-same (accept x) r left w = rw (w .memory-is) (accepted-same (x .memory) (w .outcome))
+
+  -- a call that is not lent the memory
+  kept : {s : Step} {r : Outcome} (left : List ℕ) → Same s r m → left ≡ m → Same s r left
+  kept left s e = rw e s
+
+  pub hands-same : (c : Call) (r : Outcome) (left : List ℕ) → Hands q m c r left → Same (step (machineOf q m) c) r left
+  hands-same (Activate g) r left (w, e) = kept left (moves-same (activate (contentsOf q) g) r w) e
+  hands-same (Give kind p x) r left (w, e) = kept left (moves-same (give kind (contentsOf q) p x) r w) e
+  hands-same (Serve lent s) r left ((counts, w), e) = kept left (serves-same (serve (contentsOf q) m s) lent counts r w) e
+  hands-same (Write s) r left w = writes-same (write (contentsOf q) m s) r left w
+  hands-same (Take p) r left (w, e) = kept left (takes-same (takeRule (contentsOf q) p) r w) e
+  hands-same (Ready side run) r left (w, e) = kept left (refused-same w) e
+
+-- ---- the contracts of both ways to serve, and of both ways to ask what is ready
+pub serve-counted-hands : ServeCountedHands
+serve-counted-hands q m lent serial r w = ((r .counts, w), refl)
+
+pub serve-hands : ServeHands
+serve-hands q m lent left serial r w = ((left, w), refl)
+
+pub ready-into-hands : ReadyIntoHands
+ready-into-hands q m run left side r w = (go (ready side (contentsOf q) run) w, refl)
+  where
+    go : (rule : Ruled (List ℕ)) → Readies q run rule r left → noValue (r .answer) (r .queue) ≡ noValue (number rule) q
+    go (refuse n) w = ap (λ (x : Readied). noValue (x .answer) (x .queue)) (w .outcome)
+    go (accept found) w = ap (λ (x : Readied). noValue (x .answer) (x .queue)) (w .outcome)
+
+pub ready-hands : ReadyHands
+ready-hands q m run serials side answer queue w = (ap₂ noValue (w .answer-is) (w .queue-is), refl)
+
+-- ---- a run's answers and what it leaves
+pub record Agrees (m : Machine) (calls : List Call) (log : List Answered) (left : Machine) : Type 0 where
+  pub says : answers m calls ≡ log
+  pub ends : leaves m calls ≡ left
+
+abbrev entered : Call → ℕ → Option ℕ → Answered
+entered c n v = record { call = c; number = n; value = v }
+
+abbrev machine : Contents → List ℕ → Machine
+machine q m = record { queue = q; memory = m }
+
+one-more : {m : Machine} {c : Call} {cs : List Call} {log : List Answered} {left : Machine} {r : Outcome} {l : List ℕ}
+    → Same (step m c) r l → Agrees (machineOf (r .queue) l) cs log left → Agrees m (c ∷ cs) (logged c r ∷ log) left
+one-more {m} {c} {cs} {r = r} {l = l} s a =
+    let e : step m c .machine ≡ machineOf (r .queue) l = ap₂ machine (s .queue) (s .memory) in
+    record {
+      says =
+          ap₂ (λ (x : Answered) (xs : List Answered). x ∷ xs)
+          (ap₂ (entered c) (s .number) (s .value))
+          (ap (λ (k : Machine). answers k cs) e ∙ a .says);
+      ends = ap (λ (k : Machine). leaves k cs) e ∙ a .ends;
+    }
+
+pub runs-agree : {q : Queue} {m : List ℕ} {calls : List Call} {log : List Answered} {q₂ : Queue} {m₂ : List ℕ}
+    → Runs q m calls log q₂ m₂ → Agrees (machineOf q m) calls log (machineOf q₂ m₂)
+runs-agree done = record { says = refl; ends = refl }
+runs-agree (next {q} {m = m} {m₁} {c = c} r h k) = one-more (hands-same q m c r m₁ h) (runs-agree k)
+
+-- ---- an opening
+-- a refused one has a number: 4 to 8 are the table's own, and are not 0 where they refuse
+fault-refuses : {A : Type 0} (fault : ℕ) (rest : Ruled A) (n : ℕ) → proper rest ≡ true → need (eqb fault 0) fault rest ≡ refuse n → eqb n 0 ≡ false
+fault-refuses fault rest n p e = go (eqb fault 0) refl e
+  where
+    go : (t : Bool) → eqb fault 0 ≡ t → need t fault rest ≡ refuse n → eqb n 0 ≡ false
+    go true k d = refusal-not-zero rest n p d
+    go false k d = let same : fault ≡ n = cc in (rw same at k)
+
+pub open-refuses : (groups : List GroupPairs) (loadDepth storeDepth first words n : ℕ) → openQueue groups loadDepth storeDepth first words ≡ refuse n
+    → eqb n 0 ≡ false
+unfolding openQueue
+open-refuses groups loadDepth storeDepth first words n =
+    fault-refuses (tableFault groups) _ n
+    (need-proper (depthRight loadDepth) _ _ refl
+    (need-proper (depthRight storeDepth) _ _ refl
+    (need-proper (memoryRight words) _ _ refl (need-proper (allOf (groupFits loadDepth storeDepth) groups) _ _ refl refl))))
+
+-- such an opening is one in the sense of demand 3
+pub opening : {table : Table} {memory : List ℕ} {o : Opened} → OpenedRecord table memory o
+    → Opening (groupsOf table) memory (machineOf (o .queue) memory)
+opening {table} {memory} {o} w = record {
+  loadDepth = w .loadDepth;
+  storeDepth = w .storeDepth;
+  first = w .first;
+  serial = w .serial;
+  accepted = go (openQueue (groupsOf table) (w .loadDepth) (w .storeDepth) (w .first) (length memory)) (open-refuses _ _ _ _ _) (w .opens);
+  lent = refl;
+}
+  where
+    go : (rule : Ruled Contents) → ((n : ℕ) → rule ≡ refuse n → eqb n 0 ≡ false) → Opens (w .refused) rule o → rule ≡ accept (contentsOf (o .queue))
+    go (refuse n) p e = absurd (eqb-false n 0 (p n refl) (sym (ap (λ (x : Opened). x .answer) e) ∙ w .accepted))
+    go (accept c) p e = ap accept (sym (e .1))
+
+pub records-demand3 : RecordsDemand3
+records-demand3 table memory o w calls log q left run fill below =
+    let a = runs-agree run in
+    rw (← a .says, ← a .ends) (demand3 (groupsOf table) memory (machineOf (o .queue) memory) (opening w) calls fill below)
+
+-- an opened frame, with any two runs, is an opened record
+opened-parts : (fresh : Frame) (rule : Ruled Contents) (o : OpenedFrame) (l s : List ℕ) → OpensFrame fresh rule o
+    → Opens (queueOf (o .frame) l s) rule (record { answer = o .answer; queue = queueOf (o .frame) l s })
+opened-parts fresh (refuse n) o l s e = ap (λ (x : OpenedFrame). record { answer = x .answer; queue = queueOf (o .frame) l s }) e
+opened-parts fresh (accept q) o l s e =
+    (ap (λ (x : OpenedFrame). x .answer) (e .0), ap (λ (x : OpenedFrame). contentsOf (queueOf (x .frame) l s)) (e .0) ∙ e .1 l s)
+
+pub opened-frame : (table : Table) (loadDepth storeDepth first : ℕ) (memory : List ℕ) (o : OpenedFrame) → first < 2 ^ 32
+    → OpensFrame (freshFrame table loadDepth storeDepth first (length memory)) (openQueue (groupsOf table) loadDepth storeDepth first (length memory)) o
+    → o .answer ≡ 0 → (l s : List ℕ) → OpenedRecord table memory (record { answer = o .answer; queue = queueOf (o .frame) l s })
+opened-frame table loadDepth storeDepth first memory o serial opens accepted l s = record {
+  loadDepth = loadDepth;
+  storeDepth = storeDepth;
+  first = first;
+  serial = serial;
+  refused = queueOf (o .frame) l s;
+  opens =
+      opened-parts (freshFrame table loadDepth storeDepth first (length memory))
+      (openQueue (groupsOf table) loadDepth storeDepth first (length memory))
+      o l s opens;
+  accepted = accepted;
+}
+
+pub frames-demand3 : FramesDemand3
+frames-demand3 table loadDepth storeDepth first memory o serial opens accepted l s =
+    records-demand3 table memory (record { answer = o .answer; queue = queueOf (o .frame) l s })
+    (opened-frame table loadDepth storeDepth first memory o serial opens accepted l s)
+
+pub alike-records : AlikeRecords
+alike-records table₁ table₂ same memory o₁ o₂ w₁ w₂ calls₁ calls₂ log₁ log₂ q₁ q₂ left₁ left₂ run₁ run₂ =
+    let a = runs-agree run₁ in
+    let b = runs-agree run₂ in
+    let w : Opening (groupsOf table₁) memory (machineOf (o₂ .queue) memory) = rw same (opening w₂) in
+    rw (← a .says, ← b .says)
+    (alike (groupsOf table₁) memory (machineOf (o₁ .queue) memory) (machineOf (o₂ .queue) memory) (opening w₁) w calls₁ calls₂)
+
+pub records-sound : RecordsSound
+records-sound table memory o w calls log q left run =
+    let a = runs-agree run in
+    let e : contentsOf q ≡ leaves (machineOf (o .queue) memory) calls .queue = ap (λ (m : Machine). m .queue) (sym (a .ends)) in
+    rw e (reached-sound (groupsOf table) memory (machineOf (o .queue) memory) (opening w) calls)

@@ -1,0 +1,198 @@
+-- A row beside the log: the values of some entries in order, and then none. It serves the accepted arguments of each kind and
+-- port, and the values taken at each port.
+use Prim.Native.Nat.{ℕ, suc}
+use native.Mathlib.Omega.{arith}
+use mathlib.Core.Path.{_≡_, refl, sym, ap, subst}
+use mathlib.Core.Bool.{Bool, true, false, not, _&&_}
+use mathlib.Core.List.{List, [], _∷_, _++_, append-nil, tail}
+use mathlib.Core.Option.{Option, none, some}
+use lib.Dec.{eqb}
+use lib.ListN.{length}
+use borrow.Author.Tests.{eqb-true, eqb-false, eq-eqb, ne-eqb}
+use Rattle.table.specs.Basics.{pick, allOf, countWhere}
+use Rattle.queue.specs.Ruled.{isSome}
+use Rattle.queue.specs.Contents.{Load, Store}
+use Rattle.queue.proofs.Lists.{false-true, and-left, and-right, and-both}
+use Rattle.sequential.specs.Calls.{Argument, LoadAddress, StoreAddress, StoreData}
+use Rattle.sequential.specs.Plain.{Rows, nextOf, usedUp}
+use Rattle.sequential.specs.Plain.{consOption}
+use Rattle.sequential.proofs.Log.{Entry, ofLoad, ofStore, Kind, ownIn}
+use Rattle.sequential.proofs.MemoryInvariant.{fits}
+
+-- An entry's cell: none where the entry has no part in the row, else what it has, or none yet.
+abbrev pub Cell : Type 0
+Cell = Option (Option ℕ)
+
+abbrev pub cellFor : Bool → Option ℕ → Cell
+cellFor b o = pick b (some o) none
+
+-- the cells of the arguments of a kind and port, and of the values taken at a port
+abbrev pub given : Argument → ℕ → Entry → Cell
+given LoadAddress port (ofLoad l) = cellFor (eqb (l .port) port) (l .address)
+given LoadAddress port (ofStore s) = none
+given StoreAddress port (ofLoad l) = none
+given StoreAddress port (ofStore s) = cellFor (eqb (s .port) port) (s .address)
+given StoreData port (ofLoad l) = none
+given StoreData port (ofStore s) = cellFor (eqb (s .port) port) (s .word)
+
+abbrev pub valueTaken : ℕ → Entry → Cell
+valueTaken port (ofLoad l) = cellFor (eqb (l .port) port) (pick (l .taken) (l .value) none)
+valueTaken port (ofStore s) = none
+
+abbrev pub fed : Cell → (List ℕ → Type 0) → List ℕ → Type 0
+fed none rest row = rest row
+fed (some none) rest row = (row ≡ []) × rest []
+fed (some (some x)) rest row = (r : List ℕ) × (row ≡ x ∷ r) × rest r
+
+abbrev pub Row : (Entry → Cell) → List Entry → List ℕ → Type 0
+Row cell [] row = row ≡ []
+Row cell (e ∷ es) row = fed (cell e) (Row cell es) row
+
+-- a cell that waits for a value
+abbrev pub lacking : Cell → Bool
+lacking none = false
+lacking (some none) = true
+lacking (some (some x)) = false
+
+abbrev pub hasNone : Cell → Bool
+hasNone none = true
+hasNone (some none) = true
+hasNone (some (some x)) = false
+
+fed-map : (c : Cell) (P Q : List ℕ → Type 0) (f : List ℕ → List ℕ) → f [] ≡ [] → ((x : ℕ) (r : List ℕ) → f (x ∷ r) ≡ x ∷ f r) → ((r : List ℕ) → P r → Q (f r))
+    → (row : List ℕ) → fed c P row → fed c Q (f row)
+fed-map none P Q f z s w row h = w row h
+fed-map (some none) P Q f z s w row h = (rw (h .0) z, rw z at (w [] (h .1)))
+fed-map (some (some x)) P Q f z s w row h = (f (h .0), rw (h .1) (s x (h .0)), w (h .0) (h .2))
+
+module _ (cell : Entry → Cell) where
+  -- an entry made anew with the same cell
+  pub row-same : (e e′ : Entry) → cell e ≡ cell e′ → (post pre : List Entry) (row : List ℕ) → Row cell (pre ++ e ∷ post) row → Row cell (pre ++ e′ ∷ post) row
+  row-same e e′ same post [] row h = rw same at h
+  row-same e e′ same post (d ∷ pre) row h =
+      fed-map (cell d) (Row cell (pre ++ e ∷ post)) (Row cell (pre ++ e′ ∷ post)) (λ r. r) refl (λ x r. refl) (λ r k. row-same e e′ same post pre r k) row h
+
+  -- the first cell that waits gets the value that joins the row
+  pub row-fill : (e e′ : Entry) (x : ℕ) → cell e ≡ some none → cell e′ ≡ some (some x) → (post pre : List Entry) → allOf (λ d. not (lacking (cell d))) pre ≡ true
+      → (row : List ℕ) → Row cell (pre ++ e ∷ post) row → Row cell (pre ++ e′ ∷ post) (row ++ x ∷ [])
+  row-fill e e′ x waits filled post [] t row h = rw filled (start (rw waits at h))
+    where
+      start : fed (some none) (Row cell post) row → fed (some (some x)) (Row cell post) (row ++ x ∷ [])
+      start (empty, k) = ([], rw empty, k)
+  row-fill e e′ x waits filled post (d ∷ pre) t row h =
+      go (cell d) (and-left (not (lacking (cell d))) (allOf (λ d. not (lacking (cell d))) pre) t) h
+      (λ r k. row-fill e e′ x waits filled post pre (and-right (not (lacking (cell d))) (allOf (λ d. not (lacking (cell d))) pre) t) r k)
+    where
+      go : (c : Cell) → not (lacking c) ≡ true → fed c (Row cell (pre ++ e ∷ post)) row
+          → ((r : List ℕ) → Row cell (pre ++ e ∷ post) r → Row cell (pre ++ e′ ∷ post) (r ++ x ∷ [])) → fed c (Row cell (pre ++ e′ ∷ post)) (row ++ x ∷ [])
+      go none l k rec = rec row k
+      go (some none) l k rec = false-true l
+      go (some (some y)) l (r, is, k) rec = (r ++ x ∷ [], rw is, rec r k)
+
+  -- entries that have nothing yet leave the row as it is
+  pub row-append : (new : List Entry) → allOf (λ d. hasNone (cell d)) new ≡ true → (es : List Entry) (row : List ℕ) → Row cell es row → Row cell (es ++ new) row
+  row-append new t [] row h = rw h (empty new t)
+    where
+      empty : (l : List Entry) → allOf (λ d. hasNone (cell d)) l ≡ true → Row cell l []
+      empty [] u = refl
+      empty (d ∷ l) u = go (cell d) (and-left (hasNone (cell d)) (allOf (λ d. hasNone (cell d)) l) u) (empty l (and-right (hasNone (cell d)) (allOf (λ d. hasNone (cell d)) l) u))
+        where
+          go : (c : Cell) → hasNone c ≡ true → Row cell l [] → fed c (Row cell l) []
+          go none u₁ k = k
+          go (some none) u₁ k = (refl, k)
+          go (some (some x)) u₁ k = false-true u₁
+  row-append new t (d ∷ es) row h = fed-map (cell d) (Row cell es) (Row cell (es ++ new)) (λ r. r) refl (λ x r. refl) (λ r k. row-append new t es r k) row h
+
+  -- a row that is as long as it has cells leaves none waiting
+  pub row-full : (es : List Entry) (row : List ℕ) → Row cell es row → length row ≡ countWhere (λ d. isSome (cell d)) es → allOf (λ d. not (lacking (cell d))) es ≡ true
+  row-full [] row h e = refl
+  row-full (d ∷ es) row h e = go (cell d) h e (λ r k l. row-full es r k l)
+    where
+      go : (c : Cell) → fed c (Row cell es) row → length row ≡ pick (isSome c) (suc (countWhere (λ d. isSome (cell d)) es)) (countWhere (λ d. isSome (cell d)) es)
+          → ((r : List ℕ) → Row cell es r → length r ≡ countWhere (λ d. isSome (cell d)) es → allOf (λ d. not (lacking (cell d))) es ≡ true)
+          → not (lacking c) && allOf (λ d. not (lacking (cell d))) es ≡ true
+      go none k l rec = rec row k l
+      go (some none) k l rec = let z : length row ≡ 0 = ap length (k .0) in absurd (omega arith)
+      go (some (some x)) (r, is, k) l rec = let z : length row ≡ suc (length r) = ap length is in rec r k (omega arith)
+
+-- a row for each port: the port's first cell that waits gets the value, and the other ports' rows are as they were
+pub row-of-port : (cell : ℕ → Entry → Cell) (e e′ : Entry) (x port : ℕ) (pre post : List Entry) → cell port e ≡ some none → cell port e′ ≡ some (some x)
+    → allOf (λ d. not (lacking (cell port d))) pre ≡ true → ((p : ℕ) → eqb port p ≡ false → cell p e ≡ cell p e′)
+    → (rows : ℕ → List ℕ) → ((p : ℕ) → Row (cell p) (pre ++ e ∷ post) (rows p)) → (p : ℕ) → Row (cell p) (pre ++ e′ ∷ post) (rows p ++ pick (eqb port p) (x ∷ []) [])
+row-of-port cell e e′ x port pre post waits filled t other rows h p = go (eqb port p) refl
+  where
+    go : (b : Bool) → eqb port p ≡ b → Row (cell p) (pre ++ e′ ∷ post) (rows p ++ pick b (x ∷ []) [])
+    go true same =
+        subst (λ (k : ℕ). Row (cell k) (pre ++ e′ ∷ post) (rows k ++ x ∷ [])) (eqb-true port p same) (row-fill (cell port) e e′ x waits filled post pre t (rows port) (h port))
+    go false differs = rw (append-nil (rows p)) (row-same (cell p) e e′ (other p differs) post pre (rows p) (h p))
+
+-- no cell before waits, where no entry of the kind does
+pub none-waits : {A : Type 0} (K : Kind A) (cell : Entry → Cell) → ((e : Entry) → K .own e ≡ none → not (lacking (cell e)) ≡ true)
+    → (pre : List Entry) → allOf (λ a. not (lacking (cell (K .put a)))) (ownIn K pre) ≡ true → allOf (λ d. not (lacking (cell d))) pre ≡ true
+none-waits K cell other [] t = refl
+none-waits {A} K cell other (e ∷ pre) t = go (K .own e) refl t (λ k. none-waits K cell other pre k)
+  where
+    go : (o : Option A) → K .own e ≡ o → allOf (λ a. not (lacking (cell (K .put a)))) (consOption o (ownIn K pre)) ≡ true
+        → (allOf (λ a. not (lacking (cell (K .put a)))) (ownIn K pre) ≡ true → allOf (λ d. not (lacking (cell d))) pre ≡ true)
+        → not (lacking (cell e)) && allOf (λ d. not (lacking (cell d))) pre ≡ true
+    go none own k rec = and-both (other e own) (rec k)
+    go (some a) own k rec =
+        let is : e ≡ K .put a = K .put-own e a own in
+        and-both {a = not (lacking (cell e))} (rw is (and-left (not (lacking (cell (K .put a)))) _ k)) (rec (and-right (not (lacking (cell (K .put a)))) _ k))
+
+-- ---- the plain run takes from the rows what the entries have
+
+pub fed-fits : (o : Option ℕ) (P : List ℕ → Type 0) (row : List ℕ) (filled : ℕ) → fed (some o) P row → fits o (nextOf row filled)
+fed-fits none P row filled h = tt
+fed-fits (some x) P row filled (r, is, h) = rw is
+
+fed-tail : (o : Option ℕ) (P : List ℕ → Type 0) (row : List ℕ) → fed (some o) P row → P (tail row)
+fed-tail none P row h = rw (h .0) (h .1)
+fed-tail (some x) P row (r, is, h) = rw is h
+
+pub eqb-self : (n : ℕ) → eqb n n ≡ true
+eqb-self n = eq-eqb n n refl
+
+pub eqb-turned : (a b : ℕ) → eqb a b ≡ eqb b a
+eqb-turned a b = go (eqb a b) refl
+  where
+    go : (t : Bool) → eqb a b ≡ t → t ≡ eqb b a
+    go true e = sym (eq-eqb b a (sym (eqb-true a b e)))
+    go false e = sym (ne-eqb b a (λ p. eqb-false a b e (sym p)))
+
+fed-used : (a b : ℕ) (o : Option ℕ) (P : List ℕ → Type 0) (row : List ℕ) → fed (cellFor (eqb a b) o) P row → P (pick (eqb b a) (tail row) row)
+fed-used a b o P row h = rw (eqb-turned b a) (go (eqb a b) h)
+  where
+    go : (t : Bool) → fed (cellFor t o) P row → P (pick t (tail row) row)
+    go true k = fed-tail o P row k
+    go false k = k
+
+-- every row beside the log
+abbrev pub AllRows : List Entry → Rows → Type 0
+AllRows es rows = (kind : Argument) (port : ℕ) → Row (given kind port) es (rows kind port)
+
+pub rows-after-load : (l : Load) (es : List Entry) (rows : Rows) → AllRows (ofLoad l ∷ es) rows → AllRows es (usedUp LoadAddress (l .port) rows)
+rows-after-load l es rows h LoadAddress port = fed-used (l .port) port (l .address) (Row (given LoadAddress port) es) (rows LoadAddress port) (h LoadAddress port)
+rows-after-load l es rows h StoreAddress port = h StoreAddress port
+rows-after-load l es rows h StoreData port = h StoreData port
+
+pub rows-after-store : (s : Store) (es : List Entry) (rows : Rows) → AllRows (ofStore s ∷ es) rows → AllRows es (usedUp StoreData (s .port) (usedUp StoreAddress (s .port) rows))
+rows-after-store s es rows h LoadAddress port = h LoadAddress port
+rows-after-store s es rows h StoreAddress port = fed-used (s .port) port (s .address) (Row (given StoreAddress port) es) (rows StoreAddress port) (h StoreAddress port)
+rows-after-store s es rows h StoreData port = fed-used (s .port) port (s .word) (Row (given StoreData port) es) (rows StoreData port) (h StoreData port)
+
+-- what the plain run takes completes the entry
+pub load-fits : (l : Load) (es : List Entry) (rows : Rows) (filled : ℕ) → AllRows (ofLoad l ∷ es) rows → fits (l .address) (nextOf (rows LoadAddress (l .port)) filled)
+load-fits l es rows filled h =
+    fed-fits (l .address) (Row (given LoadAddress (l .port)) es) (rows LoadAddress (l .port)) filled
+    (rw (eqb-self (l .port)) at (h LoadAddress (l .port)))
+
+pub store-fits : (s : Store) (es : List Entry) (rows : Rows) (filled : ℕ) → AllRows (ofStore s ∷ es) rows → fits (s .address) (nextOf (rows StoreAddress (s .port)) filled)
+store-fits s es rows filled h =
+    fed-fits (s .address) (Row (given StoreAddress (s .port)) es) (rows StoreAddress (s .port)) filled
+    (rw (eqb-self (s .port)) at (h StoreAddress (s .port)))
+
+pub word-fits : (s : Store) (es : List Entry) (rows : Rows) (filled : ℕ) → AllRows (ofStore s ∷ es) rows → fits (s .word) (nextOf (rows StoreData (s .port)) filled)
+word-fits s es rows filled h =
+    fed-fits (s .word) (Row (given StoreData (s .port)) es) (rows StoreData (s .port)) filled
+    (rw (eqb-self (s .port)) at (h StoreData (s .port)))

@@ -1,0 +1,176 @@
+-- The invariant of a list of calls: one record of named parts. `Holds` is about the queue and the memory, `Seen` about what
+-- the list was answered; both speak of the same log.
+use Prim.Native.Nat.{ℕ, _+_, _≤_}
+use native.Mathlib.Nat.{add-zero}
+use mathlib.Core.Path.{_≡_, refl, sym, ap, _∙_}
+use mathlib.Core.Bool.{Bool, true, false, _&&_}
+use mathlib.Core.List.{List, [], _∷_, _++_, map, map-append, append-nil, append-assoc}
+use mathlib.Core.Option.{Option, none, some}
+use lib.Dec.{eqb}
+use lib.ListN.{length, length-append, getElem?}
+use Rattle.table.specs.Basics.{pick, allOf, countWhere}
+use Rattle.table.specs.Group.{GroupPairs}
+use Rattle.table.specs.Table.{tableFault}
+use Rattle.queue.specs.Ruled.{isSome}
+use Rattle.queue.specs.Contents.{Load, Store, Contents}
+use Rattle.queue.specs.Sound.{depthRight, memoryRight, addressRight}
+use Rattle.queue.proofs.Lists.{and-left, and-right, implies}
+use Rattle.sequential.specs.Calls.{Argument, Call, Side, Ready}
+use Rattle.sequential.specs.Call.{Machine, Answered}
+use Rattle.sequential.specs.Plain.{Told, consOption, gather, groupIn, givenIn, rowsOf, accessesOf, inOrder, accesses}
+use Rattle.sequential.specs.Demand3.{tell, told, takeOf, takenAt, serveIn, writeIn}
+use Rattle.sequential.proofs.Log.{Entry, ofLoad, ofStore, loads, stores, ownIn}
+use Rattle.sequential.proofs.Window.{Windows}
+use Rattle.sequential.proofs.MemoryInvariant.{Agree}
+use Rattle.sequential.proofs.Rows.{Row, given, valueTaken, AllRows}
+use Rattle.sequential.proofs.PlainRun.{accessOf}
+
+-- what is true of every entry: what is taken was served, what is served or written has its arguments, addresses are in range
+abbrev pub rightLoad : ℕ → Load → Bool
+rightLoad words l = implies (l .taken) (isSome (l .value)) && (implies (isSome (l .value)) (isSome (l .address)) && addressRight words (l .address))
+
+abbrev pub rightStore : ℕ → Store → Bool
+rightStore words s = implies (s .written) (isSome (s .address) && isSome (s .word)) && addressRight words (s .address)
+
+pub taken-served : (words : ℕ) (l : Load) → rightLoad words l ≡ true → implies (l .taken) (isSome (l .value)) ≡ true
+taken-served words l h = and-left (implies (l .taken) (isSome (l .value))) _ h
+
+pub served-addressed : (words : ℕ) (l : Load) → rightLoad words l ≡ true → implies (isSome (l .value)) (isSome (l .address)) ≡ true
+served-addressed words l h = and-left (implies (isSome (l .value)) (isSome (l .address))) _ (and-right (implies (l .taken) (isSome (l .value))) _ h)
+
+pub load-in-range : (words : ℕ) (l : Load) → rightLoad words l ≡ true → addressRight words (l .address) ≡ true
+load-in-range words l h = and-right (implies (isSome (l .value)) (isSome (l .address))) _ (and-right (implies (l .taken) (isSome (l .value))) _ h)
+
+pub written-full : (words : ℕ) (s : Store) → rightStore words s ≡ true → implies (s .written) (isSome (s .address) && isSome (s .word)) ≡ true
+written-full words s h = and-left (implies (s .written) (isSome (s .address) && isSome (s .word))) _ h
+
+pub store-in-range : (words : ℕ) (s : Store) → rightStore words s ≡ true → addressRight words (s .address) ≡ true
+store-in-range words s h = and-right (implies (s .written) (isSome (s .address) && isSome (s .word))) _ h
+
+-- what is not served is not taken
+pub untaken-unserved : (words : ℕ) (l : Load) → rightLoad words l ≡ true → l .value ≡ none → l .taken ≡ false
+untaken-unserved words l h e = go (l .taken) (rw e at (taken-served words l h))
+  where
+    go : (taken : Bool) → implies taken false ≡ true → taken ≡ false
+    go false t = refl
+    go true t = sym t
+
+-- what no call changes
+pub record Limits (groups : List GroupPairs) (words loadDepth storeDepth : ℕ) : Type 0 where
+  pub loadDepthRight : depthRight loadDepth ≡ true
+  pub storeDepthRight : depthRight storeDepth ≡ true
+  pub wordsRight : memoryRight words ≡ true
+  pub tableRight : eqb (tableFault groups) 0 ≡ true
+
+-- a queue and a memory that the log led to from the opening memory
+pub record Holds (q : Contents) (m memory : List ℕ) (log : List Entry) : Type 0 where
+  pub limits : Limits (q .groups) (q .memoryLength) (q .loadDepth) (q .storeDepth)
+  pub roomLoads : length (q .loads) ≤ q .loadDepth
+  pub roomStores : length (q .stores) ≤ q .storeDepth
+  pub long : length m ≡ q .memoryLength
+  pub windows : Windows loads stores log (q .loads) (q .stores)
+  pub rightLoads : allOf (rightLoad (q .memoryLength)) (ownIn loads log) ≡ true
+  pub rightStores : allOf (rightStore (q .memoryLength)) (ownIn stores log) ≡ true
+  pub agree : Agree m memory log
+
+-- served loads, written stores
+abbrev pub served : Entry → Bool
+served (ofLoad l) = isSome (l .value)
+served (ofStore s) = false
+
+abbrev pub written : Entry → Bool
+written (ofLoad l) = false
+written (ofStore s) = s .written
+
+-- the answers so far, counted over the log
+pub record Seen (groups : List GroupPairs) (answered : List Answered) (log : List Entry) : Type 0 where
+  pub shape : map accessOf log ≡ accesses groups (told answered)
+  pub rows : AllRows log (rowsOf (told answered))
+  pub takes : (port : ℕ) → Row (valueTaken port) log (takenAt port answered)
+  pub serves : countWhere served log ≡ length (gather serveIn (told answered))
+  pub writes : countWhere written log ≡ length (gather writeIn (told answered))
+
+pub record State (groups : List GroupPairs) (memory : List ℕ) (answered : List Answered) (m : Machine) : Type 0 where
+  pub log : List Entry
+  pub table : m .queue .groups ≡ groups
+  pub holds : Holds (m .queue) (m .memory) memory log
+  pub seen : Seen groups answered log
+
+-- ---- one more answer
+
+gather-append : {A : Type 0} (f : Call → Option A) (xs ys : List Told) → gather f (xs ++ ys) ≡ gather f xs ++ gather f ys
+gather-append f [] ys = refl
+gather-append {A} f (t ∷ xs) ys = go (t .accepted) (f (t .call)) (gather-append f xs ys)
+  where
+    go : (b : Bool) (o : Option A) → gather f (xs ++ ys) ≡ gather f xs ++ gather f ys
+        → pick b (consOption o (gather f (xs ++ ys))) (gather f (xs ++ ys)) ≡ pick b (consOption o (gather f xs)) (gather f xs) ++ gather f ys
+    go true none h = h
+    go true (some a) h = ap (λ (l : List A). a ∷ l) h
+    go false o h = h
+
+inOrder-append : (groups : List GroupPairs) (xs ys : List ℕ) → inOrder groups (xs ++ ys) ≡ inOrder groups xs ++ inOrder groups ys
+inOrder-append groups [] ys = refl
+inOrder-append groups (g ∷ xs) ys = rw (inOrder-append groups xs ys) (sym (append-assoc (accessesOf (getElem? groups g)) (inOrder groups xs) (inOrder groups ys)))
+
+takenAt-append : (port : ℕ) (xs ys : List Answered) → takenAt port (xs ++ ys) ≡ takenAt port xs ++ takenAt port ys
+takenAt-append port [] ys = refl
+takenAt-append port (a ∷ xs) ys = go (takeOf port (a .call)) (eqb (a .number) 0) (a .value) (takenAt-append port xs ys)
+  where
+    go : (b c : Bool) (o : Option ℕ) → takenAt port (xs ++ ys) ≡ takenAt port xs ++ takenAt port ys
+        → pick b (pick c (consOption o (takenAt port (xs ++ ys))) (takenAt port (xs ++ ys))) (takenAt port (xs ++ ys))
+        ≡ pick b (pick c (consOption o (takenAt port xs)) (takenAt port xs)) (takenAt port xs) ++ takenAt port ys
+    go false c o h = h
+    go true false o h = h
+    go true true none h = h
+    go true true (some v) h = ap (λ (l : List ℕ). v ∷ l) h
+
+module _ (groups : List GroupPairs) (answered : List Answered) (a : Answered) where
+  gather-told : {A : Type 0} (f : Call → Option A) → gather f (told (answered ++ a ∷ [])) ≡ gather f (told answered) ++ gather f (tell a ∷ [])
+  gather-told f = ap (gather f) (map-append tell answered (a ∷ [])) ∙ gather-append f (told answered) (tell a ∷ [])
+
+  -- the log as it is after one more answer, which adds what it adds
+  pub seen-more : (log : List Entry)
+      → map accessOf log ≡ accesses groups (told answered) ++ accesses groups (tell a ∷ [])
+      → ((kind : Argument) (port : ℕ) → Row (given kind port) log (rowsOf (told answered) kind port ++ rowsOf (tell a ∷ []) kind port))
+      → ((port : ℕ) → Row (valueTaken port) log (takenAt port answered ++ takenAt port (a ∷ [])))
+      → countWhere served log ≡ length (gather serveIn (told answered)) + length (gather serveIn (tell a ∷ []))
+      → countWhere written log ≡ length (gather writeIn (told answered)) + length (gather writeIn (tell a ∷ []))
+      → Seen groups (answered ++ a ∷ []) log
+  seen-more log shape rows takes serves writes = record {
+    shape = shape ∙ sym (ap (inOrder groups) (gather-told groupIn) ∙ inOrder-append groups (gather groupIn (told answered)) (gather groupIn (tell a ∷ [])));
+    rows = λ kind port. rw (gather-told (givenIn kind port)) (rows kind port);
+    takes = λ port. rw (takenAt-append port answered (a ∷ [])) (takes port);
+    serves = serves ∙ sym (ap length (gather-told serveIn) ∙ length-append (gather serveIn (told answered)) (gather serveIn (tell a ∷ [])));
+    writes = writes ∙ sym (ap length (gather-told writeIn) ∙ length-append (gather writeIn (told answered)) (gather writeIn (tell a ∷ [])));
+  }
+
+  -- an answer that adds nothing
+  silent : (log : List Entry) → Seen groups answered log → gather groupIn (tell a ∷ []) ≡ [] → ((kind : Argument) (port : ℕ) → rowsOf (tell a ∷ []) kind port ≡ [])
+      → ((port : ℕ) → takenAt port (a ∷ []) ≡ []) → gather serveIn (tell a ∷ []) ≡ [] → gather writeIn (tell a ∷ []) ≡ [] → Seen groups (answered ++ a ∷ []) log
+  silent log s no-group no-row no-take no-serve no-write =
+      seen-more log
+      (rw (no-group, append-nil (accesses groups (told answered))) (s .shape))
+      (λ kind port. rw (no-row kind port, append-nil (rowsOf (told answered) kind port)) (s .rows kind port))
+      (λ port. rw (no-take port, append-nil (takenAt port answered)) (s .takes port))
+      (rw (no-serve, add-zero (length (gather serveIn (told answered)))) (s .serves))
+      (rw (no-write, add-zero (length (gather writeIn (told answered)))) (s .writes))
+
+-- a refused call adds nothing
+pub seen-refused : (groups : List GroupPairs) (answered : List Answered) (c : Call) (n : ℕ) (o : Option ℕ) → eqb n 0 ≡ false → (log : List Entry)
+    → Seen groups answered log → Seen groups (answered ++ record { call = c; number = n; value = o } ∷ []) log
+seen-refused groups answered c n o e log s =
+    silent groups answered (record { call = c; number = n; value = o }) log s (rw e) (λ kind port. rw e) (λ port. rw e (go (takeOf port c))) (rw e) (rw e)
+  where
+    go : (b : Bool) → _≡_ {A = List ℕ} (pick b [] []) []
+    go true = refl
+    go false = refl
+
+-- a ready call adds nothing
+pub seen-ready : (groups : List GroupPairs) (answered : List Answered) (side : Side) (run : List ℕ) (n : ℕ) (log : List Entry)
+    → Seen groups answered log → Seen groups (answered ++ record { call = Ready side run; number = n; value = none } ∷ []) log
+seen-ready groups answered side run n log s =
+    silent groups answered (record { call = Ready side run; number = n; value = none }) log s (go (eqb n 0)) (λ kind port. go (eqb n 0)) (λ port. refl) (go (eqb n 0)) (go (eqb n 0))
+  where
+    go : (b : Bool) → _≡_ {A = List ℕ} (pick b [] []) []
+    go true = refl
+    go false = refl

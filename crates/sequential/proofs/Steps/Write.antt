@@ -1,0 +1,135 @@
+-- An accepted write keeps the invariant: the store may go ahead of everything before it that still waits.
+use Prim.Native.Nat.{ℕ}
+use mathlib.Core.Path.{_≡_, refl, subst}
+use mathlib.Core.Bool.{true, false, not, _&&_}
+use mathlib.Core.List.{List, [], _∷_, _++_}
+use mathlib.Core.Option.{none, some}
+use lib.Dec.{eqb}
+use lib.ListN.{length, take, set, length-set, getElem?}
+use borrow.Author.Tests.{not-true}
+use Rattle.table.specs.Basics.{allOf}
+use Rattle.table.specs.Group.{GroupPairs}
+use Rattle.queue.specs.Ruled.{accept, isSome}
+use Rattle.queue.specs.Contents.{Store, Contents, withStores, updateAt, storePlace}
+use Rattle.queue.specs.Sound.{sound}
+use Rattle.queue.specs.Write.{Written, addressApart, loadGivesWay, storeGivesWay, storeDone, settle, write}
+use Rattle.queue.proofs.Lists.{and-both, or-left, implied, all-left, all-middle}
+use Rattle.queue.proofs.Refusals.{need-accepts, have-accepts}
+use Rattle.sequential.specs.Calls.{Argument, LoadAddress, StoreAddress, StoreData, Write}
+use Rattle.sequential.specs.Call.{Machine, Answered}
+use Rattle.sequential.specs.Plain.{rowsOf}
+use Rattle.sequential.specs.Demand3.{told, takenAt}
+use Rattle.sequential.proofs.Log.{Entry, ofStore, loads, stores, ownIn, stores-loads, ownIn-append}
+use Rattle.sequential.proofs.Window.{Located, turned, locate, before-log}
+use Rattle.sequential.proofs.MemoryInvariant.{Agree, agree-write}
+use Rattle.sequential.proofs.Rows.{given, valueTaken}
+use Rattle.sequential.proofs.State.{State, Holds, Seen, rightLoad, rightStore, taken-served, store-in-range}
+use Rattle.sequential.proofs.Anew.{holds-store, holds-settled, row-kept, seen-anew}
+
+-- what an accepted write of this store says
+record Writing (q : Contents) (m : List ℕ) (i : ℕ) (r : Written) (s : Store) : Type 0 where
+  unwritten : not (s .written) ≡ true
+  address : ℕ
+  addressed : s .address ≡ some address
+  word : ℕ
+  worded : s .word ≡ some word
+  loadsApart : allOf (loadGivesWay address) (take (s .before) (q .loads)) ≡ true
+  storesApart : allOf (storeGivesWay address) (take i (q .stores)) ≡ true
+  result : r ≡ record { memory = set m address word; queue = settle (withStores q (updateAt storeDone i (q .stores))) }
+
+write-accepts : (q : Contents) (m : List ℕ) (serial : ℕ) (r : Written) → write q m serial ≡ accept r
+    → (s : Store) × (getElem? (q .stores) (storePlace q serial) ≡ some s) × Writing q m (storePlace q serial) r s
+unfolding write
+write-accepts q m serial r h₀ =
+    let (t₁, h₁) = need-accepts (sound q) _ _ h₀ in
+    let (t₂, h₂) = need-accepts (eqb (length m) (q .memoryLength)) _ _ h₁ in
+    let (s, at, h₃) = have-accepts (getElem? (q .stores) (storePlace q serial)) _ _ h₂ in
+    let (t₄, h₄) = need-accepts (not (s .written)) _ _ h₃ in
+    let (a, t₅, h₅) = have-accepts (s .address) _ _ h₄ in
+    let (w, t₆, h₆) = have-accepts (s .word) _ _ h₅ in
+    let (t₇, h₇) = need-accepts (allOf (loadGivesWay a) (take (s .before) (q .loads))) _ _ h₆ in
+    let (t₈, h₈) = need-accepts (allOf (storeGivesWay a) (take (storePlace q serial) (q .stores))) _ _ h₇ in
+    (s, at, record { unwritten = t₄; address = a; addressed = t₅; word = w; worded = t₆; loadsApart = t₇; storesApart = t₈; result = cc })
+
+write-given : (s : Store) (kind : Argument) (port : ℕ) → given kind port (ofStore s) ≡ given kind port (ofStore (storeDone s))
+write-given s LoadAddress port = refl
+write-given s StoreAddress port = refl
+write-given s StoreData port = refl
+
+module _ (groups : List GroupPairs) (memory : List ℕ) (answered : List Answered) (q : Contents) (m : List ℕ) (log : List Entry)
+    (table : q .groups ≡ groups) (h : Holds q m memory log) (seen : Seen groups answered log) where
+  write-at : (serial i : ℕ) (r : Written) (pre : List Entry) (it : Store) (post : List Entry) (l : Located stores loads log (q .stores) (q .loads) i pre it post)
+      → Writing q m i r (stores .remember (l .number) it)
+      → State groups memory (answered ++ record { call = Write serial; number = 0; value = none } ∷ []) (record { queue = r .queue; memory = r .memory })
+  write-at serial i r pre it post l s = rw (s .result) (record {
+    log = pre ++ ofStore (storeDone it) ∷ post;
+    table = table;
+    holds = holds-settled (holds-store h l storeDone (λ n k. refl) right (set m a w) (length-set m a w) agree);
+    seen =
+        seen-anew groups answered (record { call = Write serial; number = 0; value = none }) pre (ofStore it) (ofStore (storeDone it)) post seen′ refl refl
+        (λ kind port. row-kept (given kind port) (ofStore it) (ofStore (storeDone it)) (write-given it kind port) post pre (rowsOf (told answered) kind port) (seen′ .rows kind port))
+        (λ port. row-kept (valueTaken port) (ofStore it) (ofStore (storeDone it)) refl post pre (takenAt port answered) (seen′ .takes port))
+        refl
+        (rw unwritten);
+  })
+    where
+      a : ℕ
+      a = s .address
+
+      w : ℕ
+      w = s .word
+
+      seen′ : Seen groups answered (pre ++ ofStore it ∷ post)
+      seen′ = subst (Seen groups answered) (l .log-is) seen
+
+      unwritten : it .written ≡ false
+      unwritten = not-true (it .written) (s .unwritten)
+
+      rightStores : allOf (rightStore (q .memoryLength)) (ownIn stores pre ++ it ∷ ownIn stores post) ≡ true
+      rightStores = rw (l .log-is, ownIn-append stores pre (ofStore it ∷ post)) at (h .rightStores)
+
+      rightLoads : allOf (rightLoad (q .memoryLength)) (ownIn loads pre ++ ownIn loads post) ≡ true
+      rightLoads = rw (l .log-is, ownIn-append loads pre (ofStore it ∷ post)) at (h .rightLoads)
+
+      right : rightStore (q .memoryLength) (storeDone it) ≡ true
+      right =
+          and-both {a = isSome (it .address) && isSome (it .word)} (rw (s .addressed, s .worded))
+          (store-in-range (q .memoryLength) it (all-middle (rightStore (q .memoryLength)) (ownIn stores pre) (ownIn stores post) it rightStores))
+
+      loadsApart : allOf (loadGivesWay a) (ownIn loads pre) ≡ true
+      loadsApart =
+          before-log (l .before′) (loadGivesWay a) (λ n x. refl) (rightLoad (q .memoryLength))
+          (λ x t f. or-left (isSome (x .value)) (addressApart a (x .address)) (implied (x .taken) (isSome (x .value)) (taken-served (q .memoryLength) x t) f))
+          (all-left (rightLoad (q .memoryLength)) (ownIn loads pre) (ownIn loads post) rightLoads) (s .loadsApart)
+
+      storesApart : allOf (storeGivesWay a) (ownIn stores pre) ≡ true
+      storesApart =
+          before-log (l .before) (storeGivesWay a) (λ n x. refl) (rightStore (q .memoryLength)) (λ x t f. or-left (x .written) (addressApart a (x .address)) f)
+          (all-left (rightStore (q .memoryLength)) (ownIn stores pre) (it ∷ ownIn stores post) rightStores) (s .storesApart)
+
+      agree : Agree (set m a w) memory (pre ++ ofStore (storeDone it) ∷ post)
+      agree = agree-write it post a w (s .addressed) (s .worded) unwritten pre m memory loadsApart storesApart (rw (l .log-is) at (h .agree))
+
+-- An accepted write keeps the invariant.
+pub write-keeps : (groups : List GroupPairs) (memory : List ℕ) (answered : List Answered) (m : Machine) → State groups memory answered m
+    → (serial : ℕ) (r : Written) → write (m .queue) (m .memory) serial ≡ accept r
+    → State groups memory (answered ++ record { call = Write serial; number = 0; value = none } ∷ []) (record { queue = r .queue; memory = r .memory })
+write-keeps groups memory answered m st serial r h = at (write-accepts q (m .memory) serial r h)
+  where
+    q : Contents
+    q = m .queue
+
+    i : ℕ
+    i = storePlace q serial
+
+    Goal : Type 0
+    Goal = State groups memory (answered ++ record { call = Write serial; number = 0; value = none } ∷ []) (record { queue = r .queue; memory = r .memory })
+
+    found : (s : Store) → getElem? (q .stores) i ≡ some s → Writing q (m .memory) i r s
+        → (pre : List Entry) × (it : Store) × (post : List Entry) × Located stores loads (st .log) (q .stores) (q .loads) i pre it post → Goal
+    found s e facts (pre, it, post, place) =
+        let same : s ≡ stores .remember (place .number) it = cc (place .at) in
+        write-at groups memory answered q (m .memory) (st .log) (st .table) (st .holds) (st .seen) serial i r pre it post place (subst (Writing q (m .memory) i r) same facts)
+
+    at : (s : Store) × (getElem? (q .stores) i ≡ some s) × Writing q (m .memory) i r s → Goal
+    at (s, e, facts) = found s e facts (locate stores loads stores-loads (turned (st .holds .windows)) i e)

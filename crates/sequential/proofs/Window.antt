@@ -1,0 +1,311 @@
+-- The queue as a window of the log. On each side the log's entries are some old ones, all finished, and then the live ones; a
+-- side of the queue holds the live ones, each with its remembered number lowered by the number of the OTHER side's old ones.
+-- Truncated minus is "falls as those leave and then stays 0", so that the remembered numbers need no proof of their own.
+use Prim.Native.Nat.{ℕ, suc, _+_, _-_, _≤_}
+use native.Mathlib.Nat.{zero-add}
+use native.Mathlib.Omega.{arith}
+use mathlib.Core.Path.{_≡_, refl, sym, ap, _∙_}
+use mathlib.Core.Bool.{Bool, true, false, not}
+use mathlib.Core.List.{List, [], _∷_, _++_, map, append-assoc, append-cancel-left, map-append, map-map}
+use mathlib.Core.Option.{Option, none, some}
+use lib.Dec.{leb}
+use lib.ListN.{length, take, length-append, length-map, getElem?}
+use lib.Seq.{take-at}
+use borrow.Author.Tests.{le-leb, leb-true}
+use Rattle.table.specs.Basics.{allOf, frontWhile, afterWhile}
+use Rattle.table.proofs.Order.{frontWhile-afterWhile}
+use Rattle.queue.specs.Ruled.{isSome}
+use Rattle.queue.specs.Contents.{updateAt}
+use Rattle.queue.proofs.Lists.{false-true, all-left, all-right, all-join, all-take, all-map, all-weaken, all-weaken₂, take-append, take-map}
+use Rattle.queue.proofs.Lists.{getElem?-map, map-same, failing-behind, getElem?-split, getElem?-seam, updateAt-seam}
+use Rattle.queue.proofs.Lists.{all-frontWhile, afterWhile-map, length-frontWhile-map}
+use Rattle.sequential.specs.Plain.{consOption}
+use Rattle.sequential.proofs.Log.{Entry, Kind, Opposite, Placed, place, entryOf, side, ownIn}
+use Rattle.sequential.proofs.Log.{others, counting, side-append, map-side, side-length, side-before, side-split}
+
+-- an entry as the queue shows it, where `gone` of the other side have left
+abbrev pub shown : {A : Type 0} → Kind A → ℕ → Placed A → A
+shown K out x = K .remember (x .before - out) (x .entry)
+
+abbrev pub over : {A : Type 0} → Kind A → Placed A → Bool
+over K x = K .finished (x .entry)
+
+-- one side, where `gone` of its own and `out` of the other side have left
+pub record Window {A : Type 0} (K : Kind A) (log : List Entry) (gone out : ℕ) (held : List A) : Type 0 where
+  pub old : List (Placed A)
+  pub live : List (Placed A)
+  pub parts : side K 0 log ≡ old ++ live
+  pub many : length old ≡ gone
+  pub ended : allOf (over K) old ≡ true
+  pub shows : held ≡ map (shown K out) live
+
+-- both sides
+pub record Windows {A B : Type 0} (K : Kind A) (K′ : Kind B) (log : List Entry) (held : List A) (held′ : List B) : Type 0 where
+  pub gone : ℕ
+  pub gone′ : ℕ
+  pub ours : Window K log gone gone′ held
+  pub theirs : Window K′ log gone′ gone held′
+
+pub turned : {A B : Type 0} {K : Kind A} {K′ : Kind B} {log : List Entry} {held : List A} {held′ : List B} → Windows K K′ log held held′ → Windows K′ K log held′ held
+turned w = record { gone = w .gone′; gone′ = w .gone; ours = w .theirs; theirs = w .ours }
+
+-- The entries of a kind in the first part of the log, beside those of them that are still queued: the others are finished.
+pub record Before {A : Type 0} (K : Kind A) (queued : List A) (pre : List Entry) : Type 0 where
+  pub out : ℕ
+  pub past : List (Placed A)
+  pub rest : List (Placed A)
+  pub parts : ownIn K pre ≡ map entryOf past ++ map entryOf rest
+  pub ended : allOf (over K) past ≡ true
+  pub shows : queued ≡ map (shown K out) rest
+
+-- A queued entry and its place in the log: all that the calls need of the window.
+pub record Located {A B : Type 0} (K : Kind A) (K′ : Kind B) (log : List Entry) (held : List A) (held′ : List B)
+    (i : ℕ) (pre : List Entry) (it : A) (post : List Entry) : Type 0 where
+  pub log-is : log ≡ pre ++ K .put it ∷ post
+  -- the queue shows it with this remembered number
+  pub number : ℕ
+  pub at : getElem? held i ≡ some (K .remember number it)
+  -- the entries before it, of its own side and of the other
+  pub before : Before K (take i held) pre
+  pub before′ : Before K′ (take number held′) pre
+  -- both sides after it is made anew
+  pub anew : (f : A → A) → ((n : ℕ) (a : A) → f (K .remember n a) ≡ K .remember n (f a)) → Windows K K′ (pre ++ K .put (f it) ∷ post) (updateAt f i held) held′
+
+-- ---- what a test says of the queue's part it says of the log's, and back
+
+module _ {A : Type 0} {K : Kind A} {queued : List A} {pre : List Entry} (b : Before K queued pre) (p : A → Bool) (blind : (n : ℕ) (a : A) → p (K .remember n a) ≡ p a) where
+  -- the queue's part, for a test that does not look at remembered numbers
+  queued-all : allOf p queued ≡ allOf (λ x. p (x .entry)) (b .rest)
+  queued-all = rw (b .shows) (all-map p (λ x. p (x .entry)) (shown K (b .out)) (λ x. blind (x .before - b .out) (x .entry)) (b .rest))
+
+  rest-all : allOf p (map entryOf (b .rest)) ≡ allOf (λ x. p (x .entry)) (b .rest)
+  rest-all = all-map p (λ x. p (x .entry)) entryOf (λ x. refl) (b .rest)
+
+  -- from the log to the queue
+  pub before-queued : allOf p (ownIn K pre) ≡ true → allOf p queued ≡ true
+  before-queued h = queued-all ∙ sym rest-all ∙ all-right p (map entryOf (b .past)) (map entryOf (b .rest)) (rw (b .parts) at h)
+
+  -- from the queue to the log: what has left passes since it is finished, and right
+  pub before-log : (right : A → Bool) → ((a : A) → right a ≡ true → K .finished a ≡ true → p a ≡ true) → allOf right (ownIn K pre) ≡ true → allOf p queued ≡ true → allOf p (ownIn K pre) ≡ true
+  before-log right w h k = rw (b .parts) (all-join p (map entryOf (b .past)) (map entryOf (b .rest)) past-all (rest-all ∙ sym queued-all ∙ k))
+    where
+      past-all : allOf p (map entryOf (b .past)) ≡ true
+      past-all =
+          all-weaken₂ right (K .finished) p w (map entryOf (b .past)) (all-left right (map entryOf (b .past)) (map entryOf (b .rest)) (rw (b .parts) at h))
+          (all-map (K .finished) (over K) entryOf (λ x. refl) (b .past) ∙ b .ended)
+
+module _ {A B : Type 0} (K : Kind A) (K′ : Kind B) (opposite : Opposite K K′) where
+  -- as many others as the other kind has
+  pub others-length : (es : List Entry) → others K es ≡ length (ownIn K′ es)
+  others-length [] = refl
+  others-length (e ∷ es) = go (K .own e) (K′ .own e) (opposite e) (others-length es)
+    where
+      go : (o : Option A) (o′ : Option B) → isSome o ≡ not (isSome o′) → others K es ≡ length (ownIn K′ es) → counting o (others K es) ≡ length (consOption o′ (ownIn K′ es))
+      go none none t h = false-true t
+      go none (some b) t h = ap suc h
+      go (some a) none t h = h
+      go (some a) (some b) t h = false-true (sym t)
+
+  pub put-other : (a : A) → K′ .own (K .put a) ≡ none
+  put-other a = go (K′ .own (K .put a)) (rw (K .own-put a) at (opposite (K .put a)))
+    where
+      go : (o : Option B) → true ≡ not (isSome o) → o ≡ none
+      go none t = refl
+      go (some b) t = false-true (sym t)
+
+  side-put : (n : ℕ) (a : A) (es : List Entry) → side K n (K .put a ∷ es) ≡ place n a ∷ side K n es
+  side-put n a es = rw (K .own-put a)
+
+  -- the other side does not see which entry of this kind it is
+  side′-put : (a a′ : A) (pre post : List Entry) → side K′ 0 (pre ++ K .put a ∷ post) ≡ side K′ 0 (pre ++ K .put a′ ∷ post)
+  side′-put a a′ pre post = rw (side-append K′ 0 pre (K .put a ∷ post), side-append K′ 0 pre (K .put a′ ∷ post), put-other a, put-other a′)
+
+  -- ---- a queued entry, located
+
+  module _ {log : List Entry} (pre post : List Entry) (it : A) (log-is : log ≡ pre ++ K .put it ∷ post)
+      {gone gone′ : ℕ} {held : List A} {held′ : List B} (w : Window K log gone gone′ held) (w′ : Window K′ log gone′ gone held′)
+      (near : List (Placed A)) (pre-is : side K 0 pre ≡ w .old ++ near) where
+    side-is : (a : A) → side K 0 (pre ++ K .put a ∷ post) ≡ w .old ++ (near ++ place (others K pre) a ∷ side K (others K pre) post)
+    side-is a =
+        side-append K 0 pre (K .put a ∷ post)
+        ∙ rw (zero-add (others K pre), side-put (others K pre) a post, pre-is) (append-assoc (w .old) near (place (others K pre) a ∷ side K (others K pre) post))
+
+    live-is : w .live ≡ near ++ place (others K pre) it ∷ side K (others K pre) post
+    live-is = append-cancel-left (w .old) (w .live) (near ++ place (others K pre) it ∷ side K (others K pre) post) (sym (w .parts) ∙ ap (side K 0) log-is ∙ side-is it)
+
+    held-is : held ≡ map (shown K gone′) near ++ shown K gone′ (place (others K pre) it) ∷ map (shown K gone′) (side K (others K pre) post)
+    held-is = rw (w .shows, live-is) (map-append (shown K gone′) near (place (others K pre) it ∷ side K (others K pre) post))
+
+    i-is : length (map (shown K gone′) near) ≡ length near
+    i-is = length-map near (shown K gone′)
+
+    located-at : getElem? held (length near) ≡ some (shown K gone′ (place (others K pre) it))
+    located-at = rw (held-is, ← i-is) (getElem?-seam (map (shown K gone′) near) (shown K gone′ (place (others K pre) it)) (map (shown K gone′) (side K (others K pre) post)))
+
+    located-before : Before K (take (length near) held) pre
+    located-before = record {
+      out = gone′;
+      past = w .old;
+      rest = near;
+      parts = sym (map-side K 0 pre) ∙ ap (map entryOf) pre-is ∙ map-append entryOf (w .old) near;
+      ended = w .ended;
+      shows = rw held-is (take-at (map (shown K gone′) near) (shown K gone′ (place (others K pre) it) ∷ map (shown K gone′) (side K (others K pre) post)) (length near) i-is);
+    }
+
+    -- the other side's entries of the first part
+    side′-pre : side K′ 0 pre ≡ take (others K pre) (w′ .old) ++ take (others K pre - gone′) (w′ .live)
+    side′-pre =
+        sym (take-at (side K′ 0 pre) (side K′ (0 + others K′ pre) (K .put it ∷ post)) (others K pre) (side-length K′ 0 pre ∙ sym (others-length pre)))
+        ∙ ap (take (others K pre)) (sym (side-append K′ 0 pre (K .put it ∷ post)) ∙ ap (side K′ 0) (sym log-is) ∙ w′ .parts)
+        ∙ take-append (others K pre) (w′ .old) (w′ .live)
+        ∙ ap (λ (k : ℕ). take (others K pre) (w′ .old) ++ take (others K pre - k) (w′ .live)) (w′ .many)
+
+    located-before′ : Before K′ (take (others K pre - gone′) held′) pre
+    located-before′ = record {
+      out = gone;
+      past = take (others K pre) (w′ .old);
+      rest = take (others K pre - gone′) (w′ .live);
+      parts = sym (map-side K′ 0 pre) ∙ ap (map entryOf) side′-pre ∙ map-append entryOf (take (others K pre) (w′ .old)) (take (others K pre - gone′) (w′ .live));
+      ended = all-take (over K′) (others K pre) (w′ .old) (w′ .ended);
+      shows = rw (w′ .shows) (take-map (shown K′ gone) (others K pre - gone′) (w′ .live));
+    }
+
+    updated : (f : A → A) → ((n : ℕ) (a : A) → f (K .remember n a) ≡ K .remember n (f a))
+        → updateAt f (length (map (shown K gone′) near)) (map (shown K gone′) near ++ shown K gone′ (place (others K pre) it) ∷ map (shown K gone′) (side K (others K pre) post))
+        ≡ map (shown K gone′) near ++ shown K gone′ (place (others K pre) (f it)) ∷ map (shown K gone′) (side K (others K pre) post)
+    updated f blind =
+        updateAt-seam f (map (shown K gone′) near) (shown K gone′ (place (others K pre) it)) (map (shown K gone′) (side K (others K pre) post))
+        ∙ rw (blind (others K pre - gone′) it)
+
+    located-anew : (f : A → A) → ((n : ℕ) (a : A) → f (K .remember n a) ≡ K .remember n (f a)) → Windows K K′ (pre ++ K .put (f it) ∷ post) (updateAt f (length near) held) held′
+    located-anew f blind = record {
+      gone = gone;
+      gone′ = gone′;
+      ours = record {
+        old = w .old;
+        live = near ++ place (others K pre) (f it) ∷ side K (others K pre) post;
+        parts = side-is (f it);
+        many = w .many;
+        ended = w .ended;
+        shows = rw (held-is, map-append (shown K gone′) near (place (others K pre) (f it) ∷ side K (others K pre) post), ← i-is) (updated f blind);
+      };
+      theirs = record {
+        old = w′ .old;
+        live = w′ .live;
+        parts = side′-put (f it) it pre post ∙ ap (side K′ 0) (sym log-is) ∙ w′ .parts;
+        many = w′ .many;
+        ended = w′ .ended;
+        shows = w′ .shows;
+      };
+    }
+
+    pub located : Located K K′ log held held′ (length near) pre it post
+    located = record {
+      log-is = log-is;
+      number = others K pre - gone′;
+      at = located-at;
+      before = located-before;
+      before′ = located-before′;
+      anew = located-anew;
+    }
+
+  -- the entry at a place of the queue
+  pub locate : {log : List Entry} {held : List A} {held′ : List B} → Windows K K′ log held held′ → (i : ℕ) {x : A} → getElem? held i ≡ some x
+      → (pre : List Entry) × (it : A) × (post : List Entry) × Located K K′ log held held′ i pre it post
+  locate {log} {held} {held′} w i {x} h = at-live (getElem?-map (shown K (w .gone′)) (w .ours .live) i (rw (w .ours .shows) at h))
+    where
+      at-log : (near far : List (Placed A)) (y : Placed A) → w .ours .live ≡ near ++ y ∷ far → length near ≡ i
+          → ((pre post : List Entry) × (log ≡ pre ++ K .put (y .entry) ∷ post) × (side K 0 pre ≡ w .ours .old ++ near))
+          → (pre : List Entry) × (it : A) × (post : List Entry) × Located K K′ log held held′ i pre it post
+      at-log near far y e l (pre, post, log-is, pre-is) = (pre, y .entry, post, rw l at (located pre post (y .entry) log-is (w .ours) (w .theirs) near pre-is))
+
+      at-place : (y : Placed A) → ((near far : List (Placed A)) × (w .ours .live ≡ near ++ y ∷ far) × (length near ≡ i))
+          → (pre : List Entry) × (it : A) × (post : List Entry) × Located K K′ log held held′ i pre it post
+      at-place y (near, far, e, l) =
+          at-log near far y e l (side-split K 0 log (w .ours .old ++ near) y far (w .ours .parts ∙ rw e (sym (append-assoc (w .ours .old) near (y ∷ far)))))
+
+      at-live : (y : Placed A) × (getElem? (w .ours .live) i ≡ some y) → (pre : List Entry) × (it : A) × (post : List Entry) × Located K K′ log held held′ i pre it post
+      at-live (y, e) = at-place y (getElem?-split (w .ours .live) i e)
+
+  -- an unfinished entry of the log has a place in the queue
+  pub unfinished-queued : {log : List Entry} {held : List A} {held′ : List B} → Windows K K′ log held held′ → (pre : List Entry) (it : A) (post : List Entry)
+      → log ≡ pre ++ K .put it ∷ post → K .finished it ≡ false → (i : ℕ) × Located K K′ log held held′ i pre it post
+  unfinished-queued {log} {held} {held′} w pre it post log-is f =
+      go (failing-behind (over K) (side K 0 pre) (place (others K pre) it) (side K (others K pre) post) (w .ours .old) (w .ours .live) parts (w .ours .ended) f)
+    where
+      parts : side K 0 pre ++ place (others K pre) it ∷ side K (others K pre) post ≡ w .ours .old ++ w .ours .live
+      parts = sym (side-append K 0 pre (K .put it ∷ post) ∙ rw (zero-add (others K pre), side-put (others K pre) it post)) ∙ ap (side K 0) (sym log-is) ∙ w .ours .parts
+
+      go : (near : List (Placed A)) × (side K 0 pre ≡ w .ours .old ++ near) → (i : ℕ) × Located K K′ log held held′ i pre it post
+      go (near, pre-is) = (length near, located pre post it log-is (w .ours) (w .theirs) near pre-is)
+
+  -- ---- the whole window
+
+  -- all of the log, beside all that is queued
+  pub window-before : {log : List Entry} {gone out : ℕ} {held : List A} → Window K log gone out held → Before K held log
+  window-before {log} {out = out} w = record {
+    out = out;
+    past = w .old;
+    rest = w .live;
+    parts = sym (map-side K 0 log) ∙ ap (map entryOf) (w .parts) ∙ map-append entryOf (w .old) (w .live);
+    ended = w .ended;
+    shows = w .shows;
+  }
+
+  -- of the other side `gone` have left, and the others are queued
+  pub others-queued : (log : List Entry) {gone gone′ : ℕ} {held′ : List B} → Window K′ log gone′ gone held′ → others K log ≡ gone′ + length held′
+  others-queued log {gone} {gone′} {held′} w =
+      others-length log ∙ sym (side-length K′ 0 log) ∙ ap length (w .parts) ∙ length-append (w .old) (w .live)
+      ∙ rw (w .many, w .shows, length-map (w .live) (shown K′ gone))
+
+  -- no entry remembers more of the other kind than are held
+  pub remembered-held : (log : List Entry) {gone gone′ : ℕ} {held : List A} {held′ : List B} → Window K log gone gone′ held → Window K′ log gone′ gone held′
+      → allOf (λ a. leb (K .remembered a) (length held′)) held ≡ true
+  remembered-held log {gone} {gone′} {held} {held′} w w′ =
+      rw (w .shows)
+      (all-map (λ a. leb (K .remembered a) (length held′)) (λ x. leb (x .before - gone′) (length held′)) (shown K gone′)
+      (λ x. rw (K .remembered-remember (x .before - gone′) (x .entry))) (w .live)
+      ∙ all-weaken (λ x. leb (x .before) (others K log)) (λ x. leb (x .before - gone′) (length held′)) lower (w .live) (all-right (λ x. leb (x .before) (others K log)) (w .old) (w .live) known))
+    where
+      known : allOf (λ x. leb (x .before) (others K log)) (w .old ++ w .live) ≡ true
+      known = rw (← w .parts, ← zero-add (others K log)) (side-before K 0 log)
+
+      lower : (x : Placed A) → leb (x .before) (others K log) ≡ true → leb (x .before - gone′) (length held′) ≡ true
+      lower x h =
+          let some-are : x .before ≤ others K log = leb-true (x .before) (others K log) h in
+          let all-are : others K log ≡ gone′ + length held′ = others-queued log w′ in
+          le-leb (x .before - gone′) (length held′) (omega arith)
+
+  -- new entries at the end of the log
+  pub window-append : (log : List Entry) {gone gone′ : ℕ} {held : List A} {held′ : List B} → Window K log gone gone′ held → Window K′ log gone′ gone held′
+      → (new : List Entry) → Window K (log ++ new) gone gone′ (held ++ map (shown K gone′) (side K (gone′ + length held′) new))
+  window-append log {gone} {gone′} {held} {held′} w w′ new = record {
+    old = w .old;
+    live = w .live ++ side K (gone′ + length held′) new;
+    parts = side-append K 0 log new ∙ rw (zero-add (others K log), others-queued log w′, w .parts) (append-assoc (w .old) (w .live) (side K (gone′ + length held′) new));
+    many = w .many;
+    ended = w .ended;
+    shows = rw (w .shows) (sym (map-append (shown K gone′) (w .live) (side K (gone′ + length held′) new)));
+  }
+
+  -- finished entries leave this side, and j the other
+  pub window-leave : (leave : ℕ → A → A) → ((j n : ℕ) (a : A) → leave j (K .remember n a) ≡ K .remember (n - j) a)
+      → {log : List Entry} {gone out : ℕ} {held : List A} → Window K log gone out held → (j : ℕ)
+      → Window K log (gone + length (frontWhile (K .finished) held)) (out + j) (map (leave j) (afterWhile (K .finished) held))
+  window-leave leave lowers {log} {gone} {out} {held} w j = record {
+    old = w .old ++ frontWhile (over K) (w .live);
+    live = afterWhile (over K) (w .live);
+    parts =
+        w .parts ∙ ap (λ (l : List (Placed A)). w .old ++ l) (sym (frontWhile-afterWhile (over K) (w .live)))
+        ∙ sym (append-assoc (w .old) (frontWhile (over K) (w .live)) (afterWhile (over K) (w .live)));
+    many =
+        length-append (w .old) (frontWhile (over K) (w .live))
+        ∙ rw (w .many, w .shows, length-frontWhile-map (K .finished) (over K) (shown K out) (λ x. K .finished-remember (x .before - out) (x .entry)) (w .live));
+    ended = all-join (over K) (w .old) (frontWhile (over K) (w .live)) (w .ended) (all-frontWhile (over K) (w .live));
+    shows =
+        rw (w .shows, afterWhile-map (K .finished) (over K) (shown K out) (λ x. K .finished-remember (x .before - out) (x .entry)) (w .live))
+        (map-map (leave j) (shown K out) (afterWhile (over K) (w .live)) ∙ map-same (λ x. leave j (shown K out x)) (shown K (out + j)) lower (afterWhile (over K) (w .live)));
+  }
+    where
+      lower : (x : Placed A) → leave j (shown K out x) ≡ shown K (out + j) x
+      lower x = lowers j (x .before - out) (x .entry) ∙ ap (λ (n : ℕ). K .remember n (x .entry)) (omega arith)

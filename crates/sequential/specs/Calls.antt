@@ -1,0 +1,21 @@
+-- The calls that a list may hold. The plain run is fed these, and knows nothing of how the queue answers them.
+use Prim.Native.Nat.{ℕ}
+use mathlib.Core.List.{List}
+use Rattle.queue.specs.declared.Counts.{Counts}
+
+-- the three kinds of argument, and the two sides
+pub data Argument : Type 0 where
+  LoadAddress StoreAddress StoreData : Argument
+
+pub data Side : Type 0 where
+  LoadSide StoreSide : Side
+
+-- activate a group; give an argument to a port; serve with these counts, or write, a serial; take from a port; ready with
+-- this run of numbers
+pub data Call : Type 0 where
+  Activate : ℕ → Call
+  Give : Argument → ℕ → ℕ → Call
+  Serve : Counts → ℕ → Call
+  Write : ℕ → Call
+  Take : ℕ → Call
+  Ready : Side → List ℕ → Call

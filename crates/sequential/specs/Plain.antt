@@ -1,0 +1,139 @@
+-- The one-after-another run, or plain run. Document 01, "One access after another". It is fed the table, the opening memory,
+-- the list's calls, and which of them were answered 0; nothing of the queue's record. Of the table it uses the program order.
+use Prim.Native.Nat.{ℕ, suc}
+use mathlib.Core.Bool.{Bool, true, false, _&&_}
+use mathlib.Core.List.{List, [], _∷_, _++_, tail}
+use mathlib.Core.Option.{Option, none, some}
+use lib.Dec.{eqb}
+use lib.ListN.{getD, set, getElem?}
+use Rattle.table.specs.Basics.{pick}
+use Rattle.table.specs.Group.{GroupPairs, Access, load, store, order}
+use Rattle.sequential.specs.Calls.{Argument, LoadAddress, StoreAddress, StoreData, Call, Activate, Give, Serve, Write, Take, Ready}
+
+-- a call, and whether it was answered 0
+pub record Told : Type 0 where
+  pub call : Call
+  pub accepted : Bool
+
+-- What of each accepted call a reading of it picks out, in list order.
+abbrev pub consOption : {A : Type 0} → Option A → List A → List A
+consOption none rest = rest
+consOption (some a) rest = a ∷ rest
+
+abbrev pub gather : {A : Type 0} → (Call → Option A) → List Told → List A
+gather reading [] = []
+gather reading (t ∷ ts) = pick (t .accepted) (consOption (reading (t .call)) (gather reading ts)) (gather reading ts)
+
+-- the group of an activation
+abbrev pub groupIn : Call → Option ℕ
+groupIn (Activate g) = some g
+groupIn (Give kind p x) = none
+groupIn (Serve c s) = none
+groupIn (Write s) = none
+groupIn (Take p) = none
+groupIn (Ready side run) = none
+
+-- is it this kind of argument
+abbrev pub sameKind : Argument → Argument → Bool
+sameKind LoadAddress LoadAddress = true
+sameKind LoadAddress StoreAddress = false
+sameKind LoadAddress StoreData = false
+sameKind StoreAddress LoadAddress = false
+sameKind StoreAddress StoreAddress = true
+sameKind StoreAddress StoreData = false
+sameKind StoreData LoadAddress = false
+sameKind StoreData StoreAddress = false
+sameKind StoreData StoreData = true
+
+-- the argument of this kind for this port
+abbrev pub givenIn : Argument → ℕ → Call → Option ℕ
+givenIn kind port (Activate g) = none
+givenIn kind port (Give k p x) = pick (sameKind k kind && eqb p port) (some x) none
+givenIn kind port (Serve c s) = none
+givenIn kind port (Write s) = none
+givenIn kind port (Take p) = none
+givenIn kind port (Ready side run) = none
+
+-- "First it gathers rows in list order: accepted addresses for each load port, accepted addresses and accepted data for each
+-- store port." A row for each kind of argument and each port.
+abbrev pub Rows : Type 0
+Rows = Argument → ℕ → List ℕ
+
+abbrev pub rowsOf : List Told → Rows
+rowsOf ts kind port = gather (givenIn kind port) ts
+
+-- "It goes through the accepted activations in list order, and through each group's accesses in program order."
+abbrev pub accessesOf : Option GroupPairs → List Access
+accessesOf none = []
+accessesOf (some g) = order g
+
+abbrev pub inOrder : List GroupPairs → List ℕ → List Access
+inOrder groups [] = []
+inOrder groups (g ∷ gs) = accessesOf (getElem? groups g) ++ inOrder groups gs
+
+abbrev pub accesses : List GroupPairs → List Told → List Access
+accesses groups ts = inOrder groups (gather groupIn ts)
+
+-- "Where a row has run out, any address below the memory length, or any word, is filled in, each chosen freely": what is
+-- chosen for the run's kth access.
+pub record Filling : Type 0 where
+  pub address : ℕ → ℕ
+  pub word : ℕ → ℕ
+
+-- the next of a row, or what is filled in
+abbrev pub nextOf : List ℕ → ℕ → ℕ
+nextOf [] filled = filled
+nextOf (x ∷ xs) filled = x
+
+-- the rows with the next of this kind and port used up
+abbrev pub usedUp : Argument → ℕ → Rows → Rows
+usedUp kind port rows k p = pick (sameKind k kind && eqb p port) (tail (rows k p)) (rows k p)
+
+-- "Its state is then a memory and what is left of the rows."
+pub record State : Type 0 where
+  pub memory : List ℕ
+  pub rows : Rows
+
+-- a value that a port loads
+pub record Loaded : Type 0 where
+  pub port : ℕ
+  pub value : ℕ
+
+-- "A load uses up the next address of its port's row; the memory word there is the next value its port loads."
+abbrev pub loadedAt : State → ℕ → ℕ → ℕ
+loadedAt s port filled = getD (s .memory) (nextOf (s .rows LoadAddress port) filled) 0
+
+abbrev pub afterLoad : State → ℕ → State
+afterLoad s port = record { memory = s .memory; rows = usedUp LoadAddress port (s .rows) }
+
+-- "A store uses up the next address and the next data of its port's rows and puts the data there."
+abbrev pub afterStore : State → ℕ → ℕ → ℕ → State
+afterStore s port filledAddress filledWord = record {
+  memory = set (s .memory) (nextOf (s .rows StoreAddress port) filledAddress) (nextOf (s .rows StoreData port) filledWord);
+  rows = usedUp StoreData port (usedUp StoreAddress port (s .rows));
+}
+
+-- The values loaded, and the memory at the end, of the accesses from the kth on.
+abbrev pub loadedFrom : Filling → ℕ → State → List Access → List Loaded
+loadedFrom fill k s [] = []
+loadedFrom fill k s (load p ∷ rest) = record { port = p; value = loadedAt s p (fill .address k) } ∷ loadedFrom fill (suc k) (afterLoad s p) rest
+loadedFrom fill k s (store p ∷ rest) = loadedFrom fill (suc k) (afterStore s p (fill .address k) (fill .word k)) rest
+
+abbrev pub memoryFrom : Filling → ℕ → State → List Access → List ℕ
+memoryFrom fill k s [] = s .memory
+memoryFrom fill k s (load p ∷ rest) = memoryFrom fill (suc k) (afterLoad s p) rest
+memoryFrom fill k s (store p ∷ rest) = memoryFrom fill (suc k) (afterStore s p (fill .address k) (fill .word k)) rest
+
+abbrev pub startOf : List ℕ → List Told → State
+startOf memory ts = record { memory = memory; rows = rowsOf ts }
+
+-- The plain run: the values that a port loads, in order, and the memory that it leaves.
+abbrev pub valuesAt : ℕ → List Loaded → List ℕ
+valuesAt port [] = []
+valuesAt port (l ∷ ls) = pick (eqb (l .port) port) (l .value ∷ valuesAt port ls) (valuesAt port ls)
+
+unfoldable pub plainLoads : List GroupPairs → List ℕ → List Told → Filling → ℕ → List ℕ
+plainLoads groups memory ts fill port = valuesAt port (loadedFrom fill 0 (startOf memory ts) (accesses groups ts))
+
+unfoldable pub plainMemory : List GroupPairs → List ℕ → List Told → Filling → List ℕ
+plainMemory groups memory ts fill = memoryFrom fill 0 (startOf memory ts) (accesses groups ts)

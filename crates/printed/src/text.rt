@@ -2,7 +2,7 @@
 ghost use mathlib.Core.Path.{_≡_};
 ghost use Prim.Native.Nat.{_≤_};
 ghost use lib.ListN.{length, replicate};
-ghost use Rattle.table.specs.Number.{writtenReply};
+ghost use Rattle.table.specs.Number.{HasWritten};
 ghost use Rattle.table.specs.Table.{groupsOf};
 ghost use Rattle.replay.specs.Replay.{prepare};
 ghost use Rattle.printed.specs.Text.{startText, traceText, text};
@@ -107,7 +107,7 @@ fn put_text(out: &mut [u8], table: &[u8], trace: &[u8]) -> usize
 
 // Writes the text of both files' bytes at the front of a buffer that has room for every text.
 pub fn print(table: &[u8], trace: &[u8], out: &mut [u8]) -> Written
-    ensures { λ r. ⌜ (writtenReply r ≡ printed (now (table .entry)) (now (trace .entry)) (now (out .entry)) .answer) × (now (out .exit) ≡ printed (now (table .entry)) (now (trace .entry)) (now (out .entry)) .buffer) ⌝ }
+    ensures { λ r. ⌜ HasWritten (printed (now (table .entry)) (now (trace .entry)) (now (out .entry))) r (now (out .exit)) ⌝ }
 {
     if out.len() < MOST_TEXT {
         return Written::Unwritten(TOO_SHORT);

@@ -25,7 +25,15 @@ givesWay done a e = has done e || pick (e .addressed) (not (eqb (e .address) a))
 -- an entry after n of the other kind have left
 abbrev pub lowered : ℕ → Entry → Entry
 lowered n e =
-    record { port = e .port; before = e .before - n; addressed = e .addressed; filled = e .filled; finished = e .finished; address = e .address; word = e .word }
+    record {
+      port = e .port;
+      before = e .before - n;
+      addressed = e .addressed;
+      filled = e .filled;
+      finished = e .finished;
+      address = e .address;
+      word = e .word;
+    }
 
 -- the `left` entries behind the first `gone` stand at the front, after `others` of the other kind have left
 pub record Shifted (gone left others : ℕ) (l after : List ℕ) : Type 0 where

@@ -9,7 +9,7 @@ use crate::Side;
 use crate::Value;
 
 // Both sides of a queue.
-pub struct Sides {
+pub(crate) struct Sides {
     pub loads: Side,
     pub stores: Side,
 }

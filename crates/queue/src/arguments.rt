@@ -25,7 +25,7 @@ use crate::refusal::UNSOUND;
 use crate::sound::sound_in;
 
 // What an entry waits for.
-pub enum Argument {
+pub(crate) enum Argument {
     Address(u16),
     Word(u32),
 }

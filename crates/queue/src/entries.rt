@@ -8,7 +8,7 @@ ghost use Rattle.queue.specs.Internal.{has, lacks, entriesIn};
 use crate::Entry;
 
 // What an entry may have, or be.
-pub enum Mark {
+pub(crate) enum Mark {
     Addressed,
     Filled,
     Finished,

@@ -99,7 +99,8 @@ pub fn open_in(
     first: u32,
     words: u32,
 ) -> OpenedFrame
-    ensures { λ r. ⌜ OpensFrame (freshFrame table «load_depth» «store_depth» first words) (openQueue (groupsOf table) «load_depth» «store_depth» first words) r ⌝ }
+    ensures { λ r. ⌜ OpensFrame (freshFrame table «load_depth» «store_depth» first words)
+        (openQueue (groupsOf table) «load_depth» «store_depth» first words) r ⌝ }
 {
     let fault = table_fault(table);
     if fault != 0 {

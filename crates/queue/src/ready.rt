@@ -29,7 +29,7 @@ use crate::writing::write_fault;
 use table::refusal::TOO_SHORT;
 
 // Serials, as many as a side can hold. Places beyond the count mean nothing.
-pub struct Serials {
+pub(crate) struct Serials {
     pub count: usize,
     pub numbers: [u32; 64],
 }
@@ -270,7 +270,8 @@ impl Queue {
     // The same, and the front part is handed back. No contract can speak of the rest of the run once a part is handed out;
     // `ready_loads_into` says that it keeps its contents.
     pub fn ready_loads<'a>(self, out: &'a mut [u32]) -> ReadySerials<'a>
-        ensures { λ r. ⌜ Fronts self (readyLoads (contentsOf self) (now (out .entry))) (r .answer) (now (r .serials)) (r .queue) × (ptr (r .serials) ≡ ptr (out .entry)) ⌝ }
+        ensures { λ r. ⌜ Fronts self (readyLoads (contentsOf self) (now (out .entry))) (r .answer) (now (r .serials)) (r .queue)
+            × (ptr (r .serials) ≡ ptr (out .entry)) ⌝ }
     {
         let readied = self.ready_loads_into(&mut *out);
         let count = readied.count;
@@ -283,7 +284,8 @@ impl Queue {
 
     // The same of the stores that would be written.
     pub fn ready_stores<'a>(self, out: &'a mut [u32]) -> ReadySerials<'a>
-        ensures { λ r. ⌜ Fronts self (readyStores (contentsOf self) (now (out .entry))) (r .answer) (now (r .serials)) (r .queue) × (ptr (r .serials) ≡ ptr (out .entry)) ⌝ }
+        ensures { λ r. ⌜ Fronts self (readyStores (contentsOf self) (now (out .entry))) (r .answer) (now (r .serials)) (r .queue)
+            × (ptr (r .serials) ≡ ptr (out .entry)) ⌝ }
     {
         let readied = self.ready_stores_into(&mut *out);
         let count = readied.count;

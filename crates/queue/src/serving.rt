@@ -35,7 +35,7 @@ use crate::serial::place_of;
 use crate::sound::sound_in;
 
 // What the stores before a load have for it.
-pub enum Supply {
+pub(crate) enum Supply {
     // a store among them has no address
     Unknown,
     // none of them is an unwritten store to the load's address

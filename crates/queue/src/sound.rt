@@ -87,7 +87,8 @@ pub fn sound_in<'a>(
     load_entries: &[u64],
     store_entries: &[u64],
 ) -> bool
-    ensures { λ r. ⌜ (let frame = frameOf outline (now (groups .entry)) (now («load_places» .entry)) (now («store_places» .entry)) in r ≡ whole (now («load_entries» .entry)) (now («store_entries» .entry))
+    ensures { λ r. ⌜ (let frame = frameOf outline (now (groups .entry)) (now («load_places» .entry)) (now («store_places» .entry)) in
+        r ≡ whole (now («load_entries» .entry)) (now («store_entries» .entry))
         && sound (contentsOf (queueOf frame (now («load_entries» .entry)) (now («store_entries» .entry))))) ⌝ }
 {
     if load_entries.len() != 64 {

@@ -8,9 +8,8 @@ ghost use Rattle.script.specs.Names.{lookOn, lookEnd, lookStep, lookLast
 ghost use Rattle.script.specs.Decimal.{withDigit, wrongNumbers, spaced, digited, numberStep, numbersEnd, numbersFrom};
 ghost use Rattle.script.specs.Hexadecimal.{hexadecimal, wrongBytes, firstDigit, secondDigit, byteBegun, byteStep, bytesEnd, bytesFrom};
 
-// The numbers of a line, as many as `count`, each with one space before it; one of 18446744073709551610 or
-// more counts as 18446744073709551615.
-// `right` says that there was nothing else. `bare` has a meaning while the line is read: a space is not followed by a digit yet.
+// The numbers of a line, as many as `count`, each with one space before it; one of 18446744073709551610 or more
+// counts as 18446744073709551615. `right` says that there was nothing else. `bare` has a meaning while the line is read: a space is not followed by a digit yet.
 pub struct Numbers {
     pub right: bool,
     pub bare: bool,
@@ -18,8 +17,8 @@ pub struct Numbers {
     pub values: [u64; 8],
 }
 
-// The bytes of a line, as many as `count`, each with one space before it. While the line is read, `phase` says what comes next: 0 a space, 1 a digit, 2 a second one
-// behind the digit `high`.
+// The bytes of a line, as many as `count`, each with one space before it. While the line is read, `phase` says what comes next:
+// 0 a space, 1 a digit, 2 a second one behind the digit `high`.
 pub struct Bytes {
     pub right: bool,
     pub phase: u8,

@@ -42,7 +42,10 @@ takeOf port (Ready side run) = false
 
 abbrev pub takenAt : ℕ → List Answered → List ℕ
 takenAt port [] = []
-takenAt port (a ∷ rest) = pick (takeOf port (a .call)) (pick (eqb (a .number) 0) (consOption (a .value) (takenAt port rest)) (takenAt port rest)) (takenAt port rest)
+takenAt port (a ∷ rest) =
+    pick (takeOf port (a .call))
+    (pick (eqb (a .number) 0) (consOption (a .value) (takenAt port rest)) (takenAt port rest))
+    (takenAt port rest)
 
 -- the serves and the writes among the accepted calls
 abbrev pub serveIn : Call → Option ℕ
@@ -96,7 +99,9 @@ allArguments groups ts = (kind : Argument) (port : ℕ) → length (rowsOf ts ki
 
 -- "A serve or write would be accepted when one of some serial, given the queue and memory that the list left, is answered 0."
 abbrev pub wouldMove : Machine → Type 0
-wouldMove m = (serial : ℕ) × (serial < 2 ^ 32) × ((number (serve (m .queue) (m .memory) serial) ≡ 0) ⊎ (number (write (m .queue) (m .memory) serial) ≡ 0))
+wouldMove m =
+    (serial : ℕ) × (serial < 2 ^ 32) ×
+    ((number (serve (m .queue) (m .memory) serial) ≡ 0) ⊎ (number (write (m .queue) (m .memory) serial) ≡ 0))
 
 -- What holds of a list's answers and of the machine that it left.
 pub record Sequential (groups : List GroupPairs) (memory : List ℕ) (log : List Answered) (left : Machine) (fill : Filling) : Type 0 where
@@ -122,7 +127,9 @@ Demand3 =
 
 -- No queue that a list of calls leads to is refused for its record: none of them gets 40.
 abbrev pub ReachedSound : Type 0
-ReachedSound = (groups : List GroupPairs) (memory : List ℕ) (m : Machine) → Opening groups memory m → (calls : List Call) → sound (leaves m calls .queue) ≡ true
+ReachedSound =
+    (groups : List GroupPairs) (memory : List ℕ) (m : Machine) → Opening groups memory m →
+    (calls : List Call) → sound (leaves m calls .queue) ≡ true
 
 -- "So two lists alike in table, opening memory, accepted activations and each port's accepted arguments give a port's nth
 -- take the same value, where both have one." The depths and first serials may differ, and so may all else in the lists.
@@ -134,4 +141,5 @@ abbrev pub AlikeLists : Type 0
 AlikeLists =
     (groups : List GroupPairs) (memory : List ℕ) (m₁ m₂ : Machine) → Opening groups memory m₁ → Opening groups memory m₂ →
     (calls₁ calls₂ : List Call) → Alike (told (answers m₁ calls₁)) (told (answers m₂ calls₂)) →
-    (port n v w : ℕ) → getElem? (takenAt port (answers m₁ calls₁)) n ≡ some v → getElem? (takenAt port (answers m₂ calls₂)) n ≡ some w → v ≡ w
+    (port n v w : ℕ) → getElem? (takenAt port (answers m₁ calls₁)) n ≡ some v →
+    getElem? (takenAt port (answers m₂ calls₂)) n ≡ some w → v ≡ w

@@ -16,7 +16,8 @@ use Rattle.table.specs.declared.EventRead.the-variants.{Found, End, NoEv
 use Rattle.table.specs.declared.Stepped.{Stepped}
 use Rattle.table.specs.Basics.{pick, flat, within}
 use Rattle.table.specs.Refusal.{badKind}
-use Rattle.table.specs.Number.{Got, got, bad, andThen, require, readNumber, placeOf, Reply, accepts, refuses, Reading, reading, bytesOf, Wrote, wrote, unwritten}
+use Rattle.table.specs.Number.{Got, got, bad, andThen, require, readNumber, placeOf, Reply, accepts, refuses, Reading, reading}
+use Rattle.table.specs.Number.{bytesOf, Wrote, wrote, unwritten}
 
 -- "0 activate (group), 1 load address (port, address), 2 store address (port, address), 3 store data (port, word), 4 serve
 -- load (serial), 5 write store (serial), 6 take (port)": an event's numbers, its kind first.

@@ -18,10 +18,14 @@ use Rattle.table.specs.declared.read.GroupsRead.{GroupsRead}
 use Rattle.table.specs.Number.{Got, got, bad, andThen, readNumber, Reply, accepts, refuses, replyNumber, Reading, reading}
 use Rattle.table.specs.TableBytes.{filled, pack}
 use Rattle.table.specs.Packed.{packedGroup}
-use Rattle.table.specs.Basics.{pick}
+use Rattle.table.specs.Basics.{pick, splice}
 use Rattle.table.specs.Group.{GroupPairs, listOf, Inside}
 use Rattle.table.specs.Table.{loadRule, storeRule, pairsFault, seeing, Seen, seenAfter, groupFault}
 use Rattle.table.specs.declared.trace.Numbers.{Numbers}
+
+-- bytes put at a place of a buffer: where they end, and the buffer as it is left
+abbrev pub PutAt : List ℕ → ℕ → List ℕ → ℕ → List ℕ → Type 0
+PutAt buffer at bytes r left = (r ≡ at + length bytes) × (left ≡ splice buffer at bytes)
 
 -- the numbers that are written together
 abbrev pub listed : Numbers → List ℕ
@@ -119,7 +123,12 @@ pub data PairsResult (s : List ℕ) (seen : List Bool) : Got (List Pair) → Pai
 
 -- the record of a group, made of what reading its loads and its stores gave
 abbrev pub groupMade : PairsRead → PairsRead → GroupRead
-groupMade l t = record { answer = 0; next = t .next; group = record { loads = l .pairs; stores = t .pairs }; seen = record { loads = l .seen; stores = t .seen } }
+groupMade l t = record {
+  answer = 0;
+  next = t .next;
+  group = record { loads = l .pairs; stores = t .pairs };
+  seen = record { loads = l .seen; stores = t .seen };
+}
 
 pub record GroupFound (s : List ℕ) (seen : Seen) (g : GroupPairs) (rest : List ℕ) (r : GroupRead) : Type 0 where
   pub answer : r .answer ≡ 0

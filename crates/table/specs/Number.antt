@@ -1,6 +1,7 @@
 -- Numbers. Document 01, "Bytes and tables": "A number is 32 bits without sign, in groups of seven bits, lowest group first;
 -- bit 7 of a byte means that another follows. A reader accepts padding; the writer uses the fewest bytes."
 use Prim.Native.Nat.{ℕ, zero, suc, _+_, _-_, _*_, _/_, _%_}
+use mathlib.Core.Path.{_≡_}
 use mathlib.Core.Bool.{Bool, true, false, _&&_}
 use mathlib.Core.List.{List, [], _∷_, _++_}
 use lib.Count.{leadingZeros}
@@ -105,6 +106,10 @@ writtenReply (Unwritten k) = refuses k
 pub record Wrote : Type 0 where
   pub answer : Reply ℕ
   pub buffer : List ℕ
+
+-- a writer's call: its answer, and the buffer as it is left
+abbrev pub HasWritten : Wrote → Written → List ℕ → Type 0
+HasWritten w r left = (writtenReply r ≡ w .answer) × (left ≡ w .buffer)
 
 -- nothing is written
 abbrev pub unwritten : ℕ → List ℕ → Wrote

@@ -33,7 +33,9 @@ abbrev pub NumbersAreSpelled : Type 0
 NumbersAreSpelled = (bytes rest : List ℕ) → spells 4 15 bytes ≡ true → readNumber (bytes ++ rest) ≡ got (valueOf bytes) rest
 
 abbrev pub OnlySpelledNumbers : Type 0
-OnlySpelledNumbers = (s rest : List ℕ) (n : ℕ) → readNumber s ≡ got n rest → (bytes : List ℕ) × (s ≡ bytes ++ rest) × (spells 4 15 bytes ≡ true) × (valueOf bytes ≡ n)
+OnlySpelledNumbers =
+    (s rest : List ℕ) (n : ℕ) → readNumber s ≡ got n rest →
+    (bytes : List ℕ) × (s ≡ bytes ++ rest) × (spells 4 15 bytes ≡ true) × (valueOf bytes ≡ n)
 
 -- What is written is read back; its length is the law's; and no bytes that are read as the number are fewer.
 abbrev pub isByte : ℕ → Bool
@@ -53,7 +55,9 @@ abbrev pub TablesAreSpelled : Type 0
 TablesAreSpelled = (gs : List GroupPairs) (bytes : List ℕ) → tableFault gs ≡ 0 → Spelled bytes (tableNumbers gs) → readTable bytes ≡ got gs []
 
 abbrev pub OnlyRightTables : Type 0
-OnlyRightTables = (s rest : List ℕ) (gs : List GroupPairs) → readTable s ≡ got gs rest → (tableFault gs ≡ 0) × (rest ≡ []) × Spelled s (tableNumbers gs)
+OnlyRightTables =
+    (s rest : List ℕ) (gs : List GroupPairs) → readTable s ≡ got gs rest →
+    (tableFault gs ≡ 0) × (rest ≡ []) × Spelled s (tableNumbers gs)
 
 abbrev pub TablesReadBack : Type 0
 TablesReadBack = (gs : List GroupPairs) → tableFault gs ≡ 0 → readTable (tableBytes gs) ≡ got gs []
@@ -71,14 +75,18 @@ abbrev pub EventsAreSpelled : Type 0
 EventsAreSpelled = (e : Event) (bytes rest : List ℕ) → Spelled bytes (eventNumbers e) → readEvent (bytes ++ rest) ≡ got e rest
 
 abbrev pub OnlySpelledEvents : Type 0
-OnlySpelledEvents = (s rest : List ℕ) (e : Event) → readEvent s ≡ got e rest → (bytes : List ℕ) × (s ≡ bytes ++ rest) × Spelled bytes (eventNumbers e)
+OnlySpelledEvents =
+    (s rest : List ℕ) (e : Event) → readEvent s ≡ got e rest →
+    (bytes : List ℕ) × (s ≡ bytes ++ rest) × Spelled bytes (eventNumbers e)
 
 -- The same of the four leading numbers of a trace.
 abbrev pub HeadersAreSpelled : Type 0
 HeadersAreSpelled = (h : Header) (bytes rest : List ℕ) → Spelled bytes (headerNumbers h) → readHeader (bytes ++ rest) ≡ got h rest
 
 abbrev pub OnlySpelledHeaders : Type 0
-OnlySpelledHeaders = (s rest : List ℕ) (h : Header) → readHeader s ≡ got h rest → (bytes : List ℕ) × (s ≡ bytes ++ rest) × Spelled bytes (headerNumbers h)
+OnlySpelledHeaders =
+    (s rest : List ℕ) (h : Header) → readHeader s ≡ got h rest →
+    (bytes : List ℕ) × (s ≡ bytes ++ rest) × Spelled bytes (headerNumbers h)
 
 -- the events that reading yields from a place on, and then the end
 pub data Yields (s : List ℕ) : ℕ → List Event → Type 0 where

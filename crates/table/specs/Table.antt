@@ -57,7 +57,9 @@ pairFault offsetRight seen port = check offsetRight badOffset (check (leb port 3
 -- The first fault of a group's pairs of one kind, from the ith on, or 0.
 unfoldable pub pairsFault : (ℕ → ℕ → ℕ → Bool) → ℕ → ℕ → List Bool → List Pair → ℕ
 pairsFault rule low i seen [] = 0
-pairsFault rule low i seen (p ∷ ps) = firstFault (pairFault (rule low i (p .offset)) seen (p .port)) (pairsFault rule (p .offset) (suc i) (set seen (p .port) true) ps)
+pairsFault rule low i seen (p ∷ ps) =
+    firstFault (pairFault (rule low i (p .offset)) seen (p .port))
+    (pairsFault rule (p .offset) (suc i) (set seen (p .port) true) ps)
 
 -- the marks after these pairs
 unfoldable pub seeing : List Pair → List Bool → List Bool

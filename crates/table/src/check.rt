@@ -85,7 +85,8 @@ fn check_pairs<'a>(
     seen: &mut [bool; 32],
 ) -> u8
     requires { ⌜ RuleRight storing stores (now «load_places») loads × Inside pairs ⌝ }
-    ensures { λ r. ⌜ PairsChecked (ruleOf storing stores (listOf (now («load_places» .entry)) loads)) (now (seen .entry)) (listOf (now (places .entry)) pairs) (now (seen .exit)) r ⌝ }
+    ensures { λ r. ⌜ PairsChecked (ruleOf storing stores (listOf (now («load_places» .entry)) loads)) (now (seen .entry))
+        (listOf (now (places .entry)) pairs) (now (seen .exit)) r ⌝ }
 {
     let first = pairs.first as usize;
     let count = pairs.count as usize;
@@ -130,7 +131,8 @@ fn check_group<'a>(
     seen_stores: &mut [bool; 32],
 ) -> u8
     requires { ⌜ GroupInside group ⌝ }
-    ensures { λ r. ⌜ GroupChecked (seenIn (now («seen_loads» .entry)) (now («seen_stores» .entry))) (pairsOf (now (loads .entry)) (now (stores .entry)) group) (seenIn (now («seen_loads» .exit)) (now («seen_stores» .exit))) r ⌝ }
+    ensures { λ r. ⌜ GroupChecked (seenIn (now («seen_loads» .entry)) (now («seen_stores» .entry)))
+        (pairsOf (now (loads .entry)) (now (stores .entry)) group) (seenIn (now («seen_loads» .exit)) (now («seen_stores» .exit))) r ⌝ }
 {
     let load_span = group.loads;
     let store_span = group.stores;

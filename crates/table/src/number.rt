@@ -2,8 +2,8 @@
 ghost use mathlib.Core.Path.{_≡_};
 ghost use Prim.Native.Nat.{_+_, _≤_};
 ghost use lib.ListN.{length, drop};
-ghost use Rattle.table.specs.Number.{readNumber, readIn, numberReply, numberRefusal, numberBytes, byteCount, significantBits, writtenReply, wrote};
-ghost use Rattle.table.specs.Basics.{splice};
+ghost use Rattle.table.specs.Number.{readNumber, readIn, numberReply, numberRefusal, numberBytes, byteCount, significantBits, HasWritten, wrote};
+ghost use Rattle.table.specs.Internal.{PutAt};
 use crate::NumberRead;
 use crate::Written;
 use crate::refusal::ENDED;
@@ -107,7 +107,7 @@ pub fn number_length(value: u32) -> usize
 // Puts a number's bytes at a place where they fit, and says where they end.
 pub(crate) fn put_number(out: &mut [u8], at: usize, value: u32) -> usize
     requires { ⌜ at + length (numberBytes value) ≤ length (now out) ⌝ }
-    ensures { λ r. ⌜ (r ≡ at + length (numberBytes value)) × (now (out .exit) ≡ splice (now (out .entry)) at (numberBytes value)) ⌝ }
+    ensures { λ r. ⌜ PutAt (now (out .entry)) at (numberBytes value) r (now (out .exit)) ⌝ }
 {
     let mut left = value;
     let mut place = at;
@@ -122,7 +122,7 @@ pub(crate) fn put_number(out: &mut [u8], at: usize, value: u32) -> usize
 
 // Writes a number at the front of a buffer, in the fewest bytes.
 pub fn write_number(value: u32, out: &mut [u8]) -> Written
-    ensures { λ r. ⌜ (writtenReply r ≡ wrote (numberBytes value) (now (out .entry)) .answer) × (now (out .exit) ≡ wrote (numberBytes value) (now (out .entry)) .buffer) ⌝ }
+    ensures { λ r. ⌜ HasWritten (wrote (numberBytes value) (now (out .entry))) r (now (out .exit)) ⌝ }
 {
     let length = number_length(value);
     if out.len() < length {

@@ -3,7 +3,8 @@ ghost use mathlib.Core.Path.{_≡_};
 ghost use Prim.Native.Nat.{_+_, _≤_};
 ghost use lib.ListN.{length, drop};
 ghost use Rattle.table.specs.TableBytes.{readPairs, readGroup, readGroups, readTable, tableAnswer, pack};
-ghost use Rattle.table.specs.Internal.{readTwo, twoReply, twoRefusal, ruleOf, RuleRight, front, pairsIn, packPairs, PairsResult, seenOf, groupMade, GroupResult, putIn, Growing, Grown, GroupsResult};
+ghost use Rattle.table.specs.Internal.{readTwo, twoReply, twoRefusal, ruleOf, RuleRight, front, pairsIn, packPairs, PairsResult};
+ghost use Rattle.table.specs.Internal.{seenOf, groupMade, GroupResult, putIn, Growing, Grown, GroupsResult};
 ghost use mathlib.Core.List.{[]};
 ghost use Rattle.table.specs.Table.{noneSeen};
 ghost use Rattle.table.specs.Number.{readIn, bad};
@@ -26,7 +27,7 @@ use crate::refusal::BAD_GROUP_COUNT;
 use crate::refusal::LEFT_OVER;
 
 // Two numbers, one after the other, and the place after them; or the refusal number.
-pub enum TwoRead {
+pub(crate) enum TwoRead {
     Two {
         first: u32,
         second: u32,
@@ -36,25 +37,25 @@ pub enum TwoRead {
 }
 
 // The ports seen so far in a table, a mark for each.
-pub struct Ports {
+pub(crate) struct Ports {
     pub loads: [bool; 32],
     pub stores: [bool; 32],
 }
 
 // A group's pairs of one kind that were read, each packed into a number: `count` of them, from the first place on.
-pub struct Pairs {
+pub(crate) struct Pairs {
     pub count: u8,
     pub places: [u16; 32],
 }
 
 // A group that was read: its loads and its stores.
-pub struct NewGroup {
+pub(crate) struct NewGroup {
     pub loads: Pairs,
     pub stores: Pairs,
 }
 
 // The pairs that were read and the ports seen by then; or the refusal number, and the rest means nothing.
-pub struct PairsRead {
+pub(crate) struct PairsRead {
     pub answer: u8,
     pub next: usize,
     pub pairs: Pairs,
@@ -62,7 +63,7 @@ pub struct PairsRead {
 }
 
 // The group that was read and the ports seen by then; or the refusal number, and the rest means nothing.
-pub struct GroupRead {
+pub(crate) struct GroupRead {
     pub answer: u8,
     pub next: usize,
     pub group: NewGroup,
@@ -70,7 +71,7 @@ pub struct GroupRead {
 }
 
 // The groups that were read; or the refusal number, and the rest means nothing.
-pub struct GroupsRead {
+pub(crate) struct GroupsRead {
     pub answer: u8,
     pub next: usize,
     pub table: Table,
@@ -149,7 +150,8 @@ fn read_pairs(
     seen: [bool; 32],
 ) -> PairsRead
     requires { ⌜ (count ≤ 16) × (at ≤ length (now bytes)) × RuleRight storing stores (loads .places) (front (loads .count)) ⌝ }
-    ensures { λ r. ⌜ PairsResult (now (bytes .entry)) seen (readPairs (ruleOf storing stores (pairsIn loads)) count 0 0 seen (drop at (now (bytes .entry)))) r ⌝ }
+    ensures { λ r. ⌜ PairsResult (now (bytes .entry)) seen
+        (readPairs (ruleOf storing stores (pairsIn loads)) count 0 0 seen (drop at (now (bytes .entry)))) r ⌝ }
 {
     let load_places = loads.places;
     let load_span = Span {

@@ -2,8 +2,9 @@
 ghost use mathlib.Core.Path.{_≡_};
 ghost use Prim.Native.Nat.{_+_, _≤_};
 ghost use lib.ListN.{length, take, drop};
-ghost use Rattle.table.specs.Number.{readIn, bytesOf, writtenReply, wrote};
-ghost use Rattle.table.specs.Event.{readHeader, headerReply, headerBytes, eventOf, readKind, eventReply, eventReadIn, eventAt, placeAfter, Steps, eventNumbers, eventBytes, wroteEventOf};
+ghost use Rattle.table.specs.Number.{readIn, bytesOf, HasWritten, wrote};
+ghost use Rattle.table.specs.Event.{readHeader, headerReply, headerBytes, eventOf, readKind, eventReply, eventReadIn, eventAt};
+ghost use Rattle.table.specs.Event.{placeAfter, Steps, eventNumbers, eventBytes, wroteEventOf};
 ghost use Rattle.table.specs.Reader.{movedTo};
 ghost use Rattle.table.specs.Basics.{splice};
 ghost use Rattle.table.specs.Internal.{listed};
@@ -22,7 +23,7 @@ use crate::refusal::BAD_KIND;
 use crate::refusal::TOO_SHORT;
 
 // Up to four numbers that are written together. Places beyond the count mean nothing.
-pub struct Numbers {
+pub(crate) struct Numbers {
     pub count: usize,
     pub values: [u32; 4],
 }
@@ -190,7 +191,7 @@ fn put_numbers(numbers: Numbers, out: &mut [u8])
 // Writes the numbers at the front of a buffer.
 fn write_numbers(numbers: Numbers, out: &mut [u8]) -> Written
     requires { ⌜ numbers .count ≤ 4 ⌝ }
-    ensures { λ r. ⌜ (writtenReply r ≡ wrote (bytesOf (listed numbers)) (now (out .entry)) .answer) × (now (out .exit) ≡ wrote (bytesOf (listed numbers)) (now (out .entry)) .buffer) ⌝ }
+    ensures { λ r. ⌜ HasWritten (wrote (bytesOf (listed numbers)) (now (out .entry))) r (now (out .exit)) ⌝ }
 {
     let length = numbers_length(numbers);
     if out.len() < length {
@@ -238,7 +239,7 @@ fn numbers_of(event: Event) -> Numbers
 
 // Writes an event at the front of a buffer.
 pub fn write_event(event: Event, out: &mut [u8]) -> Written
-    ensures { λ r. ⌜ (writtenReply r ≡ wrote (eventBytes event) (now (out .entry)) .answer) × (now (out .exit) ≡ wrote (eventBytes event) (now (out .entry)) .buffer) ⌝ }
+    ensures { λ r. ⌜ HasWritten (wrote (eventBytes event) (now (out .entry))) r (now (out .exit)) ⌝ }
 {
     write_numbers(numbers_of(event), out)
 }
@@ -246,7 +247,7 @@ pub fn write_event(event: Event, out: &mut [u8]) -> Written
 // Writes an event, by its kind and its numbers, at the front of a buffer: 35, then 10. A kind with one number leaves the second
 // alone.
 pub fn write_event_of(kind: u32, first: u32, second: u32, out: &mut [u8]) -> Written
-    ensures { λ r. ⌜ (writtenReply r ≡ wroteEventOf kind first second (now (out .entry)) .answer) × (now (out .exit) ≡ wroteEventOf kind first second (now (out .entry)) .buffer) ⌝ }
+    ensures { λ r. ⌜ HasWritten (wroteEventOf kind first second (now (out .entry))) r (now (out .exit)) ⌝ }
 {
     if 6 < kind {
         return Written::Unwritten(BAD_KIND);
@@ -257,7 +258,7 @@ pub fn write_event_of(kind: u32, first: u32, second: u32, out: &mut [u8]) -> Wri
 
 // Writes a trace's leading numbers at the front of a buffer.
 pub fn write_header(header: Header, out: &mut [u8]) -> Written
-    ensures { λ r. ⌜ (writtenReply r ≡ wrote (headerBytes header) (now (out .entry)) .answer) × (now (out .exit) ≡ wrote (headerBytes header) (now (out .entry)) .buffer) ⌝ }
+    ensures { λ r. ⌜ HasWritten (wrote (headerBytes header) (now (out .entry))) r (now (out .exit)) ⌝ }
 {
     let loads = header.loads;
     let stores = header.stores;
@@ -280,7 +281,8 @@ impl<'a> Reader<'a> {
     // Yields one event, and moves past it; it stays at the end and where it is refused.
     pub fn step(&mut self) -> EventRead
         ensures { λ x. ⌜ (eventReply x ≡ eventAt (now (now (self .entry) .bytes)) (now (self .entry) .at))
-            × (now (self .exit) ≡ movedTo (now (self .entry)) (placeAfter (now (self .entry) .at) (eventAt (now (now (self .entry) .bytes)) (now (self .entry) .at)))) ⌝ }
+            × (now (self .exit) ≡ movedTo (now (self .entry))
+            (placeAfter (now (self .entry) .at) (eventAt (now (now (self .entry) .bytes)) (now (self .entry) .at)))) ⌝ }
     {
         let stepped = step_at(self.bytes, self.at);
         self.at = stepped.next;

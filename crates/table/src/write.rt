@@ -3,11 +3,11 @@ ghost use mathlib.Core.Path.{_≡_};
 ghost use Prim.Native.Nat.{_+_, _≤_};
 ghost use lib.ListN.{length};
 ghost use Rattle.table.specs.Basics.{flat, splice};
-ghost use Rattle.table.specs.Number.{bytesOf, writtenReply};
+ghost use Rattle.table.specs.Number.{bytesOf, HasWritten};
 ghost use Rattle.table.specs.Group.{listOf, pairsOf, Inside};
 ghost use Rattle.table.specs.Table.{groupsIn, groupsOf};
 ghost use Rattle.table.specs.TableBytes.{pairNumbers, groupNumbers, tableNumbers, wroteTable};
-ghost use Rattle.table.specs.Internal.{GroupInside};
+ghost use Rattle.table.specs.Internal.{GroupInside, PutAt};
 use crate::Group;
 use crate::Span;
 use crate::Table;
@@ -71,7 +71,7 @@ fn table_length<'a>(
 // Puts a group's pairs of one kind at a place where they fit, and says where they end.
 fn put_pairs(places: &[u16; 32], pairs: Span, out: &mut [u8], at: usize) -> usize
     requires { ⌜ Inside pairs × (at + length (bytesOf (flat pairNumbers (listOf (now places) pairs))) ≤ length (now out)) ⌝ }
-    ensures { λ r. ⌜ (r ≡ at + length (bytesOf (flat pairNumbers (listOf (now (places .entry)) pairs)))) × (now (out .exit) ≡ splice (now (out .entry)) at (bytesOf (flat pairNumbers (listOf (now (places .entry)) pairs)))) ⌝ }
+    ensures { λ r. ⌜ PutAt (now (out .entry)) at (bytesOf (flat pairNumbers (listOf (now (places .entry)) pairs))) r (now (out .exit)) ⌝ }
 {
     let first = pairs.first as usize;
     let count = pairs.count as usize;
@@ -95,7 +95,7 @@ fn put_group<'a>(
     at: usize,
 ) -> usize
     requires { ⌜ GroupInside group × (at + length (bytesOf (groupNumbers (pairsOf (now loads) (now stores) group))) ≤ length (now out)) ⌝ }
-    ensures { λ r. ⌜ (r ≡ at + length (bytesOf (groupNumbers (pairsOf (now (loads .entry)) (now (stores .entry)) group)))) × (now (out .exit) ≡ splice (now (out .entry)) at (bytesOf (groupNumbers (pairsOf (now (loads .entry)) (now (stores .entry)) group)))) ⌝ }
+    ensures { λ r. ⌜ PutAt (now (out .entry)) at (bytesOf (groupNumbers (pairsOf (now (loads .entry)) (now (stores .entry)) group))) r (now (out .exit)) ⌝ }
 {
     let load_span = group.loads;
     let store_span = group.stores;
@@ -114,7 +114,8 @@ fn put_table<'a>(
     out: &mut [u8],
 )
     requires { ⌜ (count ≤ 16) × (length (bytesOf (tableNumbers (groupsIn count (now groups) (now loads) (now stores)))) ≤ length (now out)) ⌝ }
-    ensures { λ _. ⌜ now (out .exit) ≡ splice (now (out .entry)) 0 (bytesOf (tableNumbers (groupsIn count (now (groups .entry)) (now (loads .entry)) (now (stores .entry))))) ⌝ }
+    ensures { λ _. ⌜ now (out .exit) ≡ splice (now (out .entry)) 0
+        (bytesOf (tableNumbers (groupsIn count (now (groups .entry)) (now (loads .entry)) (now (stores .entry))))) ⌝ }
 {
     let many = count as usize;
     let after_fields = put_number(out, 0, 2);
@@ -129,7 +130,7 @@ fn put_table<'a>(
 
 // Writes a table at the front of a buffer: 4, 5, 8, 6, 7, then 10.
 pub fn write_table(table: Table, out: &mut [u8]) -> Written
-    ensures { λ r. ⌜ (writtenReply r ≡ wroteTable (groupsOf table) (now (out .entry)) .answer) × (now (out .exit) ≡ wroteTable (groupsOf table) (now (out .entry)) .buffer) ⌝ }
+    ensures { λ r. ⌜ HasWritten (wroteTable (groupsOf table) (now (out .entry))) r (now (out .exit)) ⌝ }
 {
     let fault = table_fault(table);
     if fault != 0 {

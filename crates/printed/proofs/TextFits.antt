@@ -1,14 +1,13 @@
 -- No text is longer than `mostText`, and none is empty.
 use Prim.Native.Nat.{ℕ, _+_, _≤_, _<_}
 use mathlib.Core.Path.{_≡_, refl, ap, _∙_}
-use mathlib.Core.Bool.{Bool, true, false, not}
+use mathlib.Core.Bool.{Bool, true, false}
 use mathlib.Core.List.{List, [], _∷_, _++_}
-use mathlib.Core.Option.{Option, none, some}
 use native.Mathlib.Omega.{arith}
-use lib.Dec.{eqb, leb, ltb}
-use lib.ListN.{length, take, set, drop, replicate, length-append, length-set, length-replicate, getElem?}
-use borrow.Author.Tests.{eq-eqb, eqb-true, leb-true, ltb-false}
-use Rattle.table.specs.Basics.{pick, allOf}
+use lib.Dec.{leb, ltb}
+use lib.ListN.{length, drop, replicate, length-append, length-set, length-replicate}
+use borrow.Author.Tests.{leb-true, ltb-false}
+use Rattle.table.specs.Basics.{pick}
 use Rattle.table.specs.Refusal.{tooShort}
 use Rattle.table.specs.Number.{Got, got, bad, accepts, Wrote, unwritten}
 use Rattle.table.specs.Group.{GroupPairs}
@@ -20,16 +19,16 @@ use Rattle.table.specs.Event.{readHeader}
 use Rattle.table.specs.Trace.{readEvents}
 use Rattle.queue.specs.declared.Counts.{Counts}
 use Rattle.queue.specs.Counts.{share}
-use Rattle.queue.specs.Ruled.{Ruled, refuse, accept, need, have}
-use Rattle.queue.specs.Contents.{Contents, storePlace}
-use Rattle.queue.specs.Sound.{sound}
+use Rattle.queue.specs.Ruled.{Ruled, refuse, accept}
+use Rattle.queue.specs.Contents.{Contents}
 use Rattle.queue.specs.Open.{openQueue}
 use Rattle.queue.specs.Activate.{activate}
 use Rattle.queue.specs.Serve.{Served, serve}
-use Rattle.queue.specs.Write.{Written, loadGivesWay, storeGivesWay, write}
+use Rattle.queue.specs.Write.{Written, write}
 use Rattle.queue.specs.Take.{Taken}
 use Rattle.queue.specs.Take as Takes
 use Rattle.queue.proofs.Refusals.{andThen-accepts}
+use Rattle.queue.proofs.WriteLaws.{write-accepts}
 use Rattle.sequential.specs.Calls.{Argument}
 use Rattle.sequential.specs.Call.{Machine, moved, served, written, taken, give}
 use Rattle.replay.specs.Playing.{Playing, playing, stepOf, played, log, playedAll}
@@ -44,22 +43,6 @@ use Rattle.printed.proofs.LineLaws.{events-text-few, words-few, loadsSp
 use Rattle.printed.proofs.TextLaws.{log-many, opened-words}
 
 -- ---- a memory keeps its length
-abbrev keeps : ℕ → Ruled Written → Bool
-keeps n (refuse k) = true
-keeps n (accept w) = eqb (length (w .memory)) n
-
-need-keeps : (n : ℕ) (t : Bool) (k : ℕ) (rest : Ruled Written) → keeps n rest ≡ true → keeps n (need t k rest) ≡ true
-need-keeps n true k rest h = h
-need-keeps n false k rest h = refl
-
-have-keeps : {A : Type 0} (n : ℕ) (o : Option A) (k : ℕ) (rest : A → Ruled Written) → ((a : A) → keeps n (rest a) ≡ true) → keeps n (have o k rest) ≡ true
-have-keeps n none k rest h = refl
-have-keeps n (some a) k rest h = h a
-
-write-keeps : (q : Contents) (m : List ℕ) (serial : ℕ) → keeps (length m) (write q m serial) ≡ true
-unfolding write
-write-keeps q m serial = need-keeps _ (sound q) _ _ (need-keeps _ (eqb (length m) (q .memoryLength)) _ _ (have-keeps _ (getElem? (q .stores) (storePlace q serial)) _ _ λ s. need-keeps _ (not (s .written)) _ _ (have-keeps _ (s .address) _ _ λ a. have-keeps _ (s .word) _ _ λ w. need-keeps _ (allOf (loadGivesWay a) (take (s .before) (q .loads))) _ _ (need-keeps _ (allOf (storeGivesWay a) (take (storePlace q serial) (q .stores))) _ _ (eq-eqb (length (set m a w)) (length m) (length-set m a w))))))
-
 moved-long : (m : Machine) (rule : Ruled Contents) → length (moved m rule .machine .memory) ≡ length (m .memory)
 moved-long m (refuse n) = refl
 moved-long m (accept q) = refl
@@ -72,9 +55,12 @@ taken-long : (m : Machine) (rule : Ruled Taken) → length (taken m rule .machin
 taken-long m (refuse n) = refl
 taken-long m (accept t) = refl
 
-written-long : (m : Machine) (rule : Ruled Written) → keeps (length (m .memory)) rule ≡ true → length (written m rule .machine .memory) ≡ length (m .memory)
-written-long m (refuse n) h = refl
-written-long m (accept w) h = eqb-true (length (w .memory)) (length (m .memory)) h
+written-long : (m : Machine) (serial : ℕ) (rule : Ruled Written) → write (m .queue) (m .memory) serial ≡ rule
+    → length (written m rule .machine .memory) ≡ length (m .memory)
+written-long m serial (refuse n) h = refl
+written-long m serial (accept r) h =
+    let (s, at, w) = write-accepts (m .queue) (m .memory) serial r h in
+    ap (λ (x : Written). length (x .memory)) (w .result) ∙ length-set (m .memory) (w .put .address) (w .put .word)
 
 step-long : (p : Playing) (e : Event) → length (stepOf p e .machine .memory) ≡ length (p .machine .memory)
 step-long p (Activate g) = moved-long (p .machine) (activate (p .machine .queue) g)
@@ -82,7 +68,7 @@ step-long p (LoadAddress q a) = moved-long (p .machine) (give Argument.LoadAddre
 step-long p (StoreAddress q a) = moved-long (p .machine) (give Argument.StoreAddress (p .machine .queue) q a)
 step-long p (StoreData q w) = moved-long (p .machine) (give Argument.StoreData (p .machine .queue) q w)
 step-long p (Serve s) = served-long (p .machine) (serve (p .machine .queue) (p .machine .memory) s)
-step-long p (Write s) = written-long (p .machine) (write (p .machine .queue) (p .machine .memory) s) (write-keeps (p .machine .queue) (p .machine .memory) s)
+step-long p (Write s) = written-long (p .machine) s (write (p .machine .queue) (p .machine .memory) s) refl
 step-long p (Take q) = taken-long (p .machine) (Takes.takeRule (p .machine .queue) q)
 
 played-long : (p : Playing) (es : List Event) → length (playedAll p es .machine .memory) ≡ length (p .machine .memory)

@@ -17,7 +17,7 @@ pub mod GroupLaws
 pub mod AppendLaws
 pub mod ActivateLaws
 pub mod ArgumentLaws
-pub mod SupplyLaws
+pub mod SourceLaws
 pub mod SettleLaws
 pub mod ServeLaws
 pub mod WriteLaws

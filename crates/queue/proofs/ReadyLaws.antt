@@ -5,40 +5,37 @@ use native.Mathlib.Nat.{sub-zero, not-suc-le-zero, le-of-suc-le-suc}
 use native.Mathlib.Numerals.{add-one}
 use native.Mathlib.Omega.{arith}
 use mathlib.Core.Path.{_≡_, refl, sym, ap, _∙_}
-use mathlib.Core.Bool.{Bool, true, false, not, _&&_}
+use mathlib.Core.Bool.{Bool, true, false, not}
 use mathlib.Core.List.{List, [], _∷_, _++_, append-assoc, append-nil}
 use mathlib.Core.Option.{Option, none, some}
 use lib.Dec.{eqb, leb}
 use lib.ListN.{length, getD, take, drop, set, length-append, length-drop, length-replicate, getElem?}
 use lib.Seq.{length-take-le, take-append-seam}
 use borrow.Author.Tests.{not-true}
-use Rattle.table.specs.Basics.{pick, allOf, keepWhere}
-use Rattle.queue.specs.declared.serving.Supply.{Supply}
-use Rattle.queue.specs.declared.serving.Supply.the-variants.{Unknown, NoStore, NoWord, Forwarded}
+use Rattle.table.specs.Basics.{pick, keepWhere}
 use Rattle.queue.specs.declared.ready.Serials.{Serials}
 use Rattle.queue.specs.declared.ready.ReadyCount.{ReadyCount}
 use Rattle.queue.specs.declared.Entry.{Entry}
 use Rattle.queue.specs.declared.Queue.{Queue}
 use Rattle.queue.specs.declared.Readied.{Readied}
 use Rattle.table.specs.Refusal.{tooShort}
-use Rattle.queue.specs.Refusal.{unsound, noSerial, alreadyDone, noAddress, earlierStoreUnknown}
+use Rattle.queue.specs.Refusal.{unsound, noSerial}
 use Rattle.queue.specs.Ruled.{Ruled, refuse, accept, need, have, andThen, accepted, isSome, number}
 use Rattle.queue.specs.Contents.{Load, Store, Contents, loadOf, loadIn, storeIn, contentsOf, after, oldest, loadPlace, storePlace}
 use Rattle.queue.specs.Entry.{entryOf}
 use Rattle.queue.specs.Sound.{sound}
-use Rattle.queue.specs.Serve.{hasAddress, nearest, sourceOf, storesBefore, serve}
-use Rattle.queue.specs.Write.{loadGivesWay, storeGivesWay, write}
+use Rattle.queue.specs.Serve.{Source, unknown, fromStore, fromMemory, source, loadedFrom, mayServe, servedWith, storesBefore, serveAt, serve}
+use Rattle.queue.specs.Write.{mayWrite, writtenWith, writeAt, write}
 use Rattle.queue.specs.Ready.{serials, anyMemory, wouldServe, wouldWrite, servable, writable, readyLoads, readyStores}
 use Rattle.queue.specs.ReadyOutcome.{Readies, Fronts}
 use Rattle.queue.specs.Parts.{readiedOf}
 use Rattle.queue.specs.Internal.{loadsIn, storesIn}
-use Rattle.queue.specs.InternalServe.{supplyFrom, servedWith, serveAt}
-use Rattle.queue.specs.InternalWrite.{mayWrite, mayWriteAt, writtenWith, writeAt}
-use Rattle.queue.specs.InternalReady.{supplyReady, addressReady, loadReady, loadReadyAt, storeReadyAt, listed, Noted, Lists, HandedOut}
+use Rattle.queue.specs.InternalWrite.{mayWriteAt}
+use Rattle.queue.specs.InternalReady.{loadReady, loadReadyAt, storeReadyAt, listed, Noted, Lists, HandedOut}
 use Rattle.queue.proofs.ContentsLaws.{side-length, side-getElem?, side-take, loads-held, stores-held, load-place, store-place}
-use Rattle.queue.proofs.Refusals.{proper, need-proper, have-proper}
+use Rattle.queue.proofs.Refusals.{proper, need-same, have-same, may-write-proper}
 use Rattle.queue.proofs.Serials.{place-of-serial, oldest-small}
-use Rattle.queue.proofs.ServeLaws.{bySupply, by-supply, serve-by-place}
+use Rattle.queue.proofs.ServeLaws.{serve-by-place}
 use Rattle.queue.proofs.WriteLaws.{write-by-place, write-held}
 
 -- ---- serving
@@ -46,34 +43,28 @@ abbrev pub readyIn : Contents → Option Load → Bool
 readyIn q none = false
 readyIn q (some l) = loadReady (storesBefore q l) l
 
+then-accepts : {A B : Type 0} (x : Ruled A) (f : A → B) → accepted (andThen x λ a. accept (f a)) ≡ accepted x
+then-accepts (refuse n) f = refl
+then-accepts (accept a) f = refl
+
+-- memory's words do not matter to what is accepted
+module _ (m m′ : List ℕ) where
+  loaded-any : (a : ℕ) (x : Source) → accepted (loadedFrom m a x) ≡ accepted (loadedFrom m′ a x)
+  loaded-any a unknown = refl
+  loaded-any a (fromStore none) = refl
+  loaded-any a (fromStore (some w)) = refl
+  loaded-any a fromMemory = refl
+
+  may-any : (ss : List Store) (l : Load) → accepted (mayServe m ss l) ≡ accepted (mayServe m′ ss l)
+  may-any ss l = need-same (not (isSome (l .value))) _ _ _ (have-same (l .address) _ _ _ λ a. loaded-any a (source a fromMemory ss))
+
 serve-accepts : (q : Contents) (memory : List ℕ) (place : ℕ) → accepted (serveAt q memory place) ≡ readyIn q (getElem? (q .loads) place)
 serve-accepts q memory place = go (getElem? (q .loads) place)
   where
-    supplied : (a : ℕ) (s : Supply) → accepted (bySupply q memory place a s) ≡ supplyReady s
-    supplied a Unknown = refl
-    supplied a NoStore = refl
-    supplied a NoWord = refl
-    supplied a (Forwarded w) = refl
-
-    at : (ss : List Store) (value address : Option ℕ)
-        → accepted (need (not (isSome value)) alreadyDone
-        (have address noAddress λ a.
-        need (allOf hasAddress ss) earlierStoreUnknown
-        (andThen (sourceOf memory a (nearest a none ss)) λ v. accept (servedWith q place (v .value) (v .forwarded)))))
-        ≡ (not (isSome value) && addressReady ss address)
-    at ss (some v) address = refl
-    at ss none none = refl
-    at ss none (some a) = ap accepted (by-supply q memory place a ss) ∙ supplied a (supplyFrom a ss)
-
     go : (o : Option Load)
-        → accepted (have o noSerial λ l.
-        need (not (isSome (l .value))) alreadyDone
-        (have (l .address) noAddress λ a.
-        need (allOf hasAddress (storesBefore q l)) earlierStoreUnknown
-        (andThen (sourceOf memory a (nearest a none (storesBefore q l))) λ v. accept (servedWith q place (v .value) (v .forwarded)))))
-        ≡ readyIn q o
+        → accepted (have o noSerial λ l. andThen (mayServe memory (storesBefore q l) l) λ v. accept (servedWith q place v)) ≡ readyIn q o
     go none = refl
-    go (some l) = at (storesBefore q l) (l .value) (l .address)
+    go (some l) = then-accepts (mayServe memory (storesBefore q l) l) (servedWith q place) ∙ may-any memory [] (storesBefore q l) l
 
 module _ (q : Contents) (right : sound q ≡ true) (serial : ℕ) where
   pub serve-ready : (memory : List ℕ) → length memory ≡ q .memoryLength → accepted (serve q memory serial) ≡ readyIn q (getElem? (q .loads) (loadPlace q serial))
@@ -104,10 +95,6 @@ abbrev pub writableIn : Contents → ℕ → Option Store → Bool
 writableIn q place none = false
 writableIn q place (some s) = accepted (mayWrite (take (s .before) (q .loads)) (take place (q .stores)) s)
 
-then-accepts : {A B : Type 0} (x : Ruled A) (f : A → B) → accepted (andThen x λ a. accept (f a)) ≡ accepted x
-then-accepts (refuse n) f = refl
-then-accepts (accept a) f = refl
-
 write-accepts : (q : Contents) (memory : List ℕ) (place : ℕ) → accepted (writeAt q memory place) ≡ writableIn q place (getElem? (q .stores) place)
 write-accepts q memory place = go (getElem? (q .stores) place)
   where
@@ -128,12 +115,10 @@ pub accepted-number : {A : Type 0} (x : Ruled A) → proper x ≡ true → accep
 accepted-number (refuse n) h = sym (not-true (eqb n 0) h)
 accepted-number (accept a) h = refl
 
-may-proper : (ls : List Load) (ss : List Store) (s : Store) → proper (mayWrite ls ss s) ≡ true
-may-proper ls ss s =
-    need-proper (not (s .written)) _ _ refl
-    (have-proper (s .address) _ _ refl λ a.
-    have-proper (s .word) _ _ refl λ w.
-    need-proper (allOf (loadGivesWay a) ls) _ _ refl (need-proper (allOf (storeGivesWay a) ss) _ _ refl refl))
+pub may-write-number : (loads stores : List ℕ) (i : ℕ) → accepted (mayWriteAt loads stores i) ≡ eqb (number (mayWriteAt loads stores i)) 0
+may-write-number loads stores i =
+    accepted-number (mayWriteAt loads stores i)
+    (may-write-proper (loadsIn (entryOf (getD stores i 0) .before) loads) (storesIn i stores) (storeIn (getD stores i 0)))
 
 -- the store at a place of a record
 pub would-write-at : (q : Queue) → sound (contentsOf q) ≡ true
@@ -147,7 +132,6 @@ would-write-at q right i k small b =
     ∙ ap (λ (n : ℕ). accepted (writeAt (contentsOf q) m n)) p
     ∙ ap accepted (write-held q m i k b)
     ∙ then-accepts (mayWriteAt (q .«load_entries») (q .«store_entries») i) (writtenWith (contentsOf q) m i)
-    ∙ accepted-number (mayWriteAt (q .«load_entries») (q .«store_entries») i) (may-proper (loadsIn (entryOf (getD (q .«store_entries») i 0) .before) (q .«load_entries»)) (storesIn i (q .«store_entries»)) (storeIn (getD (q .«store_entries») i 0)))
 
 -- ---- the serials that pass: i of n places have been looked at, `serial` is the next, and `s` has those that are ready. What
 -- passes is any test that says of a serial what `ready` says of its place.

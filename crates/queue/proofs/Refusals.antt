@@ -5,17 +5,17 @@ use mathlib.Core.Bool.{Bool, true, false, not, _&&_}
 use mathlib.Core.List.{List}
 use mathlib.Core.Option.{Option, none, some}
 use lib.Dec.{eqb, leb, ltb}
-use lib.ListN.{length, getElem?}
+use lib.ListN.{length, take, getElem?}
 use native.Mathlib.Omega.{arith}
 use borrow.Author.Tests.{not-true, ltb-true}
-use Rattle.queue.specs.Ruled.{Ruled, refuse, accept, number, need, have, andThen, isSome}
-use Rattle.queue.specs.Contents.{Store, Contents, loadPlace, storePlace, firstPlace}
+use Rattle.queue.specs.Ruled.{Ruled, refuse, accept, number, accepted, need, have, andThen, isSome}
+use Rattle.queue.specs.Contents.{Load, Store, Contents, loadPlace, storePlace, firstPlace}
 use Rattle.table.specs.Basics.{anyOf, allOf}
 use Rattle.queue.specs.Sound.{sound}
 use Rattle.queue.specs.Activate.{activate, room}
 use Rattle.queue.specs.Arguments.{isLoadPort, isStorePort, loadLacksAddress, storeLacksAddress, storeLacksWord, loadAddress, storeAddress, storeData}
-use Rattle.queue.specs.Serve.{hasAddress, nearest, storesBefore, serve, sourceOf}
-use Rattle.queue.specs.Write.{loadGivesWay, storeGivesWay, write}
+use Rattle.queue.specs.Serve.{Source, unknown, fromStore, fromMemory, source, loadedFrom, mayServe, storesBefore, serve}
+use Rattle.queue.specs.Write.{loadGivesWay, storeGivesWay, mayWrite, loadsBefore, write}
 use Rattle.queue.specs.Take.{untaken, takeRule}
 use Rattle.queue.specs.Ready.{servable, writable, readyLoads, readyStores}
 use Rattle.queue.proofs.Lists.{false-true, and-left, and-right}
@@ -52,6 +52,16 @@ have-proper (some a) n rest e h = h a
 pub andThen-proper : {A B : Type 0} (r : Ruled A) (rest : A → Ruled B) → proper r ≡ true → ((a : A) → proper (rest a) ≡ true) → proper (andThen r rest) ≡ true
 andThen-proper (refuse n) rest e h = e
 andThen-proper (accept a) rest e h = h a
+
+-- two rules with the same tests accept alike where what follows does
+pub need-same : {A B : Type 0} (b : Bool) (n : ℕ) (x : Ruled A) (y : Ruled B) → accepted x ≡ accepted y → accepted (need b n x) ≡ accepted (need b n y)
+need-same true n x y e = e
+need-same false n x y e = refl
+
+pub have-same : {A B C : Type 0} (o : Option C) (n : ℕ) (x : C → Ruled A) (y : C → Ruled B) → ((c : C) → accepted (x c) ≡ accepted (y c))
+    → accepted (have o n x) ≡ accepted (have o n y)
+have-same none n x y e = refl
+have-same (some c) n x y e = e c
 
 -- ---- the refusal numbers of the calls on a queue are bytes other than 0
 abbrev byte : ℕ → Bool
@@ -107,9 +117,13 @@ store-data-small q port x =
     need-small (sound q) _ _ refl
     (need-small (anyOf (isStorePort port) (q .groups)) _ _ refl (need-small (anyOf (storeLacksWord port) (q .stores)) _ _ refl refl))
 
-source-small : (m : List ℕ) (a : ℕ) (found : Option Store) → small (sourceOf m a found) ≡ true
-source-small m a none = refl
-source-small m a (some s) = have-small (s .word) _ _ refl λ w. refl
+loaded-small : (m : List ℕ) (a : ℕ) (x : Source) → small (loadedFrom m a x) ≡ true
+loaded-small m a unknown = refl
+loaded-small m a (fromStore word) = have-small word _ _ refl λ w. refl
+loaded-small m a fromMemory = refl
+
+may-serve-small : (m : List ℕ) (ss : List Store) (l : Load) → small (mayServe m ss l) ≡ true
+may-serve-small m ss l = need-small (not (isSome (l .value))) _ _ refl (have-small (l .address) _ _ refl λ a. loaded-small m a (source a fromMemory ss))
 
 pub serve-small : (q : Contents) (m : List ℕ) (serial : ℕ) → small (serve q m serial) ≡ true
 unfolding serve
@@ -117,10 +131,14 @@ serve-small q m serial =
     need-small (sound q) _ _ refl
     (need-small (eqb (length m) (q .memoryLength)) _ _ refl
     (have-small (getElem? (q .loads) (loadPlace q serial)) _ _ refl λ l.
-    need-small (not (isSome (l .value))) _ _ refl
-    (have-small (l .address) _ _ refl λ a.
-    need-small (allOf hasAddress (storesBefore q l)) _ _ refl
-    (andThen-small (sourceOf m a (nearest a none (storesBefore q l))) _ (source-small m a (nearest a none (storesBefore q l))) λ v. refl))))
+    andThen-small (mayServe m (storesBefore q l) l) _ (may-serve-small m (storesBefore q l) l) λ v. refl))
+
+may-write-small : (ls : List Load) (ss : List Store) (s : Store) → small (mayWrite ls ss s) ≡ true
+may-write-small ls ss s =
+    need-small (not (s .written)) _ _ refl
+    (have-small (s .address) _ _ refl λ a.
+    have-small (s .word) _ _ refl λ w.
+    need-small (allOf (loadGivesWay a) ls) _ _ refl (need-small (allOf (storeGivesWay a) ss) _ _ refl refl))
 
 pub write-small : (q : Contents) (m : List ℕ) (serial : ℕ) → small (write q m serial) ≡ true
 unfolding write
@@ -128,11 +146,8 @@ write-small q m serial =
     need-small (sound q) _ _ refl
     (need-small (eqb (length m) (q .memoryLength)) _ _ refl
     (have-small (getElem? (q .stores) (storePlace q serial)) _ _ refl λ s.
-    need-small (not (s .written)) _ _ refl
-    (have-small (s .address) _ _ refl λ a.
-    have-small (s .word) _ _ refl λ w.
-    need-small (allOf (loadGivesWay a) (lib.ListN.take (s .before) (q .loads))) _ _ refl
-    (need-small (allOf (storeGivesWay a) (lib.ListN.take (storePlace q serial) (q .stores))) _ _ refl refl))))
+    andThen-small (mayWrite (loadsBefore q s) (take (storePlace q serial) (q .stores)) s) _
+    (may-write-small (loadsBefore q s) (take (storePlace q serial) (q .stores)) s) λ p. refl))
 
 pub take-small : (q : Contents) (port : ℕ) → small (takeRule q port) ≡ true
 unfolding takeRule
@@ -155,6 +170,9 @@ activate-proper q g = small-proper (activate q g) (activate-small q g)
 
 pub serve-proper : (q : Contents) (m : List ℕ) (serial : ℕ) → proper (serve q m serial) ≡ true
 serve-proper q m serial = small-proper (serve q m serial) (serve-small q m serial)
+
+pub may-write-proper : (ls : List Load) (ss : List Store) (s : Store) → proper (mayWrite ls ss s) ≡ true
+may-write-proper ls ss s = small-proper (mayWrite ls ss s) (may-write-small ls ss s)
 
 pub write-proper : (q : Contents) (m : List ℕ) (serial : ℕ) → proper (write q m serial) ≡ true
 write-proper q m serial = small-proper (write q m serial) (write-small q m serial)

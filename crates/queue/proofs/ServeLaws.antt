@@ -1,76 +1,64 @@
 -- What serving the load at a place answers, by what the record holds there.
 use Prim.Native.Nat.{ℕ, _≤_, _<_}
-use mathlib.Core.Path.{_≡_, refl, sym, ap, _∙_}
-use mathlib.Core.Bool.{Bool, true, false}
+use mathlib.Core.Path.{_≡_, sym, ap, _∙_}
+use mathlib.Core.Bool.{Bool, true, false, not}
 use mathlib.Core.List.{List}
-use mathlib.Core.Option.{Option, none, some}
+use mathlib.Core.Option.{Option, some}
+use lib.Dec.{eqb}
 use lib.ListN.{length, getD, take, getElem?}
 use borrow.Author.Tests.{eq-eqb, ne-eqb}
-use Rattle.table.specs.Basics.{pick, allOf}
-use Rattle.queue.specs.declared.serving.Supply.{Supply}
-use Rattle.queue.specs.declared.serving.Supply.the-variants.{Unknown, NoStore, NoWord, Forwarded}
 use Rattle.queue.specs.declared.Entry.{Entry}
 use Rattle.queue.specs.declared.Queue.{Queue}
 use Rattle.queue.specs.declared.Counts.{Counts}
 use Rattle.queue.specs.declared.serving.Service.{Service}
-use Rattle.queue.specs.Refusal.{unsound, wrongMemory, noSerial, alreadyDone, noAddress, earlierStoreUnknown, noData}
-use Rattle.queue.specs.Ruled.{Ruled, refuse, accept, need, andThen}
-use Rattle.queue.specs.Contents.{Store, Contents, loadOf, loadIn, storeIn, contentsOf, age, oldest, loadPlace}
+use Rattle.queue.specs.Refusal.{unsound, wrongMemory, noSerial, alreadyDone, noAddress}
+use Rattle.queue.specs.Ruled.{refuse, accept, have, andThen, isSome}
+use Rattle.queue.specs.Contents.{Load, Store, Contents, loadOf, loadIn, storeIn, contentsOf, age, oldest, loadPlace}
 use Rattle.queue.specs.Entry.{entryOf}
 use Rattle.queue.specs.Sound.{sound}
-use Rattle.queue.specs.Serve.{Served, hasAddress, nearest, sourceOf, loadWithValue, serve}
+use Rattle.queue.specs.Serve.{Served, Source, fromMemory, source, Loaded, loadedFrom, mayServe, loadWithValue, servedWith, storesBefore, serveAt, serve}
 use Rattle.queue.specs.Outcome.{valueIn, ServedWell}
 use Rattle.queue.specs.Parts.{queueOf, countedOf}
 use Rattle.queue.specs.Internal.{storesIn, Whole}
-use Rattle.queue.specs.InternalServe.{wordIn, supplyOf, supplyFrom, servedAs, Filled, servedWith, serveAt}
+use Rattle.queue.specs.InternalServe.{mayServeAt, servedAs, Filled}
 use Rattle.queue.proofs.ContentsLaws.{getElem?-past, side-getElem?, side-take, loads-held, stores-held, loads-count, words-held, load-place, load-anew}
+use Rattle.queue.proofs.Refusals.{need-accepts, have-accepts, andThen-accepts}
 
--- the answer by what the earlier stores supply
-abbrev pub bySupply : Contents → List ℕ → ℕ → ℕ → Supply → Ruled Served
-bySupply q memory place a Unknown = refuse earlierStoreUnknown
-bySupply q memory place a NoStore = accept (servedWith q place (getD memory a 0) false)
-bySupply q memory place a NoWord = refuse noData
-bySupply q memory place a (Forwarded w) = accept (servedWith q place w true)
+-- ---- 26, 27, and then by the source
+module _ (memory : List ℕ) (ss : List Store) (e : Entry) where
+  pub may-again : e .filled ≡ true → mayServe memory ss (loadOf e) ≡ refuse alreadyDone
+  may-again f = rw f
 
-pub by-supply : (q : Contents) (memory : List ℕ) (place a : ℕ) (ss : List Store)
-    → need (allOf hasAddress ss) earlierStoreUnknown (andThen (sourceOf memory a (nearest a none ss)) λ v. accept (servedWith q place (v .value) (v .forwarded)))
-    ≡ bySupply q memory place a (supplyFrom a ss)
-by-supply q memory place a ss = go (allOf hasAddress ss) (nearest a none ss)
-  where
-    word : (s : Store) (w : Option ℕ) → s .word ≡ w → andThen (sourceOf memory a (some s)) (λ v. accept (servedWith q place (v .value) (v .forwarded))) ≡ bySupply q memory place a (wordIn w)
-    word s none e = rw e
-    word s (some w) e = rw e
+  module _ (f : e .filled ≡ false) where
+    pub may-no-address : e .addressed ≡ false → mayServe memory ss (loadOf e) ≡ refuse noAddress
+    may-no-address a = rw (f, a)
 
-    go : (t : Bool) (o : Option Store) → need t earlierStoreUnknown (andThen (sourceOf memory a o) λ v. accept (servedWith q place (v .value) (v .forwarded))) ≡ bySupply q memory place a (pick t (supplyOf o) Unknown)
-    go false o = refl
-    go true none = refl
-    go true (some s) = word s (s .word) refl
+    pub may-load : e .addressed ≡ true → {found : Source} → found ≡ source (e .address) fromMemory ss
+        → mayServe memory ss (loadOf e) ≡ loadedFrom memory (e .address) found
+    may-load a s = rw (f, a, s)
 
 module _ (q : Queue) (memory : List ℕ) (place : ℕ) where
   pub serve-none : q .frame .loads .count ≤ place → serveAt (contentsOf q) memory place ≡ refuse noSerial
   serve-none h = rw (getElem?-past (contentsOf q .loads) place (rw (loads-count q) h))
 
-  module _ (k : place < q .frame .loads .count) (e : Entry) (is : entryOf (getD (q .«load_entries») place 0) ≡ e) where
-    here : getElem? (contentsOf q .loads) place ≡ some (loadOf e)
-    here = rw (loads-held q) (side-getElem? loadIn 0 (q .frame .loads .count) (q .«load_entries») place k ∙ rw is)
-
-    pub serve-done : e .filled ≡ true → serveAt (contentsOf q) memory place ≡ refuse alreadyDone
-    serve-done s = rw (here, s)
-
-    pub serve-no-address : e .filled ≡ false → e .addressed ≡ false → serveAt (contentsOf q) memory place ≡ refuse noAddress
-    serve-no-address s a = rw (here, s, a)
-
-    pub serve-supplied : e .filled ≡ false → e .addressed ≡ true → e .before ≤ q .frame .stores .count
-        → serveAt (contentsOf q) memory place ≡ bySupply (contentsOf q) memory place (e .address) (supplyFrom (e .address) (storesIn (e .before) (q .«store_entries»)))
-    serve-supplied s a b =
-        let t : take (e .before) (contentsOf q .stores) ≡ storesIn (e .before) (q .«store_entries») =
+  module _ (k : place < q .frame .loads .count) (b : entryOf (getD (q .«load_entries») place 0) .before ≤ q .frame .stores .count) where
+    pub serve-held : serveAt (contentsOf q) memory place
+        ≡ andThen (mayServeAt memory (q .«load_entries») (q .«store_entries») place) λ v. accept (servedWith (contentsOf q) place v)
+    serve-held =
+        let e : Entry = entryOf (getD (q .«load_entries») place 0) in
+        let here : getElem? (contentsOf q .loads) place ≡ some (loadOf e) =
+        ap (λ (l : List Load). getElem? l place) (loads-held q) ∙ side-getElem? loadIn 0 (q .frame .loads .count) (q .«load_entries») place k in
+        let ss : take (e .before) (contentsOf q .stores) ≡ storesIn (e .before) (q .«store_entries») =
         ap (take (e .before)) (stores-held q) ∙ side-take storeIn 0 (q .frame .stores .count) (q .«store_entries») (e .before) b in
-        rw (here, s, a, t) (by-supply (contentsOf q) memory place (e .address) (storesIn (e .before) (q .«store_entries»)))
+        ap (λ (o : Option Load). have o noSerial λ l.
+        andThen (mayServe memory (storesBefore (contentsOf q) l) l) λ v. accept (servedWith (contentsOf q) place v)) here
+        ∙ ap (λ (l : List Store). andThen (mayServe memory l (loadOf e)) λ v. accept (servedWith (contentsOf q) place v)) ss
 
 -- ---- an accepted serve: the load at the place has its value
 pub served-well : (q : Queue) (counts : Counts) (place word : ℕ) (forwarded : Bool) {r : Service} {left : List ℕ} → Whole (q .«load_entries») → q .frame .loads .count ≤ 64 → place < q .frame .loads .count
     → r ≡ servedAs word forwarded counts → Filled place word (q .«load_entries») left
-    → ServedWell (servedWith (contentsOf q) place word forwarded) counts (countedOf r (queueOf (q .frame) left (q .«store_entries»)))
+    → ServedWell (servedWith (contentsOf q) place (record { value = word; forwarded = forwarded })) counts
+    (countedOf r (queueOf (q .frame) left (q .«store_entries»)))
 served-well q counts place word forwarded {r} {left} whole few k e f =
     let w : q .frame .loads .count ≤ length (q .«load_entries») = rw whole few in
     record {
@@ -100,3 +88,31 @@ module _ (q : Queue) (memory : List ℕ) (serial : ℕ) where
     serve-place e =
         serve-by-place (contentsOf q) memory serial right (e ∙ sym (words-held q))
         ∙ ap (serveAt (contentsOf q) memory) (load-place q serial)
+
+-- ---- an accepted serve: the load has an address, and its source gave it a word
+pub record MayServe (m : List ℕ) (ss : List Store) (l : Load) (v : Loaded) : Type 0 where
+  pub unserved : not (isSome (l .value)) ≡ true
+  pub address : ℕ
+  pub addressed : l .address ≡ some address
+  pub gives : loadedFrom m address (source address fromMemory ss) ≡ accept v
+
+may-serve-accepts : (m : List ℕ) (ss : List Store) (l : Load) (v : Loaded) → mayServe m ss l ≡ accept v → MayServe m ss l v
+may-serve-accepts m ss l v h =
+    let (t₁, h₁) = need-accepts (not (isSome (l .value))) _ _ h in
+    let (a, t₂, h₂) = have-accepts (l .address) _ _ h₁ in
+    record { unserved = t₁; address = a; addressed = t₂; gives = h₂ }
+
+pub record Serving (q : Contents) (m : List ℕ) (place : ℕ) (r : Served) (l : Load) : Type 0 where
+  pub loaded : Loaded
+  pub may : MayServe m (storesBefore q l) l loaded
+  pub result : r ≡ servedWith q place loaded
+
+pub serve-accepts : (q : Contents) (m : List ℕ) (serial : ℕ) (r : Served) → serve q m serial ≡ accept r
+    → (l : Load) × (getElem? (q .loads) (loadPlace q serial) ≡ some l) × Serving q m (loadPlace q serial) r l
+unfolding serve
+serve-accepts q m serial r h₀ =
+    let (t₁, h₁) = need-accepts (sound q) _ _ h₀ in
+    let (t₂, h₂) = need-accepts (eqb (length m) (q .memoryLength)) _ _ h₁ in
+    let (l, at, h₃) = have-accepts (getElem? (q .loads) (loadPlace q serial)) _ _ h₂ in
+    let (v, may, h₄) = andThen-accepts (mayServe m (storesBefore q l) l) _ h₃ in
+    (l, at, record { loaded = v; may = may-serve-accepts m (storesBefore q l) l v may; result = cc })

@@ -1,24 +1,26 @@
 -- What writing the store at a place answers, by what the record holds there.
 use Prim.Native.Nat.{ℕ, _≤_, _<_}
 use native.Mathlib.Omega.{arith}
-use mathlib.Core.Path.{_≡_, refl, sym, ap, _∙_}
+use mathlib.Core.Path.{_≡_, refl, sym, ap, subst, _∙_}
 use mathlib.Core.Bool.{Bool, true, false, not}
 use mathlib.Core.List.{List}
-use mathlib.Core.Option.{Option, none, some}
+use mathlib.Core.Option.{Option, some}
+use lib.Dec.{eqb}
 use lib.ListN.{length, getD, take, getElem?}
 use borrow.Author.Tests.{eq-eqb, ne-eqb}
 use Rattle.table.specs.Basics.{allOf}
 use Rattle.queue.specs.declared.Entry.{Entry}
 use Rattle.queue.specs.declared.Queue.{Queue}
 use Rattle.queue.specs.Refusal.{unsound, wrongMemory, noSerial, alreadyDone, noAddress, noData, earlierLoadInWay, earlierStoreInWay}
-use Rattle.queue.specs.Ruled.{Ruled, refuse, accept, need, have, andThen, number}
+use Rattle.queue.specs.Ruled.{Ruled, refuse, accept, have, andThen, number}
 use Rattle.queue.specs.Contents.{Load, Store, Contents, storeOf, loadIn, storeIn, contentsOf, age, oldest, storePlace}
 use Rattle.queue.specs.Entry.{entryOf}
 use Rattle.queue.specs.Sound.{sound}
-use Rattle.queue.specs.Write.{loadGivesWay, storeGivesWay, write}
+use Rattle.queue.specs.Write.{Written, Put, loadGivesWay, storeGivesWay, mayWrite, writtenWith, loadsBefore, writeAt, write}
 use Rattle.queue.specs.Internal.{loadsIn, storesIn}
-use Rattle.queue.specs.InternalWrite.{mayWrite, mayWriteAt, writtenWith, writeAt}
+use Rattle.queue.specs.InternalWrite.{mayWriteAt}
 use Rattle.queue.proofs.ContentsLaws.{getElem?-past, side-getElem?, side-take, loads-held, stores-held, stores-count, words-held, store-place}
+use Rattle.queue.proofs.Refusals.{need-accepts, have-accepts, andThen-accepts}
 
 -- ---- an answer that is no 0 refuses with it
 pub refused-number : {A : Type 0} (x : Ruled A) → (number x ≡ 0 → ⊥) → x ≡ refuse (number x)
@@ -67,53 +69,7 @@ module _ (ls : List Load) (ss : List Store) (e : Entry) where
       go false true true true false ew ea ef el es = let z = may-store ew ea ef el es ∙ h in absurd (omega arith)
       go false true true true true ew ea ef el es = record { unwritten = ew; addressed = ea; filled = ef; put = may-put ew ea ef el es }
 
--- ---- the rule, from 25 on
-write-tail : (q : Contents) (memory : List ℕ) (place : ℕ) (ls : List Load) (ss : List Store) (s : Store)
-    → need (not (s .written)) alreadyDone
-    (have (s .address) noAddress λ a.
-    have (s .word) noData λ w.
-    need (allOf (loadGivesWay a) ls) earlierLoadInWay
-    (need (allOf (storeGivesWay a) ss) earlierStoreInWay
-    (accept (writtenWith q memory place (record { address = a; word = w })))))
-    ≡ andThen (mayWrite ls ss s) λ p. accept (writtenWith q memory place p)
-write-tail q memory place ls ss s = go (s .written) (s .address) (s .word)
-  where
-    way : (a w : ℕ) (l t : Bool) → need l earlierLoadInWay (need t earlierStoreInWay (accept (writtenWith q memory place (record { address = a; word = w }))))
-        ≡ andThen (need l earlierLoadInWay (need t earlierStoreInWay (accept (record { address = a; word = w })))) λ p. accept (writtenWith q memory place p)
-    way a w false t = refl
-    way a w true false = refl
-    way a w true true = refl
-
-    go : (t : Bool) (address word : Option ℕ)
-        → need (not t) alreadyDone
-        (have address noAddress λ a.
-        have word noData λ w.
-        need (allOf (loadGivesWay a) ls) earlierLoadInWay
-        (need (allOf (storeGivesWay a) ss) earlierStoreInWay
-        (accept (writtenWith q memory place (record { address = a; word = w })))))
-        ≡ andThen (need (not t) alreadyDone
-        (have address noAddress λ a.
-        have word noData λ w.
-        need (allOf (loadGivesWay a) ls) earlierLoadInWay
-        (need (allOf (storeGivesWay a) ss) earlierStoreInWay
-        (accept (record { address = a; word = w }))))) λ p. accept (writtenWith q memory place p)
-    go true address word = refl
-    go false none word = refl
-    go false (some a) none = refl
-    go false (some a) (some w) = way a w (allOf (loadGivesWay a) ls) (allOf (storeGivesWay a) ss)
-
-write-rest : (q : Contents) (memory : List ℕ) (place : ℕ) (o : Option Store)
-    → (have o noSerial λ s.
-    need (not (s .written)) alreadyDone
-    (have (s .address) noAddress λ a.
-    have (s .word) noData λ w.
-    need (allOf (loadGivesWay a) (take (s .before) (q .loads))) earlierLoadInWay
-    (need (allOf (storeGivesWay a) (take place (q .stores))) earlierStoreInWay
-    (accept (writtenWith q memory place (record { address = a; word = w }))))))
-    ≡ have o noSerial λ s. andThen (mayWrite (take (s .before) (q .loads)) (take place (q .stores)) s) λ p. accept (writtenWith q memory place p)
-write-rest q memory place none = refl
-write-rest q memory place (some s) = write-tail q memory place (take (s .before) (q .loads)) (take place (q .stores)) s
-
+-- ---- 25, and the store at a place
 module _ (q : Queue) (memory : List ℕ) (place : ℕ) where
   pub write-none : q .frame .stores .count ≤ place → writeAt (contentsOf q) memory place ≡ refuse noSerial
   write-none h = rw (getElem?-past (contentsOf q .stores) place (rw (stores-count q) h))
@@ -136,8 +92,7 @@ module _ (q : Queue) (memory : List ℕ) (place : ℕ) where
 pub write-by-place : (q : Contents) (memory : List ℕ) (serial : ℕ) → sound q ≡ true → length memory ≡ q .memoryLength
     → write q memory serial ≡ writeAt q memory (storePlace q serial)
 unfolding write
-write-by-place q memory serial right e =
-    rw (right, eq-eqb (length memory) (q .memoryLength) e) (write-rest q memory (storePlace q serial) (getElem? (q .stores) (storePlace q serial)))
+write-by-place q memory serial right e = rw (right, eq-eqb (length memory) (q .memoryLength) e)
 
 module _ (q : Queue) (memory : List ℕ) (serial : ℕ) where
   pub write-unsound : sound (contentsOf q) ≡ false → write (contentsOf q) memory serial ≡ refuse unsound
@@ -153,3 +108,36 @@ module _ (q : Queue) (memory : List ℕ) (serial : ℕ) where
     write-place e =
         write-by-place (contentsOf q) memory serial right (e ∙ sym (words-held q))
         ∙ ap (writeAt (contentsOf q) memory) (store-place q serial)
+
+-- ---- an accepted write: the store has an address and data, and what comes before it gave way
+pub record MayWrite (ls : List Load) (ss : List Store) (s : Store) (p : Put) : Type 0 where
+  pub unwritten : not (s .written) ≡ true
+  pub addressed : s .address ≡ some (p .address)
+  pub worded : s .word ≡ some (p .word)
+  pub loadsApart : allOf (loadGivesWay (p .address)) ls ≡ true
+  pub storesApart : allOf (storeGivesWay (p .address)) ss ≡ true
+
+may-write-accepts : (ls : List Load) (ss : List Store) (s : Store) (p : Put) → mayWrite ls ss s ≡ accept p → MayWrite ls ss s p
+may-write-accepts ls ss s p h =
+    let (t₁, h₁) = need-accepts (not (s .written)) _ _ h in
+    let (a, t₂, h₂) = have-accepts (s .address) _ _ h₁ in
+    let (w, t₃, h₃) = have-accepts (s .word) _ _ h₂ in
+    let (t₄, h₄) = need-accepts (allOf (loadGivesWay a) ls) _ _ h₃ in
+    let (t₅, h₅) = need-accepts (allOf (storeGivesWay a) ss) _ _ h₄ in
+    let put : record { address = a; word = w } ≡ p = cc h₅ in
+    subst (MayWrite ls ss s) put (record { unwritten = t₁; addressed = t₂; worded = t₃; loadsApart = t₄; storesApart = t₅ })
+
+pub record Writing (q : Contents) (m : List ℕ) (place : ℕ) (r : Written) (s : Store) : Type 0 where
+  pub put : Put
+  pub may : MayWrite (loadsBefore q s) (take place (q .stores)) s put
+  pub result : r ≡ writtenWith q m place put
+
+pub write-accepts : (q : Contents) (m : List ℕ) (serial : ℕ) (r : Written) → write q m serial ≡ accept r
+    → (s : Store) × (getElem? (q .stores) (storePlace q serial) ≡ some s) × Writing q m (storePlace q serial) r s
+unfolding write
+write-accepts q m serial r h₀ =
+    let (t₁, h₁) = need-accepts (sound q) _ _ h₀ in
+    let (t₂, h₂) = need-accepts (eqb (length m) (q .memoryLength)) _ _ h₁ in
+    let (s, at, h₃) = have-accepts (getElem? (q .stores) (storePlace q serial)) _ _ h₂ in
+    let (p, may, h₄) = andThen-accepts (mayWrite (loadsBefore q s) (take (storePlace q serial) (q .stores)) s) _ h₃ in
+    (s, at, record { put = p; may = may-write-accepts (loadsBefore q s) (take (storePlace q serial) (q .stores)) s p may; result = cc })

@@ -1,45 +1,30 @@
 -- What the code that gathers ready serials is written with.
 use Prim.Native.Nat.{ℕ, _+_, _≤_}
 use mathlib.Core.Path.{_≡_}
-use mathlib.Core.Bool.{Bool, true, false, not, _&&_}
+use mathlib.Core.Bool.{Bool}
 use mathlib.Core.List.{List, [], _∷_, _++_}
-use mathlib.Core.Option.{Option, none, some}
-use lib.Dec.{eqb, leb}
-use lib.ListN.{length, getD, take, drop}
+use lib.Dec.{leb}
+use lib.ListN.{length, take, drop}
 use Rattle.table.specs.Basics.{pick}
 use Rattle.table.specs.Refusal.{tooShort}
-use Rattle.queue.specs.declared.serving.Supply.{Supply}
-use Rattle.queue.specs.declared.serving.Supply.the-variants.{Unknown, NoStore, NoWord, Forwarded}
 use Rattle.queue.specs.declared.ready.Serials.{Serials}
 use Rattle.queue.specs.declared.ready.ReadyCount.{ReadyCount}
-use Rattle.queue.specs.Entry.{entryOf}
-use Rattle.queue.specs.Ruled.{isSome, number}
-use Rattle.queue.specs.Contents.{Load, Store, loadIn}
-use Rattle.queue.specs.Internal.{storesIn}
-use Rattle.queue.specs.InternalServe.{supplyFrom}
+use Rattle.queue.specs.Ruled.{accepted}
+use Rattle.queue.specs.Contents.{Load, Store}
+use Rattle.queue.specs.Serve.{mayServe}
+use Rattle.queue.specs.InternalServe.{mayServeAt}
 use Rattle.queue.specs.InternalWrite.{mayWriteAt}
 
--- there is a value for the load
-abbrev pub supplyReady : Supply → Bool
-supplyReady Unknown = false
-supplyReady NoStore = true
-supplyReady NoWord = false
-supplyReady (Forwarded w) = true
-
-abbrev pub addressReady : List Store → Option ℕ → Bool
-addressReady ss none = false
-addressReady ss (some a) = supplyReady (supplyFrom a ss)
-
--- would the load be served, with these stores before it
+-- would the load be served, with these stores before it; memory's words do not matter to this
 abbrev pub loadReady : List Store → Load → Bool
-loadReady ss l = not (isSome (l .value)) && addressReady ss (l .address)
+loadReady ss l = accepted (mayServe [] ss l)
 
 -- the load, the store, at a place: would it be served, would it be written
 abbrev pub loadReadyAt : List ℕ → List ℕ → ℕ → Bool
-loadReadyAt loads stores i = loadReady (storesIn (entryOf (getD loads i 0) .before) stores) (loadIn (getD loads i 0))
+loadReadyAt loads stores i = accepted (mayServeAt [] loads stores i)
 
 abbrev pub storeReadyAt : List ℕ → List ℕ → ℕ → Bool
-storeReadyAt loads stores i = eqb (number (mayWriteAt loads stores i)) 0
+storeReadyAt loads stores i = accepted (mayWriteAt loads stores i)
 
 -- serials in an array
 abbrev pub listed : Serials → List ℕ

@@ -53,7 +53,7 @@ noAddress = 27
 abbrev pub earlierStoreUnknown : ℕ
 earlierStoreUnknown = 28
 
--- the store that would supply the data, or the store to be written, has no data
+-- the store to forward from, or the store to be written, has no data
 abbrev pub noData : ℕ
 noData = 29
 

@@ -8,9 +8,9 @@ use mathlib.Core.List.{List, [], _∷_}
 use mathlib.Core.Option.{Option, none, some}
 use lib.Dec.{eqb}
 use lib.ListN.{length, take, getD, getElem?}
-use Rattle.table.specs.Basics.{pick, allOf}
+use Rattle.table.specs.Basics.{pick}
 use Rattle.queue.specs.Refusal.{unsound, wrongMemory, noSerial, alreadyDone, noAddress, earlierStoreUnknown, noData}
-use Rattle.queue.specs.Ruled.{Ruled, accept, need, have, andThen, isSome}
+use Rattle.queue.specs.Ruled.{Ruled, refuse, accept, need, have, andThen, isSome}
 use Rattle.queue.specs.Contents.{Load, Store, Contents, withLoads, updateAt, loadPlace}
 use Rattle.queue.specs.Sound.{sound}
 
@@ -29,42 +29,65 @@ abbrev pub hasAddress : Store → Bool
 hasAddress s = isSome (s .address)
 
 -- an unwritten store to the address
-abbrev pub supplies : ℕ → Store → Bool
-supplies a s = not (s .written) && addressIs a (s .address)
+abbrev pub unwrittenTo : ℕ → Store → Bool
+unwrittenTo a s = not (s .written) && addressIs a (s .address)
 
--- The nearest of the stores that supplies the address. They are walked from the oldest: one that supplies it takes the
--- place of whatever was found before it.
-abbrev pub nearest : ℕ → Option Store → List Store → Option Store
-nearest a found [] = found
-nearest a found (s ∷ ss) = nearest a (pick (supplies a s) (some s) found) ss
+-- Where a load's word comes from: it is unknown where an earlier store has no address; it is the nearest earlier unwritten
+-- store to the load's address, with its data or none; or it is memory.
+pub data Source : Type 0 where
+  unknown : Source
+  fromStore : Option ℕ → Source
+  fromMemory : Source
 
--- a value and whether it was forwarded
-pub record Source : Type 0 where
+-- The source that the stores leave, where `found` was the source before them. They are walked from the oldest, so a nearer
+-- unwritten store to the address takes the place of whatever was found before it.
+abbrev pub source : ℕ → Source → List Store → Source
+source a found [] = found
+source a found (s ∷ ss) = pick (hasAddress s) (source a (pick (unwrittenTo a s) (fromStore (s .word)) found) ss) unknown
+
+-- a load's word, and whether it was forwarded
+pub record Loaded : Type 0 where
   pub value : ℕ
   pub forwarded : Bool
 
-abbrev pub sourceOf : List ℕ → ℕ → Option Store → Ruled Source
-sourceOf memory a none = accept (record { value = getD memory a 0; forwarded = false })
-sourceOf memory a (some s) = have (s .word) noData λ w. accept (record { value = w; forwarded = true })
+-- what a load of the address gets from its source: 28, 29
+abbrev pub loadedFrom : List ℕ → ℕ → Source → Ruled Loaded
+loadedFrom memory a unknown = refuse earlierStoreUnknown
+loadedFrom memory a (fromStore word) = have word noData λ w. accept (record { value = w; forwarded = true })
+loadedFrom memory a fromMemory = accept (record { value = getD memory a 0; forwarded = false })
+
+-- what a load gets where it is served behind these stores: 26, 27, and then by its source
+abbrev pub mayServe : List ℕ → List Store → Load → Ruled Loaded
+mayServe memory ss l =
+    need (not (isSome (l .value))) alreadyDone
+    (have (l .address) noAddress λ a.
+    loadedFrom memory a (source a fromMemory ss))
 
 abbrev pub loadWithValue : ℕ → Load → Load
 loadWithValue v l = record { port = l .port; address = l .address; value = some v; taken = l .taken; before = l .before }
+
+-- the load at a place is served
+abbrev pub servedWith : Contents → ℕ → Loaded → Served
+servedWith q place v = record {
+  value = v .value;
+  forwarded = v .forwarded;
+  queue = withLoads q (updateAt (loadWithValue (v .value)) place (q .loads));
+}
 
 -- the stores that come before a load
 abbrev pub storesBefore : Contents → Load → List Store
 storesBefore q l = take (l .before) (q .stores)
 
+-- serving the load at a place: 25, and then as the load may be served
+abbrev pub serveAt : Contents → List ℕ → ℕ → Ruled Served
+serveAt q memory place =
+    have (getElem? (q .loads) place) noSerial λ l.
+    andThen (mayServe memory (storesBefore q l) l) λ v.
+    accept (servedWith q place v)
+
+-- serving the load with a serial: 40, 30, and then by its place
 unfoldable pub serve : Contents → List ℕ → ℕ → Ruled Served
 serve q memory serial =
     need (sound q) unsound
     (need (eqb (length memory) (q .memoryLength)) wrongMemory
-    (have (getElem? (q .loads) (loadPlace q serial)) noSerial λ l.
-    need (not (isSome (l .value))) alreadyDone
-    (have (l .address) noAddress λ a.
-    need (allOf hasAddress (storesBefore q l)) earlierStoreUnknown
-    (andThen (sourceOf memory a (nearest a none (storesBefore q l))) λ v.
-    accept (record {
-      value = v .value;
-      forwarded = v .forwarded;
-      queue = withLoads q (updateAt (loadWithValue (v .value)) (loadPlace q serial) (q .loads));
-    })))))
+    (serveAt q memory (loadPlace q serial)))

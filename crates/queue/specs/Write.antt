@@ -10,7 +10,7 @@ use lib.Dec.{eqb}
 use lib.ListN.{length, take, set, getElem?}
 use Rattle.table.specs.Basics.{allOf, frontWhile, afterWhile}
 use Rattle.queue.specs.Refusal.{unsound, wrongMemory, noSerial, alreadyDone, noAddress, noData, earlierLoadInWay, earlierStoreInWay}
-use Rattle.queue.specs.Ruled.{Ruled, accept, need, have, isSome}
+use Rattle.queue.specs.Ruled.{Ruled, accept, need, have, andThen, isSome}
 use Rattle.queue.specs.Contents.{Load, Store, Contents, withStores, updateAt, storePlace}
 use Rattle.queue.specs.Sound.{sound}
 
@@ -64,17 +64,42 @@ settle q = record {
   stores = map (storeAfterLeaving (leaving loadFinished (q .loads))) (afterWhile storeFinished (q .stores));
 }
 
+-- a word and the address that it is put at
+pub record Put : Type 0 where
+  pub address : ℕ
+  pub word : ℕ
+
+-- what writing a store puts where, behind these loads and these stores: 26, 27, 29, 31, 32
+abbrev pub mayWrite : List Load → List Store → Store → Ruled Put
+mayWrite ls ss s =
+    need (not (s .written)) alreadyDone
+    (have (s .address) noAddress λ a.
+    have (s .word) noData λ w.
+    need (allOf (loadGivesWay a) ls) earlierLoadInWay
+    (need (allOf (storeGivesWay a) ss) earlierStoreInWay
+    (accept (record { address = a; word = w }))))
+
+-- the store at a place is written
+abbrev pub writtenWith : Contents → List ℕ → ℕ → Put → Written
+writtenWith q memory place p = record {
+  memory = set memory (p .address) (p .word);
+  queue = settle (withStores q (updateAt storeDone place (q .stores)));
+}
+
+-- the loads that come before a store
+abbrev pub loadsBefore : Contents → Store → List Load
+loadsBefore q s = take (s .before) (q .loads)
+
+-- writing the store at a place: 25, and then as the store may be written
+abbrev pub writeAt : Contents → List ℕ → ℕ → Ruled Written
+writeAt q memory place =
+    have (getElem? (q .stores) place) noSerial λ s.
+    andThen (mayWrite (loadsBefore q s) (take place (q .stores)) s) λ p.
+    accept (writtenWith q memory place p)
+
+-- writing the store with a serial: 40, 30, and then by its place
 unfoldable pub write : Contents → List ℕ → ℕ → Ruled Written
 write q memory serial =
     need (sound q) unsound
     (need (eqb (length memory) (q .memoryLength)) wrongMemory
-    (have (getElem? (q .stores) (storePlace q serial)) noSerial λ s.
-    need (not (s .written)) alreadyDone
-    (have (s .address) noAddress λ a.
-    have (s .word) noData λ w.
-    need (allOf (loadGivesWay a) (take (s .before) (q .loads))) earlierLoadInWay
-    (need (allOf (storeGivesWay a) (take (storePlace q serial) (q .stores))) earlierStoreInWay
-    (accept (record {
-      memory = set memory a w;
-      queue = settle (withStores q (updateAt storeDone (storePlace q serial) (q .stores)));
-    }))))))
+    (writeAt q memory (storePlace q serial)))

@@ -22,8 +22,8 @@ use crate::answering::outline_of;
 use crate::entries::unpack;
 use crate::refusal::UNSOUND;
 use crate::serial::oldest_serial;
-use crate::serving::Supply;
-use crate::serving::supply_for;
+use crate::serving::Source;
+use crate::serving::source_of;
 use crate::sound::sound_in;
 use crate::writing::write_fault;
 use table::refusal::TOO_SHORT;
@@ -45,11 +45,11 @@ fn load_ready(load: Entry, store_entries: &[u64]) -> bool
     if !load.addressed {
         return false;
     }
-    match supply_for(store_entries, load.before as usize, load.address) {
-        Supply::Unknown => false,
-        Supply::NoStore => true,
-        Supply::NoWord => false,
-        Supply::Forwarded(_) => true,
+    match source_of(store_entries, load.before as usize, load.address) {
+        Source::Unknown => false,
+        Source::NoData => false,
+        Source::Forwarded(_) => true,
+        Source::Memory => true,
     }
 }
 

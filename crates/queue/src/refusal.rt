@@ -27,7 +27,7 @@ pub const ALREADY_DONE: u8 = 26;
 pub const NO_ADDRESS: u8 = 27;
 // an earlier store has no address
 pub const EARLIER_STORE_UNKNOWN: u8 = 28;
-// the store that would supply the data, or the store to be written, has no data
+// the store to forward from, or the store to be written, has no data
 pub const NO_DATA: u8 = 29;
 // the lent memory has another length than at opening
 pub const WRONG_MEMORY: u8 = 30;

@@ -5,12 +5,12 @@ ghost use Prim.Native.Nat.{_≤_, _<_};
 ghost use lib.ListN.{length};
 ghost use Rattle.table.specs.declared.Table.{Table};
 ghost use Rattle.queue.specs.Contents.{storeOf, contentsOf};
-ghost use Rattle.queue.specs.Serve.{supplies, serve};
+ghost use Rattle.queue.specs.Serve.{unwrittenTo, fromStore, fromMemory, source, serveAt, serve};
 ghost use Rattle.queue.specs.Outcome.{Serves};
 ghost use Rattle.queue.specs.ServeLent.{withCounts};
 ghost use Rattle.queue.specs.Parts.{frameOf, queueOf, countedOf, onParts};
 ghost use Rattle.queue.specs.Internal.{storesIn, frameWith, Checked};
-ghost use Rattle.queue.specs.InternalServe.{wordFrom, supplyFrom, unserved, servedAs, Filled, serveAt};
+ghost use Rattle.queue.specs.InternalServe.{sourceIn, unserved, servedAs, Filled};
 use crate::Counted;
 use crate::Counts;
 use crate::Entry;
@@ -34,31 +34,32 @@ use crate::refusal::WRONG_MEMORY;
 use crate::serial::place_of;
 use crate::sound::sound_in;
 
-// What the stores before a load have for it.
-pub(crate) enum Supply {
-    // a store among them has no address
+// Where a load's word comes from.
+pub(crate) enum Source {
+    // an earlier store has no address
     Unknown,
-    // none of them is an unwritten store to the load's address
-    NoStore,
-    // the nearest such store has no data
-    NoWord,
+    // the nearest earlier unwritten store to the load's address has no data
+    NoData,
+    // it has this data
     Forwarded(u32),
+    // there is no such store
+    Memory,
 }
 
-// What a store that supplies the address has for a load.
-fn word_from(store: Entry) -> Supply
-    ensures { λ r. ⌜ r ≡ wordFrom (storeOf store) ⌝ }
+// The source of a load whose nearest earlier unwritten store to its address is this one.
+fn from_store(store: Entry) -> Source
+    ensures { λ r. ⌜ sourceIn r ≡ fromStore (storeOf store .word) ⌝ }
 {
     if store.filled {
-        Supply::Forwarded(store.word)
+        Source::Forwarded(store.word)
     } else {
-        Supply::NoWord
+        Source::NoData
     }
 }
 
-// Is it an unwritten store to the address, where it has one?
-fn supplies_address(store: Entry, address: u16) -> bool
-    ensures { λ r. ⌜ r ≡ supplies address (storeOf store) ⌝ }
+// Is it an unwritten store to the address?
+fn unwritten_to(store: Entry, address: u16) -> bool
+    ensures { λ r. ⌜ r ≡ unwrittenTo address (storeOf store) ⌝ }
 {
     if store.finished {
         return false;
@@ -69,22 +70,22 @@ fn supplies_address(store: Entry, address: u16) -> bool
     store.address == address
 }
 
-// What the first n stores have for a load of the address. They are walked from the oldest: a later store that supplies the
-// address takes the place of an earlier one, or the load would get a stale word.
-pub(crate) fn supply_for(entries: &[u64], n: usize, address: u16) -> Supply
+// The source of a load of the address that comes behind the first n stores. They are walked from the oldest: a nearer
+// unwritten store to the address takes the place of one before it, or the load would get a stale word.
+pub(crate) fn source_of(entries: &[u64], n: usize, address: u16) -> Source
     requires { ⌜ n ≤ length (now entries) ⌝ }
-    ensures { λ r. ⌜ r ≡ supplyFrom address (storesIn n (now (entries .entry))) ⌝ }
+    ensures { λ r. ⌜ sourceIn r ≡ source address fromMemory (storesIn n (now (entries .entry))) ⌝ }
 {
-    let mut found = Supply::NoStore;
+    let mut found = Source::Memory;
     let mut i: usize = 0;
     while i < n {
         let store = unpack(entries[i]);
         if !store.addressed {
-            return Supply::Unknown;
+            return Source::Unknown;
         }
         i += 1;
-        if supplies_address(store, address) {
-            found = word_from(store);
+        if unwritten_to(store, address) {
+            found = from_store(store);
         }
     }
     found
@@ -156,17 +157,17 @@ fn serve_at(
     if !load.addressed {
         return unserved(NO_ADDRESS, counts);
     }
-    match supply_for(store_entries, load.before as usize, load.address) {
-        Supply::Unknown => unserved(EARLIER_STORE_UNKNOWN, counts),
-        Supply::NoStore => served(
+    match source_of(store_entries, load.before as usize, load.address) {
+        Source::Unknown => unserved(EARLIER_STORE_UNKNOWN, counts),
+        Source::NoData => unserved(NO_DATA, counts),
+        Source::Forwarded(word) => served(load_entries, at, word, true, counts),
+        Source::Memory => served(
             load_entries,
             at,
             memory[load.address as usize],
             false,
             counts,
         ),
-        Supply::NoWord => unserved(NO_DATA, counts),
-        Supply::Forwarded(word) => served(load_entries, at, word, true, counts),
     }
 }
 

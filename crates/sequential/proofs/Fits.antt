@@ -2,31 +2,34 @@
 use Prim.Native.Nat.{ℕ, zero, suc, _^_, _<_}
 use native.Mathlib.Omega.{arith}
 use mathlib.Core.Path.{_≡_, refl, ap, _∙_, subst}
-use mathlib.Core.Bool.{Bool, true, false, not, _&&_}
+use mathlib.Core.Bool.{Bool, true, false, _&&_}
 use mathlib.Core.List.{List, [], _∷_}
-use mathlib.Core.Option.{Option, none, some}
-use lib.Dec.{eqb, ltb}
-use lib.ListN.{length, take, getD, set, getElem?}
+use mathlib.Core.Option.{none, some}
+use lib.Dec.{ltb}
+use lib.ListN.{length, getD, set, getElem?}
 use borrow.Author.Tests.{lt-ltb}
 use Rattle.table.specs.Basics.{pick, anyOf, allOf, afterWhile}
 use Rattle.table.specs.Group.{GroupPairs, blankPair}
 use Rattle.table.specs.Table.{tableFault}
 use Rattle.table.proofs.OrderOffsets.{GroupRight, table-group-right}
-use Rattle.queue.specs.Ruled.{Ruled, refuse, accept, number, isSome}
+use Rattle.queue.specs.Ruled.{Ruled, refuse, accept, number}
 use Rattle.queue.specs.Contents.{Load, Store, Contents, withLoads, withStores, updateAt, firstPlace, loadPlace, storePlace}
 use Rattle.queue.specs.Sound.{sound}
 use Rattle.queue.specs.Activate.{room, withGroup, activate}
 use Rattle.queue.specs.Arguments.{isLoadPort, isStorePort, loadLacksAddress, storeLacksAddress, storeLacksWord}
 use Rattle.queue.specs.Arguments.{loadWithAddress, storeWithAddress, storeWithWord, loadAddress, storeAddress, storeData}
-use Rattle.queue.specs.Serve.{Served, Source, hasAddress, supplies, nearest, sourceOf, storesBefore, loadWithValue, serve}
-use Rattle.queue.specs.Write.{Written, loadGivesWay, storeGivesWay, storeDone, loadFinished, storeFinished, settle, write}
+use Rattle.queue.specs.Serve.{Served, fromMemory, source, Loaded, loadedFrom, storesBefore, loadWithValue, serve}
+use Rattle.queue.specs.Write.{Written, storeDone, loadFinished, storeFinished, settle, write}
 use Rattle.queue.specs.Write.{loadAfterLeaving, storeAfterLeaving, leaving}
 use Rattle.queue.specs.Take.{Taken, untaken, loadTaken, takeRule}
 use Rattle.queue.specs.InternalActivate.{loadAfter, storeAfter}
-use Rattle.queue.proofs.Lists.{false-true, and-left, and-right, and-both, all-join, all-take, all-map, all-middle, getElem?-split}
-use Rattle.queue.proofs.Refusals.{need-accepts, have-accepts, andThen-accepts, number-small, small}
+use Rattle.queue.proofs.Lists.{false-true, and-left, and-right, and-both, all-join, all-take, all-map, all-weaken, all-middle, getElem?-split}
+use Rattle.queue.proofs.Refusals.{need-accepts, have-accepts, number-small, small}
 use Rattle.queue.proofs.Refusals.{activate-small, serve-small, write-small, take-small}
 use Rattle.queue.proofs.ActivateLaws.{with-group-is}
+use Rattle.queue.proofs.SourceLaws.{wordFrom, loaded-word, source-passes}
+use Rattle.queue.proofs.ServeLaws.{Serving, serve-accepts}
+use Rattle.queue.proofs.WriteLaws.{Writing, write-accepts}
 use Rattle.sequential.specs.Calls.{Argument, LoadAddress, StoreAddress, StoreData, Call, Activate, Give, Serve, Write, Take, Ready}
 use Rattle.sequential.specs.Call.{Machine, Step, moved, served, written, taken, give, ready, step}
 use Rattle.sequential.specs.RunsExist.{fits, wordFits, argumentFits}
@@ -85,29 +88,12 @@ pub record Fitting (s : Step) : Type 0 where
   pub left : Fits (s .machine)
 
 -- ---- what a served load is given
-abbrev foundFits : Option Store → Bool
-foundFits none = true
-foundFits (some s) = storeFits s
-
-nearest-fits : (a : ℕ) (found : Option Store) (ss : List Store) → foundFits found ≡ true → allOf storeFits ss ≡ true → foundFits (nearest a found ss) ≡ true
-nearest-fits a found [] h k = h
-nearest-fits a found (s ∷ ss) h k =
-    nearest-fits a (pick (supplies a s) (some s) found) ss (go (supplies a s)) (and-right (storeFits s) (allOf storeFits ss) k)
-  where
-    go : (b : Bool) → foundFits (pick b (some s) found) ≡ true
-    go true = and-left (storeFits s) (allOf storeFits ss) k
-    go false = h
-
-source-fits : (memory : List ℕ) (a : ℕ) (found : Option Store) (v : Source) → allOf (fits 32) memory ≡ true → foundFits found ≡ true
-    → sourceOf memory a found ≡ accept v → fits 32 (v .value) ≡ true
-source-fits memory a none v h k e =
-    let same : record { value = getD memory a 0; forwarded = false } ≡ v = cc in
-    subst (λ (x : Source). fits 32 (x .value) ≡ true) same (all-getD (fits 32) memory a 0 h refl)
-source-fits memory a (some s) v h k e =
-    let (w, is, r) = have-accepts (s .word) _ _ e in
-    let same : record { value = w; forwarded = true } ≡ v = cc in
-    let word : wordFits (some w) ≡ true = rw is at (and-right (fits 5 (s .port)) (wordFits (s .word)) k) in
-    subst (λ (x : Source). fits 32 (x .value) ≡ true) same word
+source-fits : (memory : List ℕ) (a : ℕ) (ss : List Store) (v : Loaded) → allOf (fits 32) memory ≡ true → allOf storeFits ss ≡ true
+    → loadedFrom memory a (source a fromMemory ss) ≡ accept v → fits 32 (v .value) ≡ true
+source-fits memory a ss v h k e =
+    rw (loaded-word memory a (source a fromMemory ss) v e) at
+    (source-passes (λ x. wordFits (wordFrom (getD memory a 0) x)) a refl ss (all-getD (fits 32) memory a 0 h refl)
+    (all-weaken storeFits (λ s. wordFits (s .word)) (λ s t. and-right (fits 5 (s .port)) (wordFits (s .word)) t) ss k))
 
 -- ---- a queue with an entry made anew, with a group, settled; a memory with a word written
 abbrev machine : Contents → List ℕ → Machine
@@ -212,40 +198,27 @@ module _ (q : Contents) (m : List ℕ) (f : Fits (machine q m)) where
       (with-stores q m f (storeWithWord x) (λ s h. and-both (and-left (fits 5 (s .port)) _ h) small) (firstPlace (storeLacksWord port) (q .stores)))
 
   serve-fits : (serial : ℕ) (r : Served) → serve q m serial ≡ accept r → (fits 32 (r .value) ≡ true) × Fits (machine (r .queue) m)
-  unfolding serve
-  serve-fits serial r h₀ =
-      let (t₁, h₁) = need-accepts (sound q) _ _ h₀ in
-      let (t₂, h₂) = need-accepts (eqb (length m) (q .memoryLength)) _ _ h₁ in
-      let (l, at, h₃) = have-accepts (getElem? (q .loads) (loadPlace q serial)) _ _ h₂ in
-      let (t₄, h₄) = need-accepts (not (isSome (l .value))) _ _ h₃ in
-      let (a, t₅, h₅) = have-accepts (l .address) _ _ h₄ in
-      let (t₆, h₆) = need-accepts (allOf hasAddress (storesBefore q l)) _ _ h₅ in
-      let (v, t₇, h₇) = andThen-accepts (sourceOf m a (nearest a none (storesBefore q l))) _ h₆ in
-      let word : fits 32 (v .value) ≡ true =
-      source-fits m a (nearest a none (storesBefore q l)) v (f .memory)
-      (nearest-fits a none (storesBefore q l) refl (all-take storeFits (l .before) (q .stores) (f .stores))) t₇ in
-      let after : Contents = withLoads q (updateAt (loadWithValue (v .value)) (loadPlace q serial) (q .loads)) in
-      let result : record { value = v .value; forwarded = v .forwarded; queue = after } ≡ r = cc in
-      subst (λ (x : Served). (fits 32 (x .value) ≡ true) × Fits (machine (x .queue) m)) result
-      (word, with-loads q m f (loadWithValue (v .value)) (λ x h. and-both (and-left (fits 5 (x .port)) _ h) word) (loadPlace q serial))
+  serve-fits serial r h = go (serve-accepts q m serial r h)
+    where
+      go : (l : Load) × (getElem? (q .loads) (loadPlace q serial) ≡ some l) × Serving q m (loadPlace q serial) r l
+          → (fits 32 (r .value) ≡ true) × Fits (machine (r .queue) m)
+      go (l, at, s) =
+          let word : fits 32 (s .loaded .value) ≡ true =
+          source-fits m (s .may .address) (storesBefore q l) (s .loaded) (f .memory) (all-take storeFits (l .before) (q .stores) (f .stores)) (s .may .gives) in
+          rw (s .result)
+          (word, with-loads q m f (loadWithValue (s .loaded .value)) (λ x h. and-both (and-left (fits 5 (x .port)) _ h) word) (loadPlace q serial))
 
   write-fits : (serial : ℕ) (r : Written) → write q m serial ≡ accept r → Fits (machine (r .queue) (r .memory))
-  unfolding write
-  write-fits serial r h₀ =
-      let (t₁, h₁) = need-accepts (sound q) _ _ h₀ in
-      let (t₂, h₂) = need-accepts (eqb (length m) (q .memoryLength)) _ _ h₁ in
-      let (s, at, h₃) = have-accepts (getElem? (q .stores) (storePlace q serial)) _ _ h₂ in
-      let (t₄, h₄) = need-accepts (not (s .written)) _ _ h₃ in
-      let (a, t₅, h₅) = have-accepts (s .address) _ _ h₄ in
-      let (w, t₆, h₆) = have-accepts (s .word) _ _ h₅ in
-      let (t₇, h₇) = need-accepts (allOf (loadGivesWay a) (take (s .before) (q .loads))) _ _ h₆ in
-      let (t₈, h₈) = need-accepts (allOf (storeGivesWay a) (take (storePlace q serial) (q .stores))) _ _ h₇ in
-      let after : Contents = withStores q (updateAt storeDone (storePlace q serial) (q .stores)) in
-      let result : record { memory = set m a w; queue = settle after } ≡ r = cc in
-      let word : wordFits (some w) ≡ true =
-      rw t₆ at (and-right (fits 5 (s .port)) (wordFits (s .word)) (all-found storeFits (q .stores) (storePlace q serial) at (f .stores))) in
-      subst (λ (x : Written). Fits (machine (x .queue) (x .memory))) result
-      (with-memory (settle after) m (settle-fits after m (with-stores q m f storeDone (λ x h. h) (storePlace q serial))) a w word)
+  write-fits serial r h = go (write-accepts q m serial r h)
+    where
+      go : (s : Store) × (getElem? (q .stores) (storePlace q serial) ≡ some s) × Writing q m (storePlace q serial) r s → Fits (machine (r .queue) (r .memory))
+      go (s, at, w) =
+          let after : Contents = withStores q (updateAt storeDone (storePlace q serial) (q .stores)) in
+          let word : wordFits (some (w .put .word)) ≡ true =
+          rw (w .may .worded) at (and-right (fits 5 (s .port)) (wordFits (s .word)) (all-found storeFits (q .stores) (storePlace q serial) at (f .stores))) in
+          rw (w .result)
+          (with-memory (settle after) m (settle-fits after m (with-stores q m f storeDone (λ x h. h) (storePlace q serial)))
+          (w .put .address) (w .put .word) word)
 
   take-fits : (port : ℕ) (r : Taken) → takeRule q port ≡ accept r → (fits 32 (r .value) ≡ true) × Fits (machine (r .queue) m)
   unfolding takeRule

@@ -15,9 +15,10 @@ use Rattle.table.specs.Group.{Access, load, store}
 use Rattle.queue.specs.Ruled.{isSome}
 use Rattle.queue.specs.Contents.{Load, Store}
 use Rattle.queue.specs.Activate.{newLoad, newStore}
-use Rattle.queue.specs.Serve.{addressIs, supplies, loadWithValue}
+use Rattle.queue.specs.Serve.{addressIs, hasAddress, unwrittenTo, Source, fromStore, source, loadWithValue}
 use Rattle.queue.specs.Write.{addressApart, loadGivesWay, storeGivesWay, storeDone}
 use Rattle.queue.proofs.Lists.{false-true, and-left, and-right}
+use Rattle.queue.proofs.SourceLaws.{wordFrom, word-on}
 use Rattle.sequential.proofs.Log.{Entry, ofLoad, ofStore, loads, stores, ownIn}
 
 -- may x stand where this is known
@@ -64,52 +65,47 @@ agree-append [] new m n h = rw (← h) (agree-fresh m new)
 agree-append (ofLoad l ∷ es) new m n h = (h .0, agree-append es new m n (h .1))
 agree-append (ofStore s ∷ es) new m n h = λ a w p q. agree-append es new (does (s .written) m a w) (set n a w) (h a w p q)
 
--- ---- serve: what the earlier stores make known of the word at an address
-
--- Walked from the oldest: each unwritten store to the address overrides what was known before it.
-abbrev pub known : ℕ → Option ℕ → List Store → Option ℕ
-known a k [] = k
-known a k (s ∷ ss) = known a (pick (supplies a s) (s .word) k) ss
-
--- a store that is written, or whose address is known
-abbrev pub settled : Store → Bool
-settled s = (s .written) || isSome (s .address)
+-- ---- serve: a load's source gives the word that memory would hold at its address with every earlier store done
 
 -- what is known is what memory holds
 abbrev pub Holding : Option ℕ → ℕ → Type 0
 Holding k x = (v : ℕ) → k ≡ some v → x ≡ v
 
--- One more store: known before, and the store done, give known after.
-holding-store : (s : Store) (a : ℕ) (k : Option ℕ) (m : List ℕ) → a < length m → settled s ≡ true → Holding k (getD m a 0)
-    → (b w : ℕ) → fits (s .address) b → fits (s .word) w → Holding (pick (supplies a s) (s .word) k) (getD (does (s .written) m b w) a 0)
-holding-store s a k m low known-address h b w = go (s .written) (s .address) (s .word) known-address
+-- One more store: what was found before it, and the store done, give what is found after it.
+holding-store : (word : ℕ) (s : Store) (a : ℕ) (found : Source) (m : List ℕ) → a < length m → hasAddress s ≡ true → Holding (wordFrom word found) (getD m a 0)
+    → (b w : ℕ) → fits (s .address) b → fits (s .word) w
+    → Holding (wordFrom word (pick (unwrittenTo a s) (fromStore (s .word)) found)) (getD (does (s .written) m b w) a 0)
+holding-store word s a found m low known h b w = go (s .written) (s .address) (s .word) known
   where
-    word : (o : Option ℕ) → fits o w → Holding o w
-    word none f v e = cc
-    word (some x) f v e = let g : x ≡ v = cc in sym f ∙ g
+    own : (o : Option ℕ) → fits o w → Holding o w
+    own none f v e = cc
+    own (some x) f v e = let g : x ≡ v = cc in sym f ∙ g
 
-    go : (written : Bool) (address word′ : Option ℕ) → written || isSome address ≡ true → fits address b → fits word′ w
-        → Holding (pick (not written && addressIs a address) word′ k) (getD (does written m b w) a 0)
+    go : (written : Bool) (address word′ : Option ℕ) → isSome address ≡ true → fits address b → fits word′ w
+        → Holding (wordFrom word (pick (not written && addressIs a address) (fromStore word′) found)) (getD (does written m b w) a 0)
     go true address word′ t f g = h
     go false none word′ t f g = false-true t
     go false (some c) word′ t f g = at (eqb c a) refl
       where
-        at : (t : Bool) → eqb c a ≡ t → Holding (pick t word′ k) (getD (set m b w) a 0)
-        at true e = let same : b ≡ a = sym f ∙ eqb-true c a e in rw same (rw (getD-set-same m a w 0 low) (word word′ g))
+        at : (t : Bool) → eqb c a ≡ t → Holding (wordFrom word (pick t (fromStore word′) found)) (getD (set m b w) a 0)
+        at true e = let same : b ≡ a = sym f ∙ eqb-true c a e in rw same (rw (getD-set-same m a w 0 low) (own word′ g))
         at false e = rw (getD-set-other m b a w 0 (λ p. eqb-false c a e (f ∙ sym p))) h
 
-pub agree-serve : (l : Load) (post : List Entry) (a v : ℕ) → l .address ≡ some a → l .value ≡ none
-    → (pre : List Entry) (k : Option ℕ) (m n : List ℕ) → a < length m → Holding k (getD m a 0)
-    → allOf settled (ownIn stores pre) ≡ true → known a k (ownIn stores pre) ≡ some v
+pub agree-serve : (l : Load) (post : List Entry) (a v word : ℕ) → l .address ≡ some a → l .value ≡ none
+    → (pre : List Entry) (found : Source) (m n : List ℕ) → a < length m → Holding (wordFrom word found) (getD m a 0)
+    → wordFrom word (source a found (ownIn stores pre)) ≡ some v
     → Agree m n (pre ++ ofLoad l ∷ post) → Agree m n (pre ++ ofLoad (loadWithValue v l) ∷ post)
-agree-serve l post a v address unserved [] k m n low h t e g = (λ b f. served b f, g .1)
+agree-serve l post a v word address unserved [] found m n low h e g = (λ b f. served b f, g .1)
   where
     served : (b : ℕ) → fits (l .address) b → v ≡ getD n b 0
     served b f = let same : a ≡ b = (rw address at f) in sym (h v e) ∙ (rw (unserved) at (g .0 a (rw address refl))) ∙ ap (λ (i : ℕ). getD n i 0) same
-agree-serve l post a v address unserved (ofLoad k₁ ∷ pre) k m n low h t e g = (g .0, agree-serve l post a v address unserved pre k m n low h t e (g .1))
-agree-serve l post a v address unserved (ofStore s ∷ pre) k m n low h t e g =
-    λ b w p q. agree-serve l post a v address unserved pre (pick (supplies a s) (s .word) k) (does (s .written) m b w) (set n b w) (long (s .written) b w)
-    (holding-store s a k m low (and-left (settled s) (allOf settled (ownIn stores pre)) t) h b w p q) (and-right (settled s) (allOf settled (ownIn stores pre)) t) e (g b w p q)
+agree-serve l post a v word address unserved (ofLoad k ∷ pre) found m n low h e g =
+    (g .0, agree-serve l post a v word address unserved pre found m n low h e (g .1))
+agree-serve l post a v word address unserved (ofStore s ∷ pre) found m n low h e g =
+    let (known, on) = word-on word a found s (ownIn stores pre) v e in
+    λ b w p q. agree-serve l post a v word address unserved pre (pick (unwrittenTo a s) (fromStore (s .word)) found)
+    (does (s .written) m b w) (set n b w) (long (s .written) b w)
+    (holding-store word s a found m low known h b w p q) on (g b w p q)
   where
     long : (written : Bool) (b w : ℕ) → a < length (does written m b w)
     long true b w = low

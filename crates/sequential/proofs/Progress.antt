@@ -15,9 +15,10 @@ use Rattle.table.specs.Group.{GroupPairs}
 use Rattle.queue.specs.Ruled.{number, isSome}
 use Rattle.queue.specs.Contents.{Load, Store, Contents, after, oldest, loadPlace, storePlace}
 use Rattle.queue.specs.Sound.{sound}
-use Rattle.queue.specs.Serve.{hasAddress, nearest, serve}
+use Rattle.queue.specs.Serve.{hasAddress, fromMemory, source, serve}
 use Rattle.queue.specs.Write.{addressApart, loadGivesWay, storeGivesWay, storeFinished, write}
 use Rattle.queue.proofs.Lists.{false-true, is-none, and-left, and-right, and-both, or-left, all-left, all-middle, getElem?-short}
+use Rattle.queue.proofs.SourceLaws.{source-memory}
 use Rattle.queue.proofs.Serials.{place-of-serial, oldest-small, after-small}
 use Rattle.sequential.specs.Calls.{Argument, LoadAddress, StoreAddress, StoreData}
 use Rattle.sequential.specs.Call.{Machine, Answered}
@@ -33,11 +34,11 @@ use Rattle.sequential.proofs.ReachedSound.{holds-sound}
 -- ---- what is accepted
 
 serve-accepted : (q : Contents) (m : List ℕ) (serial : ℕ) (l : Load) (a : ℕ) → sound q ≡ true → length m ≡ q .memoryLength → getElem? (q .loads) (loadPlace q serial) ≡ some l
-    → l .value ≡ none → l .address ≡ some a → allOf hasAddress (take (l .before) (q .stores)) ≡ true → nearest a none (take (l .before) (q .stores)) ≡ none
+    → l .value ≡ none → l .address ≡ some a → source a fromMemory (take (l .before) (q .stores)) ≡ fromMemory
     → number (serve q m serial) ≡ 0
 unfolding serve
-serve-accepted q m serial l a right long at unserved address earlier none-supplies =
-    rw (right, eq-eqb (length m) (q .memoryLength) long, at, unserved, address, earlier, none-supplies)
+serve-accepted q m serial l a right long at unserved address sourced =
+    rw (right, eq-eqb (length m) (q .memoryLength) long, at, unserved, address, sourced)
 
 write-accepted : (q : Contents) (m : List ℕ) (serial : ℕ) (s : Store) (a w : ℕ) → sound q ≡ true → length m ≡ q .memoryLength → getElem? (q .stores) (storePlace q serial) ≡ some s
     → s .written ≡ false → s .address ≡ some a → s .word ≡ some w → allOf (loadGivesWay a) (take (s .before) (q .loads)) ≡ true
@@ -45,11 +46,6 @@ write-accepted : (q : Contents) (m : List ℕ) (serial : ℕ) (s : Store) (a w :
 unfolding write
 write-accepted q m serial s a w right long at unwritten address word loadsApart storesApart =
     rw (right, eq-eqb (length m) (q .memoryLength) long, at, unwritten, address, word, loadsApart, storesApart)
-
--- written stores supply nothing
-nearest-written : (a : ℕ) (found : Option Store) (ss : List Store) → allOf storeFinished ss ≡ true → nearest a found ss ≡ found
-nearest-written a found [] h = refl
-nearest-written a found (s ∷ ss) h = rw (and-left (s .written) (allOf storeFinished ss) h) (nearest-written a found ss (and-right (s .written) (allOf storeFinished ss) h))
 
 -- ---- complete and done entries
 
@@ -174,8 +170,8 @@ module _ (q : Contents) (m memory : List ℕ) (log : List Entry) (h : Holds q m 
             after-small (oldest (q .nextLoad) (length (q .loads))) i,
             inl
                 (serve-accepted q m serial (loads .remember (place .number) l) a right (h .long) (ap (getElem? (q .loads)) is ∙ place .at) value address
-                (before-queued (place .before′) hasAddress (λ n s. refl) storesAddressed)
-                (nearest-written a none (take (place .number) (q .stores)) (before-queued (place .before′) storeFinished (λ n s. refl) storesWritten))),
+                (source-memory a (take (place .number) (q .stores)) (before-queued (place .before′) storeFinished (λ n s. refl) storesWritten)
+                (before-queued (place .before′) hasAddress (λ n s. refl) storesAddressed))),
           )
 
   store-moves : (pre : List Entry) (s : Store) (post : List Entry) → log ≡ pre ++ ofStore s ∷ post → allOf done pre ≡ true → s .written ≡ false

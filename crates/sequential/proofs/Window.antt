@@ -85,14 +85,16 @@ module _ {A : Type 0} {K : Kind A} {queued : List A} {pre : List Entry} (b : Bef
   pub before-queued : allOf p (ownIn K pre) ≡ true → allOf p queued ≡ true
   before-queued h = queued-all ∙ sym rest-all ∙ all-right p (map entryOf (b .past)) (map entryOf (b .rest)) (rw (b .parts) at h)
 
-  -- from the queue to the log: what has left passes since it is finished, and right
-  pub before-log : (right : A → Bool) → ((a : A) → right a ≡ true → K .finished a ≡ true → p a ≡ true) → allOf right (ownIn K pre) ≡ true → allOf p queued ≡ true → allOf p (ownIn K pre) ≡ true
-  before-log right w h k = rw (b .parts) (all-join p (map entryOf (b .past)) (map entryOf (b .rest)) past-all (rest-all ∙ sym queued-all ∙ k))
-    where
-      past-all : allOf p (map entryOf (b .past)) ≡ true
-      past-all =
-          all-weaken₂ right (K .finished) p w (map entryOf (b .past)) (all-left right (map entryOf (b .past)) (map entryOf (b .rest)) (rw (b .parts) at h))
-          (all-map (K .finished) (over K) entryOf (λ x. refl) (b .past) ∙ b .ended)
+  -- what has left passes since it is finished, and right
+  module _ (right : A → Bool) (w : (a : A) → right a ≡ true → K .finished a ≡ true → p a ≡ true) (h : allOf right (ownIn K pre) ≡ true) where
+    pub past-passes : allOf p (map entryOf (b .past)) ≡ true
+    past-passes =
+        all-weaken₂ right (K .finished) p w (map entryOf (b .past)) (all-left right (map entryOf (b .past)) (map entryOf (b .rest)) (rw (b .parts) at h))
+        (all-map (K .finished) (over K) entryOf (λ x. refl) (b .past) ∙ b .ended)
+
+    -- from the queue to the log
+    pub before-log : allOf p queued ≡ true → allOf p (ownIn K pre) ≡ true
+    before-log k = rw (b .parts) (all-join p (map entryOf (b .past)) (map entryOf (b .rest)) past-passes (rest-all ∙ sym queued-all ∙ k))
 
 module _ {A B : Type 0} (K : Kind A) (K′ : Kind B) (opposite : Opposite K K′) where
   -- as many others as the other kind has

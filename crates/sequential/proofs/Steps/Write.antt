@@ -1,20 +1,18 @@
 -- An accepted write keeps the invariant: the store may go ahead of everything before it that still waits.
 use Prim.Native.Nat.{ℕ}
 use mathlib.Core.Path.{_≡_, refl, subst}
-use mathlib.Core.Bool.{true, false, not, _&&_}
+use mathlib.Core.Bool.{true, false, _&&_}
 use mathlib.Core.List.{List, [], _∷_, _++_}
 use mathlib.Core.Option.{none, some}
-use lib.Dec.{eqb}
-use lib.ListN.{length, take, set, length-set, getElem?}
+use lib.ListN.{set, length-set, getElem?}
 use borrow.Author.Tests.{not-true}
 use Rattle.table.specs.Basics.{allOf}
 use Rattle.table.specs.Group.{GroupPairs}
 use Rattle.queue.specs.Ruled.{accept, isSome}
-use Rattle.queue.specs.Contents.{Store, Contents, withStores, updateAt, storePlace}
-use Rattle.queue.specs.Sound.{sound}
-use Rattle.queue.specs.Write.{Written, addressApart, loadGivesWay, storeGivesWay, storeDone, settle, write}
+use Rattle.queue.specs.Contents.{Store, Contents, storePlace}
+use Rattle.queue.specs.Write.{Written, addressApart, loadGivesWay, storeGivesWay, storeDone, write}
 use Rattle.queue.proofs.Lists.{and-both, or-left, implied, all-left, all-middle}
-use Rattle.queue.proofs.Refusals.{need-accepts, have-accepts}
+use Rattle.queue.proofs.WriteLaws.{Writing, write-accepts}
 use Rattle.sequential.specs.Calls.{Argument, LoadAddress, StoreAddress, StoreData, Write}
 use Rattle.sequential.specs.Call.{Machine, Answered}
 use Rattle.sequential.specs.Plain.{rowsOf}
@@ -25,31 +23,6 @@ use Rattle.sequential.proofs.MemoryInvariant.{Agree, agree-write}
 use Rattle.sequential.proofs.Rows.{given, valueTaken}
 use Rattle.sequential.proofs.State.{State, Holds, Seen, rightLoad, rightStore, taken-served, store-in-range}
 use Rattle.sequential.proofs.Anew.{holds-store, holds-settled, row-kept, seen-anew}
-
--- what an accepted write of this store says
-record Writing (q : Contents) (m : List ℕ) (i : ℕ) (r : Written) (s : Store) : Type 0 where
-  unwritten : not (s .written) ≡ true
-  address : ℕ
-  addressed : s .address ≡ some address
-  word : ℕ
-  worded : s .word ≡ some word
-  loadsApart : allOf (loadGivesWay address) (take (s .before) (q .loads)) ≡ true
-  storesApart : allOf (storeGivesWay address) (take i (q .stores)) ≡ true
-  result : r ≡ record { memory = set m address word; queue = settle (withStores q (updateAt storeDone i (q .stores))) }
-
-write-accepts : (q : Contents) (m : List ℕ) (serial : ℕ) (r : Written) → write q m serial ≡ accept r
-    → (s : Store) × (getElem? (q .stores) (storePlace q serial) ≡ some s) × Writing q m (storePlace q serial) r s
-unfolding write
-write-accepts q m serial r h₀ =
-    let (t₁, h₁) = need-accepts (sound q) _ _ h₀ in
-    let (t₂, h₂) = need-accepts (eqb (length m) (q .memoryLength)) _ _ h₁ in
-    let (s, at, h₃) = have-accepts (getElem? (q .stores) (storePlace q serial)) _ _ h₂ in
-    let (t₄, h₄) = need-accepts (not (s .written)) _ _ h₃ in
-    let (a, t₅, h₅) = have-accepts (s .address) _ _ h₄ in
-    let (w, t₆, h₆) = have-accepts (s .word) _ _ h₅ in
-    let (t₇, h₇) = need-accepts (allOf (loadGivesWay a) (take (s .before) (q .loads))) _ _ h₆ in
-    let (t₈, h₈) = need-accepts (allOf (storeGivesWay a) (take (storePlace q serial) (q .stores))) _ _ h₇ in
-    (s, at, record { unwritten = t₄; address = a; addressed = t₅; word = w; worded = t₆; loadsApart = t₇; storesApart = t₈; result = cc })
 
 write-given : (s : Store) (kind : Argument) (port : ℕ) → given kind port (ofStore s) ≡ given kind port (ofStore (storeDone s))
 write-given s LoadAddress port = refl
@@ -74,16 +47,16 @@ module _ (groups : List GroupPairs) (memory : List ℕ) (answered : List Answere
   })
     where
       a : ℕ
-      a = s .address
+      a = s .put .address
 
       w : ℕ
-      w = s .word
+      w = s .put .word
 
       seen′ : Seen groups answered (pre ++ ofStore it ∷ post)
       seen′ = subst (Seen groups answered) (l .log-is) seen
 
       unwritten : it .written ≡ false
-      unwritten = not-true (it .written) (s .unwritten)
+      unwritten = not-true (it .written) (s .may .unwritten)
 
       rightStores : allOf (rightStore (q .memoryLength)) (ownIn stores pre ++ it ∷ ownIn stores post) ≡ true
       rightStores = rw (l .log-is, ownIn-append stores pre (ofStore it ∷ post)) at (h .rightStores)
@@ -93,22 +66,22 @@ module _ (groups : List GroupPairs) (memory : List ℕ) (answered : List Answere
 
       right : rightStore (q .memoryLength) (storeDone it) ≡ true
       right =
-          and-both {a = isSome (it .address) && isSome (it .word)} (rw (s .addressed, s .worded))
+          and-both {a = isSome (it .address) && isSome (it .word)} (rw (s .may .addressed, s .may .worded))
           (store-in-range (q .memoryLength) it (all-middle (rightStore (q .memoryLength)) (ownIn stores pre) (ownIn stores post) it rightStores))
 
       loadsApart : allOf (loadGivesWay a) (ownIn loads pre) ≡ true
       loadsApart =
           before-log (l .before′) (loadGivesWay a) (λ n x. refl) (rightLoad (q .memoryLength))
           (λ x t f. or-left (isSome (x .value)) (addressApart a (x .address)) (implied (x .taken) (isSome (x .value)) (taken-served (q .memoryLength) x t) f))
-          (all-left (rightLoad (q .memoryLength)) (ownIn loads pre) (ownIn loads post) rightLoads) (s .loadsApart)
+          (all-left (rightLoad (q .memoryLength)) (ownIn loads pre) (ownIn loads post) rightLoads) (s .may .loadsApart)
 
       storesApart : allOf (storeGivesWay a) (ownIn stores pre) ≡ true
       storesApart =
           before-log (l .before) (storeGivesWay a) (λ n x. refl) (rightStore (q .memoryLength)) (λ x t f. or-left (x .written) (addressApart a (x .address)) f)
-          (all-left (rightStore (q .memoryLength)) (ownIn stores pre) (it ∷ ownIn stores post) rightStores) (s .storesApart)
+          (all-left (rightStore (q .memoryLength)) (ownIn stores pre) (it ∷ ownIn stores post) rightStores) (s .may .storesApart)
 
       agree : Agree (set m a w) memory (pre ++ ofStore (storeDone it) ∷ post)
-      agree = agree-write it post a w (s .addressed) (s .worded) unwritten pre m memory loadsApart storesApart (rw (l .log-is) at (h .agree))
+      agree = agree-write it post a w (s .may .addressed) (s .may .worded) unwritten pre m memory loadsApart storesApart (rw (l .log-is) at (h .agree))
 
 -- An accepted write keeps the invariant.
 pub write-keeps : (groups : List GroupPairs) (memory : List ℕ) (answered : List Answered) (m : Machine) → State groups memory answered m

@@ -18,7 +18,7 @@ use Rattle.queue.specs.Internal.{frameWith}
 use Rattle.queue.specs.InternalReady.{storeReadyAt}
 use Rattle.queue.proofs.SoundLaws.{loads-few, stores-few, store-before}
 use Rattle.queue.proofs.Serials.{oldest-small}
-use Rattle.queue.proofs.ReadyLaws.{Gathering, gathering-none, gathering-more, gathering-end, would-write-at, writable-record}
+use Rattle.queue.proofs.ReadyLaws.{Gathering, gathering-none, gathering-more, gathering-end, may-write-number, would-write-at, writable-record}
 use Rattle.queue.proofs.ready.writable_stores.Statement.{statement}
 use Rattle.queue.proofs.ready.writable_stores.Tie as tie
 
@@ -66,7 +66,11 @@ noted-requires c κs =
 loop-again : tie.Need-loop-again Inv-loop μ-loop
 loop-again c =
     let l = c .before .before .before in
-    (omega arith, gathering-more (l .before .loop .inv .1) (l .loop-test .taken) (ap (λ (n : ℕ). eqb n 0) (c .before .before .write-fault .ensures)) (c .before .noted .ensures) (c .wrapping-add-u32 .ensures))
+    let s = start (l .before .before) in
+    let now : eqb (c .before .before .write-fault .result) 0 ≡ storeReadyAt (s .args .load-entries .now) (s .args .store-entries .now) (l .before .loop .i) =
+    ap (λ (n : ℕ). eqb n 0) (c .before .before .write-fault .ensures)
+    ∙ sym (may-write-number (s .args .load-entries .now) (s .args .store-entries .now) (l .before .loop .i)) in
+    (omega arith, gathering-more (l .before .loop .inv .1) (l .loop-test .taken) now (c .before .noted .ensures) (c .wrapping-add-u32 .ensures))
 
 returns : tie.Need-returns Inv-loop μ-loop
 returns c t right =

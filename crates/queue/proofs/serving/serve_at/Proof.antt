@@ -3,6 +3,7 @@ use native.Mathlib.Nat.{le-trans}
 use native.Mathlib.Omega.{arith}
 use mathlib.Core.Path.{_≡_, sym, ap, subst, _∙_}
 use mathlib.Core.Bool.{true}
+use mathlib.Core.List.{List}
 use lib.ListN.{length}
 use borrow.Author.Tests.{not-true, not-false}
 use borrow.Author.Needs.{needs}
@@ -10,13 +11,16 @@ use Rattle.table.specs.declared.Table.{Table}
 use Rattle.queue.specs.declared.Entry.{Entry}
 use Rattle.queue.specs.declared.Queue.{Queue}
 use Rattle.queue.specs.declared.serving.Service.{Service}
-use Rattle.queue.specs.Contents.{contentsOf}
+use Rattle.queue.specs.declared.serving.Source as coded
+use Rattle.queue.specs.Ruled.{Ruled, accept, andThen}
+use Rattle.queue.specs.Contents.{Store, loadOf, contentsOf}
+use Rattle.queue.specs.Serve.{Served, Loaded, loadedFrom, mayServe, servedWith, serveAt}
 use Rattle.queue.specs.Outcome.{handedCounts}
 use Rattle.queue.specs.Parts.{queueOf, countedOf}
-use Rattle.queue.specs.Internal.{frameWith}
-use Rattle.queue.specs.InternalServe.{serveAt}
+use Rattle.queue.specs.Internal.{storesIn, frameWith}
+use Rattle.queue.specs.InternalServe.{sourceIn}
 use Rattle.queue.proofs.SoundLaws.{loads-few, stores-few, load-before, load-address}
-use Rattle.queue.proofs.ServeLaws.{bySupply, serve-none, serve-done, serve-no-address, serve-supplied, served-well}
+use Rattle.queue.proofs.ServeLaws.{may-again, may-no-address, may-load, serve-none, serve-held, served-well}
 use Rattle.queue.proofs.serving.serve_at.Statement.{statement}
 use Rattle.queue.proofs.serving.serve_at.Tie as tie
 
@@ -51,15 +55,35 @@ in-memory c a =
     rw (s .pre .1)
     (subst (λ (e : Entry). e .addressed ≡ true → e .address < s .args .outline .words) (sym (c .unpack .ensures)) (load-address (queueIn s) (s .pre .0 .right) (s .args .place) (held c .if1 .left)) a)
 
-supplied : (c : tie.After-supply-for) (t : Table) → let u = c .before .before .before .before .before in let s = start (held u) in
-    serveAt (contentsOf (queueWith t s)) (s .args .memory .now) (s .args .place) ≡ bySupply (contentsOf (queueWith t s)) (s .args .memory .now) (s .args .place) (u .unpack .result .address) (c .supply-for .result)
-supplied c t =
+-- what the rule says, once the place is one of the queue, and once the load's source is known
+abbrev byRule : Table → tie.After-unpack → Ruled Loaded → Ruled Served
+byRule t u x = andThen x λ v. accept (servedWith (contentsOf (queueWith t (start (held u)))) (start (held u) .args .place) v)
+
+abbrev before : tie.After-unpack → List Store
+before u = storesIn (u .unpack .result .before) (start (held u) .args .store-entries .now)
+
+may : (u : tie.After-unpack) (t : Table) → let s = start (held u) in
+    serveAt (contentsOf (queueWith t s)) (s .args .memory .now) (s .args .place)
+    ≡ byRule t u (mayServe (s .args .memory .now) (before u) (loadOf (u .unpack .result)))
+may u t =
+    let s = start (held u) in
+    serve-held (queueWith t s) (s .args .memory .now) (s .args .place) (held u .if1 .left)
+    (load-before (queueIn s) (s .pre .0 .right) (s .args .place) (held u .if1 .left))
+    ∙ ap (λ (e : Entry). byRule t u (mayServe (s .args .memory .now) (storesIn (e .before) (s .args .store-entries .now)) (loadOf e)))
+    (sym (u .unpack .ensures))
+
+sourced : (c : tie.After-source-of) (t : Table) (x : coded.Source) → c .source-of .result ≡ x
+    → let u = c .before .before .before .before .before in let s = start (held u) in
+    serveAt (contentsOf (queueWith t s)) (s .args .memory .now) (s .args .place)
+    ≡ byRule t u (loadedFrom (s .args .memory .now) (u .unpack .result .address) (sourceIn x))
+sourced c t x is =
     let e3 = c .before .before in
     let e2 = e3 .before .before in
     let u = e2 .before in
-    let s = start (held u) in
-    serve-supplied (queueWith t s) (s .args .memory .now) (s .args .place) (held u .if1 .left) (u .unpack .result) (sym (u .unpack .ensures)) (e2 .if2 .left) (not-false (u .unpack .result .addressed) (e3 .if3 .left)) (before-few u)
-    ∙ ap (bySupply (contentsOf (queueWith t s)) (s .args .memory .now) (s .args .place) (u .unpack .result .address)) (sym (c .supply-for .ensures))
+    may u t
+    ∙ ap (byRule t u)
+    (may-load (start (held u) .args .memory .now) (before u) (u .unpack .result) (e2 .if2 .left) (not-false (u .unpack .result .addressed) (e3 .if3 .left))
+    (ap sourceIn (sym is) ∙ c .source-of .ensures))
 
 returns : tie.Need-returns
 returns c t =
@@ -73,20 +97,27 @@ returns-2 : tie.Need-returns-2
 returns-2 c t =
     let u = c .before .before in
     let s = start (held u) in
-    rw (serve-done (queueWith t s) (s .args .memory .now) (s .args .place) (held u .if1 .left) (u .unpack .result) (sym (u .unpack .ensures)) (c .before .if2 .taken)) (ap (λ (r : Service). handedCounts (countedOf r (queueWith t s))) (c .unserved2 .ensures))
+    rw (may u t, may-again (s .args .memory .now) (before u) (u .unpack .result) (c .before .if2 .taken))
+    (ap (λ (r : Service). handedCounts (countedOf r (queueWith t s))) (c .unserved2 .ensures))
 
 returns-3 : tie.Need-returns-3
 returns-3 c t =
     let e2 = c .before .before .before in
     let u = e2 .before in
     let s = start (held u) in
-    rw (serve-no-address (queueWith t s) (s .args .memory .now) (s .args .place) (held u .if1 .left) (u .unpack .result) (sym (u .unpack .ensures)) (e2 .if2 .left) (not-true (u .unpack .result .addressed) (c .before .if3 .taken))) (ap (λ (r : Service). handedCounts (countedOf r (queueWith t s))) (c .unserved3 .ensures))
+    rw (may u t, may-no-address (s .args .memory .now) (before u) (u .unpack .result) (e2 .if2 .left) (not-true _ (c .before .if3 .taken)))
+    (ap (λ (r : Service). handedCounts (countedOf r (queueWith t s))) (c .unserved3 .ensures))
 
-supply-for-requires : tie.Need-supply-for-requires
-supply-for-requires c κs =
+source-of-requires : tie.Need-source-of-requires
+source-of-requires c κs =
     let u = c .before .before .before .before in
     let s = start (held u) in
     le-trans (before-few u) (omega (arith, stores-few (queueIn s) (s .pre .0 .right), s .pre .0 .stores-whole))
+
+served-requires : tie.Need-served-requires
+served-requires c κs =
+    let u = c .before .before .before .before .before .before .before .before .before in
+    le-trans (held u .if1 .left) (room (start (held u)))
 
 shared-slice-read-served : tie.Need-shared-slice-read-served
 shared-slice-read-served c =
@@ -94,44 +125,39 @@ shared-slice-read-served c =
     let u = e3 .before .before .before in
     in-memory u (not-false (u .unpack .result .addressed) (e3 .if3 .left))
 
-served-requires : tie.Need-served-requires
-served-requires c κs =
-    let u = c .before .before .before .before .before .before .before .before .before .before in
-    le-trans (held u .if1 .left) (room (start (held u)))
-
 served-requires-2 : tie.Need-served-requires-2
 served-requires-2 c κs =
-    let u = c .before .before .before .before .before .before .before .before .before in
+    let u = c .before .before .before .before .before .before .before .before .before .before in
     le-trans (held u .if1 .left) (room (start (held u)))
 
 returns-4 : tie.Need-returns-4
 returns-4 c t =
     let m = c .before .before .before in
     let s = start (held (m .before .before .before .before .before)) in
-    rw (supplied m t, c .before .enum-told .given .1) (ap (λ (r : Service). handedCounts (countedOf r (queueWith t s))) (c .unserved4 .ensures))
+    rw (sourced m t _ (c .before .enum-told .given .1)) (ap (λ (r : Service). handedCounts (countedOf r (queueWith t s))) (c .unserved4 .ensures))
 
 returns-5 : tie.Need-returns-5
 returns-5 c t =
-    let g = c .before .before in
-    let m = g .before .before .before .before .before .before in
-    let u = m .before .before .before .before .before in
-    let s = start (held u) in
-    rw (supplied m t, g .before .before .before .before .enum-told2 .given .1)
-    (served-well (queueWith t s) (s .args .counts) (s .args .place) _ _ (s .pre .0 .loads-whole) (few s) (held u .if1 .left) (g .served .ensures .0) (g .served .ensures .1))
+    let m = c .before .before .before in
+    let s = start (held (m .before .before .before .before .before)) in
+    rw (sourced m t _ (c .before .enum-told2 .given .1)) (ap (λ (r : Service). handedCounts (countedOf r (queueWith t s))) (c .unserved5 .ensures))
 
 returns-6 : tie.Need-returns-6
 returns-6 c t =
-    let m = c .before .before .before in
-    let s = start (held (m .before .before .before .before .before)) in
-    rw (supplied m t, c .before .enum-told3 .given .1) (ap (λ (r : Service). handedCounts (countedOf r (queueWith t s))) (c .unserved5 .ensures))
-
-returns-7 : tie.Need-returns-7
-returns-7 c t =
     let g = c .before .before in
     let m = g .before .before .before .before .before in
     let u = m .before .before .before .before .before in
     let s = start (held u) in
-    rw (supplied m t, g .before .before .before .word .given .1)
+    rw (sourced m t _ (g .before .before .before .word .given .1))
+    (served-well (queueWith t s) (s .args .counts) (s .args .place) _ _ (s .pre .0 .loads-whole) (few s) (held u .if1 .left) (g .served .ensures .0) (g .served .ensures .1))
+
+returns-7 : tie.Need-returns-7
+returns-7 c t =
+    let g = c .before .before in
+    let m = g .before .before .before .before .before .before in
+    let u = m .before .before .before .before .before in
+    let s = start (held u) in
+    rw (sourced m t _ (g .before .before .before .before .enum-told3 .given .1))
     (served-well (queueWith t s) (s .args .counts) (s .args .place) _ _ (s .pre .0 .loads-whole) (few s) (held u .if1 .left) (g .served2 .ensures .0) (g .served2 .ensures .1))
 
 pub serve-at-spec : {M : Type 1} → statement M
@@ -149,21 +175,21 @@ serve-at-spec =
     (λ c κs. search needs)
     returns-3
     (λ c. search needs)
-    supply-for-requires
+    source-of-requires
     (λ c. search needs)
     (λ c κs. search needs)
+    (λ c. search needs)
+    (λ c κs. search needs)
+    (λ c. search needs)
+    served-requires
     (λ c. search needs)
     (λ c. search needs)
     (λ c. search needs)
     shared-slice-read-served
-    served-requires
-    (λ c. search needs)
-    (λ c κs. search needs)
-    (λ c. search needs)
     served-requires-2
     returns-4
-    (λ c. search needs)
     returns-5
+    (λ c. search needs)
     returns-6
     (λ c. search needs)
     returns-7)

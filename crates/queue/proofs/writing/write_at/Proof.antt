@@ -13,11 +13,11 @@ use Rattle.queue.specs.declared.answering.Step.{Step}
 use Rattle.queue.specs.Entry.{entryOf, numberOf}
 use Rattle.queue.specs.Ruled.{accept, andThen}
 use Rattle.queue.specs.Contents.{storeOf, storeIn, contentsOf}
-use Rattle.queue.specs.Write.{storeDone, settle}
+use Rattle.queue.specs.Write.{storeDone, settle, writtenWith, writeAt}
 use Rattle.queue.specs.Outcome.{Handed, handed}
 use Rattle.queue.specs.Parts.{queueOf, outcomeOf}
 use Rattle.queue.specs.Internal.{loadsIn, storesIn, frameWith}
-use Rattle.queue.specs.InternalWrite.{mayWriteAt, writtenWith, writeAt}
+use Rattle.queue.specs.InternalWrite.{mayWriteAt}
 use Rattle.queue.proofs.ContentsLaws.{store-anew}
 use Rattle.queue.proofs.EntryLaws.{done, done-number}
 use Rattle.queue.proofs.SoundLaws.{loads-few, stores-few, store-before, store-address}

@@ -9,9 +9,9 @@ use Rattle.queue.specs.declared.Entry.{Entry}
 use Rattle.queue.specs.declared.entries.Mark.the-variants.{Filled, Finished}
 use Rattle.queue.specs.Ruled.{number}
 use Rattle.queue.specs.Contents.{Load, Store, loadOf, storeOf}
-use Rattle.queue.specs.Write.{loadGivesWay, storeGivesWay}
+use Rattle.queue.specs.Write.{loadGivesWay, storeGivesWay, mayWrite}
 use Rattle.queue.specs.Internal.{loadsIn, storesIn}
-use Rattle.queue.specs.InternalWrite.{givesWay, mayWrite, mayWriteAt}
+use Rattle.queue.specs.InternalWrite.{givesWay, mayWriteAt}
 use Rattle.queue.proofs.EntryLaws.{side-all-same, load-gives-way, store-gives-way}
 use Rattle.queue.proofs.WriteLaws.{may-not-again, may-no-address, may-no-data, may-load, may-store, may-put}
 use Rattle.queue.proofs.writing.write_fault.Statement.{statement}

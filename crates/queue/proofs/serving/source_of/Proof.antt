@@ -1,22 +1,21 @@
--- The stores before the ith have an address, and `found` is what they supply; the rest is still to be walked.
+-- The stores before the ith have an address, and `found` is the source that they leave; the rest is still to be walked.
 use Prim.Native.Nat.{_≤_, _-_, _+_}
 use mathlib.Core.Path.{_≡_, sym, ap, _∙_}
-use mathlib.Core.Bool.{true}
 use mathlib.Core.List.{List, _∷_}
 use native.Mathlib.Omega.{arith}
 use lib.ListN.{drop}
 use borrow.Author.Needs.{needs}
 use Rattle.queue.specs.declared.Entry.{Entry}
 use Rattle.queue.specs.Contents.{Store, storeOf, storeIn}
-use Rattle.queue.specs.Serve.{hasAddress}
 use Rattle.queue.specs.Internal.{storesIn}
+use Rattle.queue.specs.InternalServe.{sourceIn}
 use Rattle.queue.proofs.ContentsLaws.{side-here, side-end}
-use Rattle.queue.proofs.SupplyLaws.{address-lacking, address-known, Supplying, supplying-none, supplying-stop, supplying-more, supplying-on, supplying-end}
-use Rattle.queue.proofs.serving.supply_for.Statement.{statement}
-use Rattle.queue.proofs.serving.supply_for.Tie as tie
+use Rattle.queue.proofs.SourceLaws.{Walked, walked-none, walked-stop, walked-nearer, walked-on, walked-end}
+use Rattle.queue.proofs.serving.source_of.Statement.{statement}
+use Rattle.queue.proofs.serving.source_of.Tie as tie
 
 abbrev Inv-loop : tie.InvT-loop
-Inv-loop entries n address found₀ i₀ found i = (i ≤ n) × Supplying address (storesIn n entries) i found
+Inv-loop entries n address found₀ i₀ found i = (i ≤ n) × Walked address (storesIn n entries) i (sourceIn found)
 
 abbrev μ-loop : tie.MeasureT-loop
 μ-loop entries n address found₀ i₀ found i = n - i
@@ -33,34 +32,32 @@ here c =
     side-here storeIn 0 _ _ _ (c .before .before .loop-test .taken)
     ∙ ap (λ (e : Entry). storeOf e ∷ drop (turn c .loop .i + 1) (walked (turn c .before .before))) (sym (c .unpack .ensures))
 
-known : (c : tie.Else1 Inv-loop μ-loop) → hasAddress (storeOf (c .before .before .unpack .result)) ≡ true
-known c = address-known (c .before .before .unpack .result) (c .if1 .left)
-
 loop-holds : tie.Need-loop-holds Inv-loop μ-loop
-loop-holds c = (search needs, supplying-none)
+loop-holds c = (search needs, walked-none)
 
 returns : tie.Need-returns Inv-loop μ-loop
 returns c =
     let u = c .before .before in
-    supplying-stop (turn u .loop .inv .1) (here u) (address-lacking (u .unpack .result) (c .if1 .taken))
+    walked-stop (turn u .loop .inv .1) (u .unpack .result) (here u) (c .if1 .taken)
 
 loop-again : tie.Need-loop-again Inv-loop μ-loop
 loop-again c =
     let k = c .before .before .before in
     let u = k .before .before in
-    (omega arith, supplying-more (turn u .loop .inv .1) (here u) (known k) (sym (c .before .before .supplies-address .ensures) ∙ c .before .if2 .taken) (c .word-from .ensures))
+    let nearer = sym (c .before .before .unwritten-to .ensures) ∙ c .before .if2 .taken in
+    (omega arith, walked-nearer (turn u .loop .inv .1) (u .unpack .result) (here u) (k .if1 .left) nearer (c .from-store .ensures))
 
 loop-again-2 : tie.Need-loop-again-2 Inv-loop μ-loop
 loop-again-2 c =
     let k = c .before .before in
     let u = k .before .before in
-    (omega arith, supplying-on (turn u .loop .inv .1) (here u) (known k) (sym (c .before .supplies-address .ensures) ∙ c .if2 .left))
+    (omega arith, walked-on (turn u .loop .inv .1) (u .unpack .result) (here u) (k .if1 .left) (sym (c .before .unwritten-to .ensures) ∙ c .if2 .left))
 
 returns-2 : tie.Need-returns-2 Inv-loop μ-loop
-returns-2 c = supplying-end (c .before .loop .inv .1) (side-end storeIn 0 _ (c .before .before .before .args .entries .now) _ (c .loop-test .left))
+returns-2 c = walked-end (c .before .loop .inv .1) (side-end storeIn 0 _ (c .before .before .before .args .entries .now) _ (c .loop-test .left))
 
-pub supply-for-spec : {M : Type 1} → statement M
-supply-for-spec =
+pub source-of-spec : {M : Type 1} → statement M
+source-of-spec =
     tie.close
     (tie.spec
     Inv-loop

@@ -1,5 +1,5 @@
 -- What the code that gathers ready serials is written with.
-use Prim.Native.Nat.{ℕ, _+_, _≤_}
+use Prim.Native.Nat.{ℕ, _+_, _≤_, _<_}
 use mathlib.Core.Path.{_≡_}
 use mathlib.Core.Bool.{Bool, true, false, not, _&&_}
 use mathlib.Core.List.{List, [], _∷_, _++_}
@@ -8,6 +8,8 @@ use lib.Dec.{eqb, leb}
 use lib.ListN.{length, getD, take, drop}
 use Rattle.table.specs.Basics.{pick}
 use Rattle.table.specs.Refusal.{tooShort}
+use Rattle.queue.specs.declared.Kind.{Kind}
+use Rattle.queue.specs.declared.Kind.the-variants.{Load as load, Store as store}
 use Rattle.queue.specs.declared.serving.Supply.{Supply}
 use Rattle.queue.specs.declared.serving.Supply.the-variants.{Unknown, NoStore, NoWord, Forwarded}
 use Rattle.queue.specs.declared.ready.Serials.{Serials}
@@ -34,12 +36,18 @@ addressReady ss (some a) = supplyReady (supplyFrom a ss)
 abbrev pub loadReady : List Store → Load → Bool
 loadReady ss l = not (isSome (l .value)) && addressReady ss (l .address)
 
--- the load, the store, at a place: would it be served, would it be written
-abbrev pub loadReadyAt : List ℕ → List ℕ → ℕ → Bool
-loadReadyAt loads stores i = loadReady (storesIn (entryOf (getD loads i 0) .before) stores) (loadIn (getD loads i 0))
+-- the load, or the store, at a place: would it be served, or written
+abbrev pub readyAt : Kind → List ℕ → List ℕ → ℕ → Bool
+readyAt load loads stores i = loadReady (storesIn (entryOf (getD loads i 0) .before) stores) (loadIn (getD loads i 0))
+readyAt store loads stores i = eqb (number (mayWriteAt loads stores i)) 0
 
-abbrev pub storeReadyAt : List ℕ → List ℕ → ℕ → Bool
-storeReadyAt loads stores i = eqb (number (mayWriteAt loads stores i)) 0
+-- the place is within its own array, and as many of the other kind as the entry remembers are within theirs
+abbrev pub Reaches : List ℕ → List ℕ → ℕ → Type 0
+Reaches own others i = (i < length own) × (entryOf (getD own i 0) .before ≤ length others)
+
+abbrev pub InReach : Kind → List ℕ → List ℕ → ℕ → Type 0
+InReach load loads stores i = Reaches loads stores i
+InReach store loads stores i = Reaches stores loads i
 
 -- serials in an array
 abbrev pub listed : Serials → List ℕ

@@ -8,8 +8,7 @@ use Rattle.table.specs.Refusal.{badGroupCount}
 use Rattle.table.specs.Table.{groupsOf, tableFault}
 use Rattle.table.specs.TableBytes.{pack}
 use Rattle.queue.specs.declared.opening.OpenedFrame.{OpenedFrame}
-use Rattle.queue.specs.NoQueue.{noFrame}
-use Rattle.queue.specs.Open.{openQueue}
+use Rattle.queue.specs.Open.{noFrame, openQueue}
 use Rattle.queue.specs.Parts.{OpensFrame}
 use Rattle.queue.specs.declared.Queue.{Queue}
 use Rattle.queue.specs.declared.Frame.{Frame}

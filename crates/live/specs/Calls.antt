@@ -12,11 +12,10 @@ use Rattle.queue.specs.declared.Counts.{Counts}
 use Rattle.queue.specs.declared.Readied.{Readied}
 use Rattle.queue.specs.Ruled.{Ruled, refuse, accept, andThen}
 use Rattle.queue.specs.Contents.{Contents, contentsOf}
-use Rattle.queue.specs.Open.{openQueue}
+use Rattle.queue.specs.Open.{openQueue, freshFrame}
 use Rattle.queue.specs.Serve.{Served}
 use Rattle.queue.specs.Write.{Written}
 use Rattle.queue.specs.Take.{Taken}
-use Rattle.queue.specs.NoQueue.{freshFrame}
 use Rattle.queue.specs.Parts.{queueOf, OpensFrame}
 use Rattle.replay.specs.Playing.{givenIn, wordIn}
 use Rattle.live.specs.declared.calls.LiveOpened.{LiveOpened}

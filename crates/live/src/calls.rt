@@ -11,9 +11,9 @@ ghost use Rattle.queue.specs.Arguments.{loadAddress, storeAddress, storeData};
 ghost use Rattle.queue.specs.Serve.{serve};
 ghost use Rattle.queue.specs.Write.{write};
 ghost use Rattle.queue.specs.Take.{takeRule};
-ghost use Rattle.queue.specs.Ready.{readyLoads, readyStores};
+ghost use Rattle.queue.specs.declared.Kind.the-variants.{Load as load, Store as store};
+ghost use Rattle.queue.specs.Ready.{ready, Readies};
 ghost use Rattle.queue.specs.Outcome.{Moves};
-ghost use Rattle.queue.specs.ReadyOutcome.{Readies};
 ghost use Rattle.queue.specs.Parts.{whole, onParts, queueOf, answered};
 ghost use Rattle.queue.specs.Ruled.{andThen};
 ghost use Rattle.replay.specs.Playing.{afterServe};
@@ -21,6 +21,7 @@ ghost use Rattle.live.specs.Calls.{LiveOpens, toldStep, toldService, Tel
 ghost use Rattle.live.specs.Internal.{liveStep, liveService};
 use queue::Counts;
 use queue::Frame;
+use queue::Kind;
 use queue::Side;
 use queue::activation::activate_in;
 use queue::answering::Step;
@@ -29,8 +30,7 @@ use queue::arguments::load_address_in;
 use queue::arguments::store_address_in;
 use queue::arguments::store_data_in;
 use queue::opening::open_in;
-use queue::ready::ready_loads_in;
-use queue::ready::ready_stores_in;
+use queue::ready::ready_in;
 use queue::serving::Service;
 use queue::serving::serve_in;
 use queue::sound::sound_in;
@@ -347,17 +347,18 @@ pub extern "C" fn lsq_ready_loads_in(
     out: &mut [u32],
 ) -> LiveReady
     ensures { λ r. ⌜ (let q = queueOf frame (now (loads .entry)) (now (stores .entry)) in
-        let rule = onParts (now (loads .entry)) (now (stores .entry)) (readyLoads (contentsOf q) (now (out .entry))) in
+        let rule = onParts (now (loads .entry)) (now (stores .entry)) (ready load (contentsOf q) (now (out .entry))) in
         Readies q (now (out .entry)) rule (readiedOf r q) (now (out .exit))) ⌝ }
 {
     let outline = outline_of(frame);
-    let ready = ready_loads_in(
+    let ready = ready_in(
         outline,
         &frame.table.groups,
         &frame.table.loads,
         &frame.table.stores,
         loads,
         stores,
+        Kind::Load,
         out,
     );
     LiveReady {
@@ -375,17 +376,18 @@ pub extern "C" fn lsq_ready_stores_in(
     out: &mut [u32],
 ) -> LiveReady
     ensures { λ r. ⌜ (let q = queueOf frame (now (loads .entry)) (now (stores .entry)) in
-        let rule = onParts (now (loads .entry)) (now (stores .entry)) (readyStores (contentsOf q) (now (out .entry))) in
+        let rule = onParts (now (loads .entry)) (now (stores .entry)) (ready store (contentsOf q) (now (out .entry))) in
         Readies q (now (out .entry)) rule (readiedOf r q) (now (out .exit))) ⌝ }
 {
     let outline = outline_of(frame);
-    let ready = ready_stores_in(
+    let ready = ready_in(
         outline,
         &frame.table.groups,
         &frame.table.loads,
         &frame.table.stores,
         loads,
         stores,
+        Kind::Store,
         out,
     );
     LiveReady {

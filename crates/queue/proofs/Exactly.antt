@@ -10,19 +10,19 @@ use lib.ListN.{length}
 use borrow.Author.Tests.{eqb-true, eqb-false, lt-ltb, le-ltb, ltb-true, ltb-false, leb-true}
 use Rattle.table.specs.Basics.{pick, anyOf, allOf, keepWhere}
 use Rattle.table.specs.Table.{tableFault}
-use Rattle.queue.specs.Ruled.{number}
-use Rattle.queue.specs.Contents.{Contents, after, age, oldest, loadPlace, storePlace}
+use Rattle.queue.specs.declared.Kind.{Kind}
+use Rattle.queue.specs.declared.Kind.the-variants.{Load as load, Store as store}
+use Rattle.queue.specs.Refusal.{unsound}
+use Rattle.queue.specs.Contents.{Contents, after, age}
 use Rattle.queue.specs.Sound.{depthRight, memoryRight, loadRight, storeRight, sound}
 use Rattle.queue.specs.Serve.{serve}
 use Rattle.queue.specs.Write.{write}
-use Rattle.queue.specs.Ready.{serials, wouldServe, wouldWrite, servable, writable}
-use Rattle.queue.specs.ReadyExact.{ServableExactly, WritableExactly}
+use Rattle.queue.specs.Ready.{serials, countOf, oldestOf, answerTo, anyMemory, would, readySerials, ReadyExactly}
 use Rattle.queue.proofs.Lists.{and-right}
 use Rattle.queue.proofs.ContentsLaws.{getElem?-past}
 use Rattle.queue.proofs.SoundLaws.{Parts, parts}
 use Rattle.queue.proofs.Serials.{oldest-small}
-use Rattle.queue.proofs.Refusals.{serve-proper, write-proper}
-use Rattle.queue.proofs.ReadyLaws.{readyIn, writableIn, serve-ready, would-serve, write-ready, would-write, accepted-number}
+use Rattle.queue.proofs.ReadyLaws.{readyIn, writableIn, standsReady, answer-ready, would-ready}
 
 -- ---- which serials run from a first one on
 age-step : (serial from : ℕ) → serial < 2 ^ 32 → from < 2 ^ 32 → (serial ≡ from → ⊥) → age from serial ≡ age (after from 1) serial + 1
@@ -98,37 +98,31 @@ module _ (q : Contents) (right : sound q ≡ true) where
   unfolding sound
   parted = parts _ _ _ _ _ _ _ _ right
 
-  few-loads : length (q .loads) ≤ 64
-  few-loads = le-trans (leb-true _ _ (parted .part4)) (leb-true _ _ (and-right (leb 1 (q .loadDepth)) _ (parted .part1)))
+  few : (kind : Kind) → countOf kind q ≤ 64
+  few load = le-trans (leb-true _ _ (parted .part4)) (leb-true _ _ (and-right (leb 1 (q .loadDepth)) _ (parted .part1)))
+  few store = le-trans (leb-true _ _ (parted .part5)) (leb-true _ _ (and-right (leb 1 (q .storeDepth)) _ (parted .part2)))
 
-  few-stores : length (q .stores) ≤ 64
-  few-stores = le-trans (leb-true _ _ (parted .part5)) (leb-true _ _ (and-right (leb 1 (q .storeDepth)) _ (parted .part2)))
+-- what an unsound queue answers, and what stands past a queue's entries
+answer-unsound : (kind : Kind) (q : Contents) (memory : List ℕ) (serial : ℕ) → sound q ≡ false → answerTo kind q memory serial ≡ unsound
+unfolding serve write
+answer-unsound load q memory serial e = rw e
+answer-unsound store q memory serial e = rw e
 
--- ---- the statements
-pub servable-exactly : ServableExactly
-unfolding servable serve
-servable-exactly q memory serial e h = go (sound q) refl
+past-ready : (kind : Kind) (q : Contents) (place : ℕ) → countOf kind q ≤ place → standsReady kind q place ≡ false
+past-ready load q place h = ap (readyIn q) (getElem?-past (q .loads) place h)
+past-ready store q place h = ap (writableIn q place) (getElem?-past (q .stores) place h)
+
+pub ready-exactly : ReadyExactly
+unfolding readySerials
+ready-exactly kind q memory serial e h = go (sound q) refl
   where
-    go : (t : Bool) → sound q ≡ t → anyOf (eqb serial) (servable q) ≡ eqb (number (serve q memory serial)) 0
-    go false d = none-in (wouldServe q) serial (serials (oldest (q .nextLoad) (length (q .loads))) (length (q .loads))) (rw d) ∙ rw d
+    go : (t : Bool) → sound q ≡ t → anyOf (eqb serial) (readySerials kind q) ≡ eqb (answerTo kind q memory serial) 0
+    go false d =
+        none-in (would kind q) serial (serials (oldestOf kind q) (countOf kind q)) (rw (answer-unsound kind q (anyMemory q) serial d))
+        ∙ rw (answer-unsound kind q memory serial d)
     go true d =
-        let few = few-loads q d in
-        in-list (wouldServe q) serial (oldest (q .nextLoad) (length (q .loads))) (length (q .loads)) h (oldest-small (q .nextLoad) (length (q .loads))) (omega arith)
-        (λ past. would-serve q d serial ∙ ap (readyIn q) (getElem?-past (q .loads) (loadPlace q serial) past))
-        ∙ would-serve q d serial
-        ∙ sym (serve-ready q d serial memory e)
-        ∙ accepted-number (serve q memory serial) (serve-proper q memory serial)
-
-pub writable-exactly : WritableExactly
-unfolding writable write
-writable-exactly q memory serial e h = go (sound q) refl
-  where
-    go : (t : Bool) → sound q ≡ t → anyOf (eqb serial) (writable q) ≡ eqb (number (write q memory serial)) 0
-    go false d = none-in (wouldWrite q) serial (serials (oldest (q .nextStore) (length (q .stores))) (length (q .stores))) (rw d) ∙ rw d
-    go true d =
-        let few = few-stores q d in
-        in-list (wouldWrite q) serial (oldest (q .nextStore) (length (q .stores))) (length (q .stores)) h (oldest-small (q .nextStore) (length (q .stores))) (omega arith)
-        (λ past. would-write q d serial ∙ ap (writableIn q (storePlace q serial)) (getElem?-past (q .stores) (storePlace q serial) past))
-        ∙ would-write q d serial
-        ∙ sym (write-ready q d serial memory e)
-        ∙ accepted-number (write q memory serial) (write-proper q memory serial)
+        let most = few q d kind in
+        in-list (would kind q) serial (oldestOf kind q) (countOf kind q) h (oldest-small _ _) (omega arith)
+        (λ past. would-ready q d serial kind ∙ past-ready kind q _ past)
+        ∙ would-ready q d serial kind
+        ∙ sym (answer-ready q d serial kind memory e)

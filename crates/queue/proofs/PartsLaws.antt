@@ -14,7 +14,7 @@ use Rattle.queue.specs.Refusal.{unsound}
 use Rattle.queue.specs.Ruled.{Ruled, refuse, accept, need}
 use Rattle.queue.specs.Contents.{Contents, contentsOf}
 use Rattle.queue.specs.Sound.{sound}
-use Rattle.queue.specs.NoQueue.{freshQueue, noQueue}
+use Rattle.queue.specs.Open.{freshQueue, noQueue}
 use Rattle.queue.specs.Outcome.{Opens}
 use Rattle.queue.specs.Parts.{whole, onParts, OnWholeRuns, OpensFrame}
 use Rattle.queue.proofs.Lists.{and-left, and-right}

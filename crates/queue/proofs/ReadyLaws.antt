@@ -1,18 +1,21 @@
 -- What serve and write accept goes by the entry and the entries before it, and not by the memory's words; and the serials that
 -- pass, gathered from the oldest.
 use Prim.Native.Nat.{ℕ, zero, suc, _+_, _-_, _^_, _≤_, _<_}
-use native.Mathlib.Nat.{sub-zero, not-suc-le-zero, le-of-suc-le-suc}
+use native.Mathlib.Nat.{sub-zero, not-suc-le-zero, le-of-suc-le-suc, le-trans}
 use native.Mathlib.Numerals.{add-one}
 use native.Mathlib.Omega.{arith}
-use mathlib.Core.Path.{_≡_, refl, sym, ap, _∙_}
-use mathlib.Core.Bool.{Bool, true, false, not}
+use mathlib.Core.Path.{_≡_, refl, sym, ap, ap₂, _∙_}
+use mathlib.Core.Bool.{Bool, true, false, not, _&&_}
 use mathlib.Core.List.{List, [], _∷_, _++_, append-assoc, append-nil}
 use mathlib.Core.Option.{Option, none, some}
 use lib.Dec.{eqb, leb}
 use lib.ListN.{length, getD, take, drop, set, length-append, length-drop, length-replicate, getElem?}
 use lib.Seq.{length-take-le, take-append-seam}
 use borrow.Author.Tests.{not-true}
-use Rattle.table.specs.Basics.{pick, keepWhere}
+use Rattle.table.specs.Basics.{pick, allOf, keepWhere}
+use Rattle.queue.specs.declared.Kind.{Kind}
+use Rattle.queue.specs.declared.Kind.the-variants.{Load as load, Store as store}
+use Rattle.queue.specs.declared.Side.{Side}
 use Rattle.queue.specs.declared.ready.Serials.{Serials}
 use Rattle.queue.specs.declared.ready.ReadyCount.{ReadyCount}
 use Rattle.queue.specs.declared.Entry.{Entry}
@@ -21,20 +24,21 @@ use Rattle.queue.specs.declared.Readied.{Readied}
 use Rattle.table.specs.Refusal.{tooShort}
 use Rattle.queue.specs.Refusal.{unsound, noSerial}
 use Rattle.queue.specs.Ruled.{Ruled, refuse, accept, need, have, andThen, accepted, isSome, number}
-use Rattle.queue.specs.Contents.{Load, Store, Contents, loadOf, loadIn, storeIn, contentsOf, after, oldest, loadPlace, storePlace}
+use Rattle.queue.specs.Contents.{Load, Store, Contents, loadOf, loadIn, storeIn, contentsOf, after, age, oldest, loadPlace, storePlace}
 use Rattle.queue.specs.Entry.{entryOf}
 use Rattle.queue.specs.Sound.{sound}
 use Rattle.queue.specs.Serve.{Source, unknown, fromStore, fromMemory, source, loadedFrom, mayServe, servedWith, storesBefore, serveAt, serve}
 use Rattle.queue.specs.Write.{mayWrite, writtenWith, writeAt, write}
-use Rattle.queue.specs.Ready.{serials, anyMemory, wouldServe, wouldWrite, servable, writable, readyLoads, readyStores}
-use Rattle.queue.specs.ReadyOutcome.{Readies, Fronts}
+use Rattle.queue.specs.Kind.{ofKind}
+use Rattle.queue.specs.Ready.{serials, countOf, oldestOf, answerTo, anyMemory, would, readySerials, ready, Readies, Fronts}
 use Rattle.queue.specs.Parts.{readiedOf}
 use Rattle.queue.specs.Internal.{loadsIn, storesIn}
 use Rattle.queue.specs.InternalWrite.{mayWriteAt}
-use Rattle.queue.specs.InternalReady.{loadReady, loadReadyAt, storeReadyAt, listed, Noted, Lists, HandedOut}
-use Rattle.queue.proofs.ContentsLaws.{side-length, side-getElem?, side-take, loads-held, stores-held, load-place, store-place}
-use Rattle.queue.proofs.Refusals.{proper, need-same, have-same, may-write-proper}
+use Rattle.queue.specs.InternalReady.{loadReady, readyAt, InReach, listed, Noted, Lists, HandedOut}
+use Rattle.queue.proofs.ContentsLaws.{side-getElem?, side-take, loads-held, stores-held, loads-count, stores-count}
+use Rattle.queue.proofs.Refusals.{proper, need-same, have-same, may-write-proper, serve-proper, write-proper}
 use Rattle.queue.proofs.Serials.{place-of-serial, oldest-small}
+use Rattle.queue.proofs.SoundLaws.{loads-few, stores-few, load-before, store-before}
 use Rattle.queue.proofs.ServeLaws.{serve-by-place}
 use Rattle.queue.proofs.WriteLaws.{write-by-place, write-held}
 
@@ -66,30 +70,6 @@ serve-accepts q memory place = go (getElem? (q .loads) place)
     go none = refl
     go (some l) = then-accepts (mayServe memory (storesBefore q l) l) (servedWith q place) ∙ may-any memory [] (storesBefore q l) l
 
-module _ (q : Contents) (right : sound q ≡ true) (serial : ℕ) where
-  pub serve-ready : (memory : List ℕ) → length memory ≡ q .memoryLength → accepted (serve q memory serial) ≡ readyIn q (getElem? (q .loads) (loadPlace q serial))
-  serve-ready memory e = ap accepted (serve-by-place q memory serial right e) ∙ serve-accepts q memory (loadPlace q serial)
-
-  pub would-serve : wouldServe q serial ≡ readyIn q (getElem? (q .loads) (loadPlace q serial))
-  would-serve = serve-ready (anyMemory q) (length-replicate (q .memoryLength) 0)
-
--- the load at a place of a record
-pub would-serve-at : (q : Queue) → sound (contentsOf q) ≡ true
-    → (i : ℕ) → i < q .frame .loads .count → i < 2 ^ 32 → entryOf (getD (q .«load_entries») i 0) .before ≤ q .frame .stores .count
-    → wouldServe (contentsOf q) (after (oldest (q .frame .loads .next) (q .frame .loads .count)) i)
-    ≡ loadReadyAt (q .«load_entries») (q .«store_entries») i
-would-serve-at q right i k small b =
-    let e : Entry = entryOf (getD (q .«load_entries») i 0) in
-    let from : ℕ = oldest (q .frame .loads .next) (q .frame .loads .count) in
-    let p : loadPlace (contentsOf q) (after from i) ≡ i = load-place q (after from i) ∙ place-of-serial from i (oldest-small (q .frame .loads .next) (q .frame .loads .count)) small in
-    let here : getElem? (contentsOf q .loads) i ≡ some (loadOf e) = ap (λ (l : List Load). getElem? l i) (loads-held q) ∙ side-getElem? loadIn 0 (q .frame .loads .count) (q .«load_entries») i k in
-    let ss : take (e .before) (contentsOf q .stores) ≡ storesIn (e .before) (q .«store_entries») =
-    ap (take (e .before)) (stores-held q) ∙ side-take storeIn 0 (q .frame .stores .count) (q .«store_entries») (e .before) b in
-    would-serve (contentsOf q) right (after from i)
-    ∙ ap (λ (n : ℕ). readyIn (contentsOf q) (getElem? (contentsOf q .loads) n)) p
-    ∙ ap (readyIn (contentsOf q)) here
-    ∙ ap (λ (l : List Store). loadReady l (loadOf e)) ss
-
 -- ---- writing
 abbrev pub writableIn : Contents → ℕ → Option Store → Bool
 writableIn q place none = false
@@ -99,39 +79,85 @@ write-accepts : (q : Contents) (memory : List ℕ) (place : ℕ) → accepted (w
 write-accepts q memory place = go (getElem? (q .stores) place)
   where
     go : (o : Option Store)
-        → accepted (have o noSerial λ s. andThen (mayWrite (take (s .before) (q .loads)) (take place (q .stores)) s) λ p. accept (writtenWith q memory place p)) ≡ writableIn q place o
+        → accepted (have o noSerial λ s.
+        andThen (mayWrite (take (s .before) (q .loads)) (take place (q .stores)) s) λ p. accept (writtenWith q memory place p))
+        ≡ writableIn q place o
     go none = refl
     go (some s) = then-accepts (mayWrite (take (s .before) (q .loads)) (take place (q .stores)) s) (writtenWith q memory place)
 
-module _ (q : Contents) (right : sound q ≡ true) (serial : ℕ) where
-  pub write-ready : (memory : List ℕ) → length memory ≡ q .memoryLength → accepted (write q memory serial) ≡ writableIn q (storePlace q serial) (getElem? (q .stores) (storePlace q serial))
-  write-ready memory e = ap accepted (write-by-place q memory serial right e) ∙ write-accepts q memory (storePlace q serial)
-
-  pub would-write : wouldWrite q serial ≡ writableIn q (storePlace q serial) (getElem? (q .stores) (storePlace q serial))
-  would-write = write-ready (anyMemory q) (length-replicate (q .memoryLength) 0)
-
+-- ---- either: what stands at a serial's place decides, whatever the memory's words
 -- it is answered 0 where it is accepted
-pub accepted-number : {A : Type 0} (x : Ruled A) → proper x ≡ true → accepted x ≡ eqb (number x) 0
-accepted-number (refuse n) h = sym (not-true (eqb n 0) h)
+accepted-number : {A : Type 0} (x : Ruled A) → proper x ≡ true → eqb (number x) 0 ≡ accepted x
+accepted-number (refuse n) h = not-true (eqb n 0) h
 accepted-number (accept a) h = refl
 
-pub may-write-number : (loads stores : List ℕ) (i : ℕ) → accepted (mayWriteAt loads stores i) ≡ eqb (number (mayWriteAt loads stores i)) 0
-may-write-number loads stores i =
+pub write-fault-ready : (loads stores : List ℕ) (i : ℕ) → eqb (number (mayWriteAt loads stores i)) 0 ≡ accepted (mayWriteAt loads stores i)
+write-fault-ready loads stores i =
     accepted-number (mayWriteAt loads stores i)
     (may-write-proper (loadsIn (entryOf (getD stores i 0) .before) loads) (storesIn i stores) (storeIn (getD stores i 0)))
 
--- the store at a place of a record
-pub would-write-at : (q : Queue) → sound (contentsOf q) ≡ true
-    → (i : ℕ) → i < q .frame .stores .count → i < 2 ^ 32 → entryOf (getD (q .«store_entries») i 0) .before ≤ q .frame .loads .count
-    → wouldWrite (contentsOf q) (after (oldest (q .frame .stores .next) (q .frame .stores .count)) i) ≡ storeReadyAt (q .«load_entries») (q .«store_entries») i
-would-write-at q right i k small b =
-    let from : ℕ = oldest (q .frame .stores .next) (q .frame .stores .count) in
-    let p : storePlace (contentsOf q) (after from i) ≡ i = store-place q (after from i) ∙ place-of-serial from i (oldest-small (q .frame .stores .next) (q .frame .stores .count)) small in
-    let m : List ℕ = anyMemory (contentsOf q) in
-    ap accepted (write-by-place (contentsOf q) m (after from i) right (length-replicate (contentsOf q .memoryLength) 0))
-    ∙ ap (λ (n : ℕ). accepted (writeAt (contentsOf q) m n)) p
-    ∙ ap accepted (write-held q m i k b)
-    ∙ then-accepts (mayWriteAt (q .«load_entries») (q .«store_entries») i) (writtenWith (contentsOf q) m i)
+abbrev pub standsReady : Kind → Contents → ℕ → Bool
+standsReady load q place = readyIn q (getElem? (q .loads) place)
+standsReady store q place = writableIn q place (getElem? (q .stores) place)
+
+module _ (q : Contents) (right : sound q ≡ true) (serial : ℕ) where
+  pub answer-ready : (kind : Kind) (memory : List ℕ) → length memory ≡ q .memoryLength
+      → eqb (answerTo kind q memory serial) 0 ≡ standsReady kind q (age (oldestOf kind q) serial)
+  answer-ready load memory e =
+      accepted-number (serve q memory serial) (serve-proper q memory serial)
+      ∙ ap accepted (serve-by-place q memory serial right e)
+      ∙ serve-accepts q memory (loadPlace q serial)
+  answer-ready store memory e =
+      accepted-number (write q memory serial) (write-proper q memory serial)
+      ∙ ap accepted (write-by-place q memory serial right e)
+      ∙ write-accepts q memory (storePlace q serial)
+
+  pub would-ready : (kind : Kind) → would kind q serial ≡ standsReady kind q (age (oldestOf kind q) serial)
+  would-ready kind = answer-ready kind (anyMemory q) (length-replicate (q .memoryLength) 0)
+
+-- ---- the entry at a place of a record
+abbrev pub sideIn : Kind → Queue → Side
+sideIn kind q = ofKind kind (q .frame .loads) (q .frame .stores)
+
+pub count-in : (kind : Kind) (q : Queue) → countOf kind (contentsOf q) ≡ sideIn kind q .count
+count-in load q = loads-count q
+count-in store q = stores-count q
+
+pub oldest-in : (kind : Kind) (q : Queue) → oldestOf kind (contentsOf q) ≡ oldest (sideIn kind q .next) (sideIn kind q .count)
+unfolding contentsOf
+oldest-in load q = ap (oldest (q .frame .loads .next)) (loads-count q)
+oldest-in store q = ap (oldest (q .frame .stores .next)) (stores-count q)
+
+module _ (q : Queue) (right : sound (contentsOf q) ≡ true) where
+  pub side-most : (kind : Kind) → sideIn kind q .count ≤ 64
+  side-most load = loads-few q right
+  side-most store = stores-few q right
+
+  pub in-reach : length (q .«load_entries») ≡ 64 → length (q .«store_entries») ≡ 64
+      → (kind : Kind) (i : ℕ) → i < sideIn kind q .count → InReach kind (q .«load_entries») (q .«store_entries») i
+  in-reach l s load i k = (omega (arith, l, loads-few q right), le-trans (load-before q right i k) (omega (arith, s, stores-few q right)))
+  in-reach l s store i k = (omega (arith, s, stores-few q right), le-trans (store-before q right i k) (omega (arith, l, loads-few q right)))
+
+  pub would-at : (kind : Kind) (i : ℕ) → i < sideIn kind q .count
+      → would kind (contentsOf q) (after (oldestOf kind (contentsOf q)) i) ≡ readyAt kind (q .«load_entries») (q .«store_entries») i
+  would-at kind i k =
+      let from : ℕ = oldestOf kind (contentsOf q) in
+      would-ready (contentsOf q) right (after from i) kind
+      ∙ ap (standsReady kind (contentsOf q)) (place-of-serial from i (oldest-small _ _) (omega (arith, side-most kind)))
+      ∙ here kind k
+    where
+      here : (kind : Kind) → i < sideIn kind q .count → standsReady kind (contentsOf q) i ≡ readyAt kind (q .«load_entries») (q .«store_entries») i
+      here load k =
+          let e : Entry = entryOf (getD (q .«load_entries») i 0) in
+          let here = ap (λ (l : List Load). getElem? l i) (loads-held q) ∙ side-getElem? loadIn 0 (q .frame .loads .count) (q .«load_entries») i k in
+          let few = load-before q right i k in
+          let before = ap (take (e .before)) (stores-held q) ∙ side-take storeIn 0 (q .frame .stores .count) (q .«store_entries») (e .before) few in
+          ap (readyIn (contentsOf q)) here ∙ ap (λ (l : List Store). loadReady l (loadOf e)) before
+      here store k =
+          let m : List ℕ = anyMemory (contentsOf q) in
+          sym (write-accepts (contentsOf q) m i)
+          ∙ ap accepted (write-held q m i k (store-before q right i k))
+          ∙ then-accepts (mayWriteAt (q .«load_entries») (q .«store_entries») i) (writtenWith (contentsOf q) m i)
 
 -- ---- the serials that pass: i of n places have been looked at, `serial` is the next, and `s` has those that are ready. What
 -- passes is any test that says of a serial what `ready` says of its place.
@@ -200,38 +226,27 @@ module _ {source old : List ℕ} {j : ℕ} {l : List ℕ} (w : Copied source old
   pub copied-whole : (n : ℕ) → j ≡ n → l ≡ take n source ++ drop n old
   copied-whole n e = rw e at (w .is)
 
--- ---- the serials of a record
-module _ (q : Queue) {s : Serials} where
-  lists : {l : List ℕ} → s .count ≤ 64 → length (s .numbers) ≡ 64 → listed s ≡ l → Lists l s
-  lists {l} few long e = record { few = few; size = sym (length-take-le (s .count) (s .numbers) (omega arith)) ∙ ap length e; are = e }
-
-  pub servable-record : listed s ≡ keepWhere (wouldServe (contentsOf q)) (serials (oldest (q .frame .loads .next) (q .frame .loads .count)) (q .frame .loads .count)) → s .count ≤ 64 → length (s .numbers) ≡ 64
-      → Lists (servable (contentsOf q)) s
-  unfolding servable contentsOf
-  servable-record e few long = lists few long (rw (side-length loadIn 0 (q .frame .loads .count) (q .«load_entries»)) e)
-
-  pub writable-record : listed s ≡ keepWhere (wouldWrite (contentsOf q)) (serials (oldest (q .frame .stores .next) (q .frame .stores .count)) (q .frame .stores .count)) → s .count ≤ 64 → length (s .numbers) ≡ 64
-      → Lists (writable (contentsOf q)) s
-  unfolding writable contentsOf
-  writable-record e few long = lists few long (rw (side-length storeIn 0 (q .frame .stores .count) (q .«store_entries»)) e)
+-- ---- the serials of a record, once all of a kind's places have been looked at
+module _ (kind : Kind) (q : Queue) (right : sound (contentsOf q) ≡ true) where
+  pub gathered : {from n i serial : ℕ} {s : Serials} → Gathering (readyAt kind (q .«load_entries») (q .«store_entries»)) from n i serial s
+      → from ≡ oldestOf kind (contentsOf q) → n ≡ sideIn kind q .count → i ≤ n → n ≤ i → Lists (readySerials kind (contentsOf q)) s
+  unfolding readySerials
+  gathered {from} {n} {i} {serial} {s} w e d most end =
+      let few : s .count ≤ 64 = omega (arith, w .few, side-most q right kind) in
+      let passed = gathering-end w end (would kind (contentsOf q)) (λ j k. rw e (would-at q right kind j (rw d at k))) in
+      let are : listed s ≡ keepWhere (would kind (contentsOf q)) (serials (oldestOf kind (contentsOf q)) (countOf kind (contentsOf q))) =
+      passed ∙ ap₂ (λ (x y : ℕ). keepWhere (would kind (contentsOf q)) (serials x y)) e (d ∙ sym (count-in kind q)) in
+      record { few = few; size = sym (length-take-le (s .count) (s .numbers) (omega (arith, w .long))) ∙ ap length are; are = are }
 
 -- ---- 40 and 10
-module _ (q : Contents) (run : List ℕ) where
-  pub ready-loads-unsound : sound q ≡ false → readyLoads q run ≡ refuse unsound
-  unfolding readyLoads
-  ready-loads-unsound e = rw e
+module _ (kind : Kind) (q : Contents) (run : List ℕ) where
+  pub ready-unsound : sound q ≡ false → ready kind q run ≡ refuse unsound
+  unfolding ready
+  ready-unsound e = rw e
 
-  pub ready-loads-sound : sound q ≡ true → readyLoads q run ≡ need (leb (length (servable q)) (length run)) tooShort (accept (servable q))
-  unfolding readyLoads
-  ready-loads-sound right = rw right
-
-  pub ready-stores-unsound : sound q ≡ false → readyStores q run ≡ refuse unsound
-  unfolding readyStores
-  ready-stores-unsound e = rw e
-
-  pub ready-stores-sound : sound q ≡ true → readyStores q run ≡ need (leb (length (writable q)) (length run)) tooShort (accept (writable q))
-  unfolding readyStores
-  ready-stores-sound right = rw right
+  pub ready-sound : sound q ≡ true → ready kind q run ≡ need (leb (length (readySerials kind q)) (length run)) tooShort (accept (readySerials kind q))
+  unfolding ready
+  ready-sound right = rw right
 
 -- serials that were handed out are what the rule gives
 pub handed : (q : Queue) {found lent run : List ℕ} {s : Serials} {r : ReadyCount} → Lists found s → HandedOut s lent r run

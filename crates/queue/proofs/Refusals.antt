@@ -8,6 +8,7 @@ use lib.Dec.{eqb, leb, ltb}
 use lib.ListN.{length, take, getElem?}
 use native.Mathlib.Omega.{arith}
 use borrow.Author.Tests.{not-true, ltb-true}
+use Rattle.queue.specs.declared.Kind.{Kind}
 use Rattle.queue.specs.Ruled.{Ruled, refuse, accept, number, accepted, need, have, andThen, isSome}
 use Rattle.queue.specs.Contents.{Load, Store, Contents, loadPlace, storePlace, firstPlace}
 use Rattle.table.specs.Basics.{anyOf, allOf}
@@ -17,7 +18,7 @@ use Rattle.queue.specs.Arguments.{isLoadPort, isStorePort, loadLacksAddr
 use Rattle.queue.specs.Serve.{Source, unknown, fromStore, fromMemory, source, loadedFrom, mayServe, storesBefore, serve}
 use Rattle.queue.specs.Write.{loadGivesWay, storeGivesWay, mayWrite, loadsBefore, write}
 use Rattle.queue.specs.Take.{untaken, takeRule}
-use Rattle.queue.specs.Ready.{servable, writable, readyLoads, readyStores}
+use Rattle.queue.specs.Ready.{readySerials, ready}
 use Rattle.queue.proofs.Lists.{false-true, and-left, and-right}
 
 module _ {A : Type 0} where
@@ -156,13 +157,9 @@ take-small q port =
     (need-small (anyOf (isLoadPort port) (q .groups)) _ _ refl
     (have-small (getElem? (q .loads) (firstPlace (untaken port) (q .loads))) _ _ refl λ l. have-small (l .value) _ _ refl λ v. refl))
 
-pub ready-loads-small : (q : Contents) (run : List ℕ) → small (readyLoads q run) ≡ true
-unfolding readyLoads
-ready-loads-small q run = need-small (sound q) _ _ refl (need-small (leb (length (servable q)) (length run)) _ _ refl refl)
-
-pub ready-stores-small : (q : Contents) (run : List ℕ) → small (readyStores q run) ≡ true
-unfolding readyStores
-ready-stores-small q run = need-small (sound q) _ _ refl (need-small (leb (length (writable q)) (length run)) _ _ refl refl)
+pub ready-small : (kind : Kind) (q : Contents) (run : List ℕ) → small (ready kind q run) ≡ true
+unfolding ready
+ready-small kind q run = need-small (sound q) _ _ refl (need-small (leb (length (readySerials kind q)) (length run)) _ _ refl refl)
 
 -- so none is 0
 pub activate-proper : (q : Contents) (g : ℕ) → proper (activate q g) ≡ true

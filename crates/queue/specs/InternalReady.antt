@@ -1,14 +1,17 @@
 -- What the code that gathers ready serials is written with.
-use Prim.Native.Nat.{ℕ, _+_, _≤_}
+use Prim.Native.Nat.{ℕ, _+_, _≤_, _<_}
 use mathlib.Core.Path.{_≡_}
 use mathlib.Core.Bool.{Bool}
 use mathlib.Core.List.{List, [], _∷_, _++_}
 use lib.Dec.{leb}
-use lib.ListN.{length, take, drop}
+use lib.ListN.{length, getD, take, drop}
 use Rattle.table.specs.Basics.{pick}
 use Rattle.table.specs.Refusal.{tooShort}
+use Rattle.queue.specs.declared.Kind.{Kind}
+use Rattle.queue.specs.declared.Kind.the-variants.{Load as load, Store as store}
 use Rattle.queue.specs.declared.ready.Serials.{Serials}
 use Rattle.queue.specs.declared.ready.ReadyCount.{ReadyCount}
+use Rattle.queue.specs.Entry.{entryOf}
 use Rattle.queue.specs.Ruled.{accepted}
 use Rattle.queue.specs.Contents.{Load, Store}
 use Rattle.queue.specs.Serve.{mayServe}
@@ -19,12 +22,18 @@ use Rattle.queue.specs.InternalWrite.{mayWriteAt}
 abbrev pub loadReady : List Store → Load → Bool
 loadReady ss l = accepted (mayServe [] ss l)
 
--- the load, the store, at a place: would it be served, would it be written
-abbrev pub loadReadyAt : List ℕ → List ℕ → ℕ → Bool
-loadReadyAt loads stores i = accepted (mayServeAt [] loads stores i)
+-- the load, or the store, at a place: would it be served, or written
+abbrev pub readyAt : Kind → List ℕ → List ℕ → ℕ → Bool
+readyAt load loads stores i = accepted (mayServeAt [] loads stores i)
+readyAt store loads stores i = accepted (mayWriteAt loads stores i)
 
-abbrev pub storeReadyAt : List ℕ → List ℕ → ℕ → Bool
-storeReadyAt loads stores i = accepted (mayWriteAt loads stores i)
+-- the place is within its own array, and as many of the other kind as the entry remembers are within theirs
+abbrev pub Reaches : List ℕ → List ℕ → ℕ → Type 0
+Reaches own others i = (i < length own) × (entryOf (getD own i 0) .before ≤ length others)
+
+abbrev pub InReach : Kind → List ℕ → List ℕ → ℕ → Type 0
+InReach load loads stores i = Reaches loads stores i
+InReach store loads stores i = Reaches stores loads i
 
 -- serials in an array
 abbrev pub listed : Serials → List ℕ

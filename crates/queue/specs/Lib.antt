@@ -1,11 +1,11 @@
 -- What the calls of the queue mean, in the order of document 01.
 pub mod Refusal
 pub mod Ruled
+pub mod Kind
 pub mod Entry
 pub mod Contents
 pub mod Sound
 pub mod Open
-pub mod NoQueue
 pub mod Activate
 pub mod Arguments
 pub mod Serve
@@ -14,10 +14,7 @@ pub mod Take
 pub mod Ready
 pub mod Counts
 pub mod Outcome
-pub mod ServeLent
-pub mod ReadyOutcome
 pub mod Parts
-pub mod ReadyExact
 pub mod Internal
 pub mod InternalActivate
 pub mod InternalArguments

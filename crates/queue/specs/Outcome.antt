@@ -73,6 +73,13 @@ abbrev pub Serves : Queue → Counts → Ruled Served → Counted → Type 0
 Serves q c (refuse n) r = handedCounts r ≡ record { outcome = noValue n q; counts = c }
 Serves q c (accept s) r = ServedWell s c r
 
+-- what a serve hands back where the counts are lent by reference, beside the counts that it leaves
+abbrev pub withCounts : Outcome → Counts → Counted
+withCounts r counts = record { answer = r .answer; value = r .value; queue = r .queue; counts = counts }
+
+abbrev pub withoutCounts : Counted → Outcome
+withoutCounts k = record { answer = k .answer; value = k .value; queue = k .queue }
+
 -- write, with the memory as it was lent and as it is left
 pub record WrittenWell (w : Written) (r : Outcome) (memory : List ℕ) : Type 0 where
   pub outcome : Accepted none (w .queue) r

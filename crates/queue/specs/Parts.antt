@@ -20,7 +20,7 @@ use Rattle.queue.specs.declared.opening.OpenedFrame.{OpenedFrame}
 use Rattle.queue.specs.Refusal.{unsound}
 use Rattle.queue.specs.Ruled.{Ruled, refuse, accept, need}
 use Rattle.queue.specs.Contents.{Contents, contentsOf}
-use Rattle.queue.specs.NoQueue.{noFrame}
+use Rattle.queue.specs.Open.{noFrame}
 
 -- the frame of an outline and its table's arrays, and a frame's outline
 abbrev pub frameOf : Outline → List ℕ → List ℕ → List ℕ → Frame

@@ -18,6 +18,12 @@ pub mod sound;
 pub mod taking;
 pub mod writing;
 
+// The kind of an access.
+pub enum Kind {
+    Load,
+    Store,
+}
+
 // An access that was activated, a load or a store. A queue holds it packed into a number (`entries`).
 pub struct Entry {
     pub port: u8,

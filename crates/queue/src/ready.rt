@@ -7,17 +7,19 @@ ghost use lib.ListN.{length, drop};
 ghost use Rattle.table.specs.declared.Table.{Table};
 ghost use Rattle.queue.specs.Contents.{loadOf, contentsOf};
 ghost use Rattle.queue.specs.Sound.{sound};
-ghost use Rattle.queue.specs.Ready.{servable, writable, readyLoads, readyStores};
-ghost use Rattle.queue.specs.ReadyOutcome.{Readies, Fronts};
+ghost use Rattle.queue.specs.Kind.{ofKind};
+ghost use Rattle.queue.specs.Ready.{readySerials, ready, Readies, Fronts};
 ghost use denote.Ref.{ptr};
 ghost use Rattle.queue.specs.Parts.{frameOf, queueOf, onParts, readiedOf};
 ghost use Rattle.queue.specs.Internal.{storesIn, frameWith, Checked};
-ghost use Rattle.queue.specs.InternalReady.{loadReady, listed, Noted, Lists, HandedOut};
+ghost use Rattle.queue.specs.InternalReady.{loadReady, InReach, readyAt, listed, Noted, Lists, HandedOut};
 use crate::Entry;
+use crate::Kind;
 use crate::Outline;
 use crate::Queue;
 use crate::Readied;
 use crate::ReadySerials;
+use crate::Side;
 use crate::answering::outline_of;
 use crate::entries::unpack;
 use crate::refusal::UNSOUND;
@@ -81,49 +83,59 @@ fn put_serials(serials: Serials, out: &mut [u32])
     }
 }
 
-// The serials of the loads that would be served now. It does not read the table, so it speaks of every table that the queue is sound with.
-fn servable_loads(outline: Outline, load_entries: &[u64], store_entries: &[u64]) -> Serials
-    requires { ⌜ Checked outline (now «load_entries») (now «store_entries») ⌝ }
-    ensures { λ r. ⌜ ((table : Table) → let frame = frameWith table outline in
-        sound (contentsOf (queueOf frame (now («load_entries» .entry)) (now («store_entries» .entry)))) ≡ true →
-        Lists (servable (contentsOf (queueOf frame (now («load_entries» .entry)) (now («store_entries» .entry))))) r) ⌝ }
+// Would the load, or the store, at this place be served, or written, now?
+fn ready_at(kind: Kind, load_entries: &[u64], store_entries: &[u64], i: usize) -> bool
+    requires { ⌜ InReach kind (now «load_entries») (now «store_entries») i ⌝ }
+    ensures { λ r. ⌜ r ≡ readyAt kind (now («load_entries» .entry)) (now («store_entries» .entry)) i ⌝ }
 {
-    let loads = outline.loads;
-    let count = loads.count as usize;
-    let mut found = Serials {
-        count: 0,
-        numbers: [0; 64],
-    };
-    let mut serial = oldest_serial(loads.next, loads.count);
-    let mut i: usize = 0;
-    while i < count {
-        let load = unpack(load_entries[i]);
-        let ready = load_ready(load, store_entries);
-        found = noted(found, serial, ready);
-        serial = std::num::wrapping_add_u32(serial, 1);
-        i += 1;
+    match kind {
+        Kind::Load => {
+            let load = unpack(load_entries[i]);
+            load_ready(load, store_entries)
+        }
+        Kind::Store => {
+            let fault = write_fault(load_entries, store_entries, i);
+            fault == 0
+        }
     }
-    found
 }
 
-// The serials of the stores that would be written now. It does not read the table either.
-fn writable_stores(outline: Outline, load_entries: &[u64], store_entries: &[u64]) -> Serials
+// The side of a kind.
+fn side_of(kind: Kind, outline: Outline) -> Side
+    ensures { λ r. ⌜ r ≡ ofKind kind (outline .loads) (outline .stores) ⌝ }
+{
+    let loads = outline.loads;
+    let stores = outline.stores;
+    match kind {
+        Kind::Load => loads,
+        Kind::Store => stores,
+    }
+}
+
+// The serials of the loads that would be served now, or of the stores that would be written. It does not read the table, so it
+// speaks of every table that the queue is sound with.
+fn ready_serials(
+    outline: Outline,
+    kind: Kind,
+    load_entries: &[u64],
+    store_entries: &[u64],
+) -> Serials
     requires { ⌜ Checked outline (now «load_entries») (now «store_entries») ⌝ }
     ensures { λ r. ⌜ ((table : Table) → let frame = frameWith table outline in
         sound (contentsOf (queueOf frame (now («load_entries» .entry)) (now («store_entries» .entry)))) ≡ true →
-        Lists (writable (contentsOf (queueOf frame (now («load_entries» .entry)) (now («store_entries» .entry))))) r) ⌝ }
+        Lists (readySerials kind (contentsOf (queueOf frame (now («load_entries» .entry)) (now («store_entries» .entry))))) r) ⌝ }
 {
-    let stores = outline.stores;
-    let count = stores.count as usize;
+    let side = side_of(kind, outline);
+    let count = side.count as usize;
     let mut found = Serials {
         count: 0,
         numbers: [0; 64],
     };
-    let mut serial = oldest_serial(stores.next, stores.count);
+    let mut serial = oldest_serial(side.next, side.count);
     let mut i: usize = 0;
     while i < count {
-        let fault = write_fault(load_entries, store_entries, i);
-        found = noted(found, serial, fault == 0);
+        let ready = ready_at(kind, load_entries, store_entries, i);
+        found = noted(found, serial, ready);
         serial = std::num::wrapping_add_u32(serial, 1);
         i += 1;
     }
@@ -152,20 +164,21 @@ fn hand_out(found: Serials, out: &mut [u32]) -> ReadyCount
     ReadyCount { answer: 0, count }
 }
 
-// Ready loads on a queue's parts: 40, 10.
-pub fn ready_loads_in<'a>(
+// Ready on a queue's parts: 40, 10.
+pub fn ready_in<'a>(
     outline: Outline,
     groups: &'a [u32; 16],
     load_places: &'a [u16; 32],
     store_places: &'a [u16; 32],
     load_entries: &[u64],
     store_entries: &[u64],
+    kind: Kind,
     out: &mut [u32],
 ) -> ReadyCount
     ensures { λ r. ⌜ (let frame = frameOf outline (now (groups .entry)) (now («load_places» .entry)) (now («store_places» .entry)) in
         Readies (queueOf frame (now («load_entries» .entry)) (now («store_entries» .entry))) (now (out .entry))
         (onParts (now («load_entries» .entry)) (now («store_entries» .entry))
-        (readyLoads (contentsOf (queueOf frame (now («load_entries» .entry)) (now («store_entries» .entry)))) (now (out .entry))))
+        (ready kind (contentsOf (queueOf frame (now («load_entries» .entry)) (now («store_entries» .entry)))) (now (out .entry))))
         (readiedOf r (queueOf frame (now («load_entries» .entry)) (now («store_entries» .entry)))) (now (out .exit))) ⌝ }
 {
     if !sound_in(
@@ -181,83 +194,28 @@ pub fn ready_loads_in<'a>(
             count: 0,
         };
     }
-    let found = servable_loads(outline, load_entries, store_entries);
-    hand_out(found, out)
-}
-
-// Ready stores on a queue's parts: 40, 10.
-pub fn ready_stores_in<'a>(
-    outline: Outline,
-    groups: &'a [u32; 16],
-    load_places: &'a [u16; 32],
-    store_places: &'a [u16; 32],
-    load_entries: &[u64],
-    store_entries: &[u64],
-    out: &mut [u32],
-) -> ReadyCount
-    ensures { λ r. ⌜ (let frame = frameOf outline (now (groups .entry)) (now («load_places» .entry)) (now («store_places» .entry)) in
-        Readies (queueOf frame (now («load_entries» .entry)) (now («store_entries» .entry))) (now (out .entry))
-        (onParts (now («load_entries» .entry)) (now («store_entries» .entry))
-        (readyStores (contentsOf (queueOf frame (now («load_entries» .entry)) (now («store_entries» .entry)))) (now (out .entry))))
-        (readiedOf r (queueOf frame (now («load_entries» .entry)) (now («store_entries» .entry)))) (now (out .exit))) ⌝ }
-{
-    if !sound_in(
-        outline,
-        groups,
-        load_places,
-        store_places,
-        load_entries,
-        store_entries,
-    ) {
-        return ReadyCount {
-            answer: UNSOUND,
-            count: 0,
-        };
-    }
-    let found = writable_stores(outline, load_entries, store_entries);
+    let found = ready_serials(outline, kind, load_entries, store_entries);
     hand_out(found, out)
 }
 
 impl Queue {
-    // Puts the serials of the loads that serve would now accept at the front of the lent run, and says how many.
-    pub fn ready_loads_into(self, out: &mut [u32]) -> Readied
-        ensures { λ r. ⌜ Readies self (now (out .entry)) (readyLoads (contentsOf self) (now (out .entry))) r (now (out .exit)) ⌝ }
+    // Puts the serials of the loads that serve would now accept, or of the stores that write would, at the front of the lent run,
+    // and says how many.
+    pub fn ready_into(self, kind: Kind, out: &mut [u32]) -> Readied
+        ensures { λ r. ⌜ Readies self (now (out .entry)) (ready kind (contentsOf self) (now (out .entry))) r (now (out .exit)) ⌝ }
     {
         let frame = self.frame;
         let load_entries = self.load_entries;
         let store_entries = self.store_entries;
         let outline = outline_of(frame);
-        let ready = ready_loads_in(
+        let ready = ready_in(
             outline,
             &frame.table.groups,
             &frame.table.loads,
             &frame.table.stores,
             &load_entries,
             &store_entries,
-            out,
-        );
-        Readied {
-            answer: ready.answer,
-            count: ready.count,
-            queue: self,
-        }
-    }
-
-    // Puts the serials of the stores that write would now accept at the front of the lent run, and says how many.
-    pub fn ready_stores_into(self, out: &mut [u32]) -> Readied
-        ensures { λ r. ⌜ Readies self (now (out .entry)) (readyStores (contentsOf self) (now (out .entry))) r (now (out .exit)) ⌝ }
-    {
-        let frame = self.frame;
-        let load_entries = self.load_entries;
-        let store_entries = self.store_entries;
-        let outline = outline_of(frame);
-        let ready = ready_stores_in(
-            outline,
-            &frame.table.groups,
-            &frame.table.loads,
-            &frame.table.stores,
-            &load_entries,
-            &store_entries,
+            kind,
             out,
         );
         Readied {
@@ -268,26 +226,12 @@ impl Queue {
     }
 
     // The same, and the front part is handed back. No contract can speak of the rest of the run once a part is handed out;
-    // `ready_loads_into` says that it keeps its contents.
-    pub fn ready_loads<'a>(self, out: &'a mut [u32]) -> ReadySerials<'a>
-        ensures { λ r. ⌜ Fronts self (readyLoads (contentsOf self) (now (out .entry))) (r .answer) (now (r .serials)) (r .queue)
+    // `ready_into` says that it keeps its contents.
+    pub fn ready<'a>(self, kind: Kind, out: &'a mut [u32]) -> ReadySerials<'a>
+        ensures { λ r. ⌜ Fronts self (ready kind (contentsOf self) (now (out .entry))) (r .answer) (now (r .serials)) (r .queue)
             × (ptr (r .serials) ≡ ptr (out .entry)) ⌝ }
     {
-        let readied = self.ready_loads_into(&mut *out);
-        let count = readied.count;
-        ReadySerials {
-            answer: readied.answer,
-            serials: &mut out[..count],
-            queue: readied.queue,
-        }
-    }
-
-    // The same of the stores that would be written.
-    pub fn ready_stores<'a>(self, out: &'a mut [u32]) -> ReadySerials<'a>
-        ensures { λ r. ⌜ Fronts self (readyStores (contentsOf self) (now (out .entry))) (r .answer) (now (r .serials)) (r .queue)
-            × (ptr (r .serials) ≡ ptr (out .entry)) ⌝ }
-    {
-        let readied = self.ready_stores_into(&mut *out);
+        let readied = self.ready_into(kind, &mut *out);
         let count = readied.count;
         ReadySerials {
             answer: readied.answer,

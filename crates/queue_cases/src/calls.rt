@@ -6,6 +6,7 @@ use crate::same;
 use crate::show;
 use queue::Counted;
 use queue::Counts;
+use queue::Kind;
 use queue::Outcome;
 use queue::Queue;
 
@@ -85,8 +86,8 @@ pub(crate) fn call(run: Run, command: usize, first: u32, second: u32) -> Run {
     match command {
         command::SERVE => serve(run, first),
         command::WRITE => write(run, first),
-        command::READY_LOADS => ready::ready(run, true, first),
-        command::READY_STORES => ready::ready(run, false, first),
+        command::READY_LOADS => ready::ready(run, Kind::Load, first),
+        command::READY_STORES => ready::ready(run, Kind::Store, first),
         _ => plain(run, command, first, second),
     }
 }

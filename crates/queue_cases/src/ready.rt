@@ -3,22 +3,16 @@
 use crate::run::Run;
 use crate::same;
 use crate::show;
+use queue::Kind;
 use queue::Queue;
 use queue::Readied;
 
-fn lent_to(queue: Queue, loads: bool, numbers: &mut [u32]) -> Readied {
-    if loads {
-        return queue.ready_loads_into(numbers);
-    }
-    queue.ready_stores_into(numbers)
-}
-
 // A ready call in the first `count` numbers.
-fn readied(queue: Queue, loads: bool, numbers: &mut [u32], count: usize) -> Readied {
+fn readied(queue: Queue, kind: Kind, numbers: &mut [u32], count: usize) -> Readied {
     if count < numbers.len() {
-        return lent_to(queue, loads, &mut numbers[..count]);
+        return queue.ready_into(kind, &mut numbers[..count]);
     }
-    lent_to(queue, loads, numbers)
+    queue.ready_into(kind, numbers)
 }
 
 // Prints what a ready call handed back: its answer, how many serials, and whether the queue is the one handed in.
@@ -29,17 +23,17 @@ fn show_readied(before: Queue, after: Readied) {
     show::same(b"", same::same_queue(before, next));
 }
 
-fn ready_in(queue: Queue, loads: bool, count: usize) -> Queue {
+fn ready_in(queue: Queue, kind: Kind, count: usize) -> Queue {
     let mut numbers = [7777u32; 80];
-    let after = readied(queue, loads, &mut numbers, count);
+    let after = readied(queue, kind, &mut numbers, count);
     show_readied(queue, after);
     show::words(b" run");
     show::front(&numbers, count);
     after.queue
 }
 
-pub(crate) fn ready(mut run: Run, loads: bool, count: u32) -> Run {
+pub(crate) fn ready(mut run: Run, kind: Kind, count: u32) -> Run {
     let queue = run.queue;
-    run.queue = ready_in(queue, loads, count as usize);
+    run.queue = ready_in(queue, kind, count as usize);
     run
 }

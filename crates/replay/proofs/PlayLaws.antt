@@ -16,8 +16,7 @@ use Rattle.queue.specs.Arguments.{loadAddress, storeAddress, storeData}
 use Rattle.queue.specs.Serve.{Served, serve}
 use Rattle.queue.specs.Write.{Written, write}
 use Rattle.queue.specs.Take.{Taken, takeRule}
-use Rattle.queue.specs.Outcome.{Handed, handed, noValue, HandedCounts, valueIn, Moves, Takes, Serves, Writes}
-use Rattle.queue.specs.ServeLent.{withCounts}
+use Rattle.queue.specs.Outcome.{Handed, handed, noValue, HandedCounts, valueIn, Moves, Takes, Serves, Writes, withCounts}
 use Rattle.sequential.specs.Call.{Machine, Step, moved, served, written, taken}
 use Rattle.replay.specs.Playing.{Playing, playing, stepOf, played, countsAfter, afterServe}
 use Rattle.replay.specs.Internal.{Plays}

@@ -20,9 +20,8 @@ use Rattle.queue.specs.Refusal.{wrongMemory}
 use Rattle.queue.specs.Ruled.{Ruled, refuse, accept}
 use Rattle.queue.specs.declared.Opened.{Opened}
 use Rattle.queue.specs.Contents.{Contents, contentsOf}
-use Rattle.queue.specs.NoQueue.{noQueue}
-use Rattle.queue.specs.Outcome.{Opens}
-use Rattle.queue.specs.Outcome.{valueIn}
+use Rattle.queue.specs.Open.{noQueue}
+use Rattle.queue.specs.Outcome.{Opens, valueIn}
 use Rattle.replay.specs.declared.Replayed.{Replayed}
 use Rattle.replay.specs.Events.{eventsFrom}
 use Rattle.replay.specs.Playing.{Playing, playing, stepOf, played, Logged, logged, log, playedAll, answerOf, givenOf, wordOf}

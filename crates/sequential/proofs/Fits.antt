@@ -22,18 +22,19 @@ use Rattle.queue.specs.Serve.{Served, fromMemory, source, Loaded, loadedFrom, s
 use Rattle.queue.specs.Write.{Written, storeDone, loadFinished, storeFinished, settle, write}
 use Rattle.queue.specs.Write.{loadAfterLeaving, storeAfterLeaving, leaving}
 use Rattle.queue.specs.Take.{Taken, untaken, loadTaken, takeRule}
+use Rattle.queue.specs.Ready.{ready}
 use Rattle.queue.specs.InternalActivate.{loadAfter, storeAfter}
 use Rattle.queue.proofs.Lists.{false-true, and-left, and-right, and-both, all-join, all-take, all-map, all-weaken, all-middle, getElem?-split}
 use Rattle.queue.proofs.Refusals.{need-accepts, have-accepts, number-small, small}
-use Rattle.queue.proofs.Refusals.{activate-small, serve-small, write-small, take-small}
+use Rattle.queue.proofs.Refusals.{activate-small, serve-small, write-small, take-small, ready-small}
 use Rattle.queue.proofs.ActivateLaws.{with-group-is}
 use Rattle.queue.proofs.SourceLaws.{wordFrom, loaded-word, source-passes}
 use Rattle.queue.proofs.ServeLaws.{Serving, serve-accepts}
 use Rattle.queue.proofs.WriteLaws.{Writing, write-accepts}
 use Rattle.sequential.specs.Calls.{Argument, LoadAddress, StoreAddress, StoreData, Call, Activate, Give, Serve, Write, Take, Ready}
-use Rattle.sequential.specs.Call.{Machine, Step, moved, served, written, taken, give, ready, step}
+use Rattle.sequential.specs.Call.{Machine, Step, moved, served, written, taken, give, step}
 use Rattle.sequential.specs.RunsExist.{fits, wordFits, argumentFits}
-use Rattle.sequential.proofs.CallRefusals.{give-small, ready-small}
+use Rattle.sequential.proofs.CallRefusals.{give-small}
 use Rattle.sequential.proofs.Stored.{loadFits, storeFits}
 
 -- ---- lists all of whose elements pass
@@ -266,5 +267,5 @@ module _ (m : Machine) (f : Fits m) (right : tableFault (m .queue .groups) ≡ 0
       go : (r : Ruled Taken) → takeRule (m .queue) p ≡ r → Fitting (taken m r)
       go (refuse n) e = refused-fits (takeRule (m .queue) p) n (take-small (m .queue) p) e
       go (accept r) e = let (v, l) = take-fits (m .queue) (m .memory) f p r e in record { number = omega arith; value = v; left = l }
-  step-fits (Ready side run) h =
-      record { number = number-small (ready side (m .queue) run) (ready-small side (m .queue) run); value = refl; left = f }
+  step-fits (Ready kind run) h =
+      record { number = number-small (ready kind (m .queue) run) (ready-small kind (m .queue) run); value = refl; left = f }

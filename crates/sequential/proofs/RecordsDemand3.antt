@@ -21,19 +21,17 @@ use Rattle.queue.specs.declared.opening.OpenedFrame.{OpenedFrame}
 use Rattle.queue.specs.Ruled.{Ruled, refuse, accept, number, need}
 use Rattle.queue.specs.Contents.{Contents, contentsOf}
 use Rattle.queue.specs.Sound.{depthRight, memoryRight}
-use Rattle.queue.specs.Open.{groupFits, openQueue}
+use Rattle.queue.specs.Open.{groupFits, openQueue, freshFrame}
 use Rattle.queue.specs.Activate.{activate}
 use Rattle.queue.specs.Serve.{Served, serve}
 use Rattle.queue.specs.Write.{Written, write}
 use Rattle.queue.specs.Take.{Taken, takeRule}
-use Rattle.queue.specs.Outcome.{valueIn, Handed, handed, noValue, Accepted, HandedCounts, Moves, Takes, Serves, Writes, Opens}
-use Rattle.queue.specs.ServeLent.{withCounts}
-use Rattle.queue.specs.ReadyOutcome.{Readies}
-use Rattle.queue.specs.NoQueue.{freshFrame}
+use Rattle.queue.specs.Outcome.{valueIn, Handed, handed, noValue, Accepted, HandedCounts, Moves, Takes, Serves, Writes, Opens, withCounts}
+use Rattle.queue.specs.Ready.{ready, Readies}
 use Rattle.queue.specs.Parts.{queueOf, OpensFrame}
 use Rattle.queue.proofs.Refusals.{proper, need-proper, refusal-not-zero}
 use Rattle.sequential.specs.Calls.{Call, Activate, Give, Serve, Write, Take, Ready}
-use Rattle.sequential.specs.Call.{Machine, Step, moved, served, written, taken, give, ready, step, Answered, answers, leaves}
+use Rattle.sequential.specs.Call.{Machine, Step, moved, served, written, taken, give, step, Answered, answers, leaves}
 use Rattle.sequential.specs.Records.{logged, Hands, Runs, done, next, machineOf, OpenedRecord}
 use Rattle.sequential.specs.Records.{ServeCountedHands, ServeHands, ReadyIntoHands, ReadyHands}
 use Rattle.sequential.specs.Records.{RecordsDemand3, FramesDemand3, AlikeRecords, RecordsSound}
@@ -87,7 +85,7 @@ module _ (q : Queue) (m : List ℕ) where
   hands-same (Serve lent s) r left ((counts, w), e) = kept left (serves-same (serve (contentsOf q) m s) lent counts r w) e
   hands-same (Write s) r left w = writes-same (write (contentsOf q) m s) r left w
   hands-same (Take p) r left (w, e) = kept left (takes-same (takeRule (contentsOf q) p) r w) e
-  hands-same (Ready side run) r left (w, e) = kept left (refused-same w) e
+  hands-same (Ready kind run) r left (w, e) = kept left (refused-same w) e
 
 -- ---- the contracts of both ways to serve, and of both ways to ask what is ready
 pub serve-counted-hands : ServeCountedHands
@@ -97,14 +95,14 @@ pub serve-hands : ServeHands
 serve-hands q m lent left serial r w = ((left, w), refl)
 
 pub ready-into-hands : ReadyIntoHands
-ready-into-hands q m run left side r w = (go (ready side (contentsOf q) run) w, refl)
+ready-into-hands q m run left kind r w = (go (ready kind (contentsOf q) run) w, refl)
   where
     go : (rule : Ruled (List ℕ)) → Readies q run rule r left → noValue (r .answer) (r .queue) ≡ noValue (number rule) q
     go (refuse n) w = ap (λ (x : Readied). noValue (x .answer) (x .queue)) (w .outcome)
     go (accept found) w = ap (λ (x : Readied). noValue (x .answer) (x .queue)) (w .outcome)
 
 pub ready-hands : ReadyHands
-ready-hands q m run serials side answer queue w = (ap₂ noValue (w .answer-is) (w .queue-is), refl)
+ready-hands q m run serials kind answer queue w = (ap₂ noValue (w .answer-is) (w .queue-is), refl)
 
 -- ---- a run's answers and what it leaves
 pub record Agrees (m : Machine) (calls : List Call) (log : List Answered) (left : Machine) : Type 0 where

@@ -18,9 +18,10 @@ use Rattle.queue.specs.Activate.{activate}
 use Rattle.queue.specs.Serve.{Served, serve}
 use Rattle.queue.specs.Write.{Written, write}
 use Rattle.queue.specs.Take.{Taken, takeRule}
+use Rattle.queue.specs.Ready.{ready}
 use Rattle.queue.proofs.Refusals.{refusal-not-zero, need-accepts, activate-proper, serve-proper, write-proper, take-proper}
 use Rattle.sequential.specs.Calls.{Call, Activate, Give, Serve, Write, Take, Ready}
-use Rattle.sequential.specs.Call.{Machine, Step, Answered, moved, served, written, taken, give, ready, step, answers, leaves}
+use Rattle.sequential.specs.Call.{Machine, Step, Answered, moved, served, written, taken, give, step, answers, leaves}
 use Rattle.sequential.specs.Demand3.{Opening}
 use Rattle.sequential.proofs.CallRefusals.{give-proper}
 use Rattle.sequential.proofs.State.{Limits, State, seen-refused, seen-ready}
@@ -113,8 +114,8 @@ module _ (groups : List GroupPairs) (memory : List ℕ) (answered : List Answere
       go : (r : Ruled Taken) → takeRule (m .queue) p ≡ r → After (Take p) (taken m r)
       go (refuse n) e = refused (Take p) n (refusal-not-zero (takeRule (m .queue) p) n (take-proper (m .queue) p) e)
       go (accept r) e = take-keeps groups memory answered m st p r e
-  step-keeps (Ready side run) =
-      record { log = st .log; table = st .table; holds = st .holds; seen = seen-ready groups answered side run (number (ready side (m .queue) run)) (st .log) (st .seen) }
+  step-keeps (Ready kind run) =
+      record { log = st .log; table = st .table; holds = st .holds; seen = seen-ready groups answered kind run (number (ready kind (m .queue) run)) (st .log) (st .seen) }
 
 -- ---- a list of calls
 

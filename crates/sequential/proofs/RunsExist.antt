@@ -19,20 +19,19 @@ use Rattle.queue.specs.declared.Opened.{Opened}
 use Rattle.queue.specs.Ruled.{Ruled, refuse, accept, number}
 use Rattle.queue.specs.Contents.{Contents, contentsOf}
 use Rattle.queue.specs.Sound.{sound}
-use Rattle.queue.specs.Open.{opened, openQueue}
-use Rattle.queue.specs.NoQueue.{noQueue, freshFrame, freshQueue}
+use Rattle.queue.specs.Open.{opened, openQueue, noQueue, freshFrame, freshQueue}
 use Rattle.queue.specs.Activate.{activate}
 use Rattle.queue.specs.Serve.{Served, serve}
 use Rattle.queue.specs.Write.{Written, write}
 use Rattle.queue.specs.Take.{Taken, takeRule}
+use Rattle.queue.specs.Ready.{ready}
 use Rattle.queue.specs.Counts.{counted}
-use Rattle.queue.specs.Outcome.{Moves, Takes, Serves, Writes, Opens}
-use Rattle.queue.specs.ServeLent.{withCounts}
+use Rattle.queue.specs.Outcome.{Moves, Takes, Serves, Writes, Opens, withCounts}
 use Rattle.queue.specs.Parts.{queueOf, answered}
 use Rattle.queue.proofs.Lists.{and-left, and-right}
 use Rattle.queue.proofs.SoundLaws.{within-most}
 use Rattle.sequential.specs.Calls.{Call, Activate, Give, Serve, Write, Take, Ready}
-use Rattle.sequential.specs.Call.{Machine, Step, Answered, moved, served, written, taken, give, ready, step}
+use Rattle.sequential.specs.Call.{Machine, Step, Answered, moved, served, written, taken, give, step}
 use Rattle.sequential.specs.Records.{logged, Hands, done, next, machineOf, OpenedRecord}
 use Rattle.sequential.specs.Demand3.{Opening}
 use Rattle.sequential.specs.RunsExist.{fits, argumentFits, StoredEntries, Stored, StoredOutcome, Throughout, SomeRun, RunsExist, OpeningsExist}
@@ -99,7 +98,7 @@ module _ (q : Queue) (m : List ℕ) where
   next-of (Serve lent s) p = serves-next lent (serve (contentsOf q) m s) p
   next-of (Write s) p = writes-next (write (contentsOf q) m s) p
   next-of (Take port) p = takes-next (takeRule (contentsOf q) port) p
-  next-of (Ready side run) p = record { outcome = answered (number (ready side (contentsOf q) run)) q; left = m; given = (refl, refl); kept = inl refl }
+  next-of (Ready kind run) p = record { outcome = answered (number (ready kind (contentsOf q) run)) q; left = m; given = (refl, refl); kept = inl refl }
 
 groups-held : (q : Queue) → groupsOf (q .frame .table) ≡ contentsOf q .groups
 unfolding contentsOf

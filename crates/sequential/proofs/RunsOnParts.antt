@@ -13,14 +13,13 @@ use Rattle.queue.specs.declared.Readied.{Readied}
 use Rattle.queue.specs.declared.opening.OpenedFrame.{OpenedFrame}
 use Rattle.queue.specs.Ruled.{Ruled, refuse, accept, number}
 use Rattle.queue.specs.Contents.{Contents, contentsOf}
-use Rattle.queue.specs.Open.{openQueue}
-use Rattle.queue.specs.NoQueue.{freshFrame}
+use Rattle.queue.specs.Open.{openQueue, freshFrame}
 use Rattle.queue.specs.Outcome.{noValue}
-use Rattle.queue.specs.ReadyOutcome.{Readies}
+use Rattle.queue.specs.Ready.{ready, Readies}
 use Rattle.queue.specs.Parts.{queueOf, whole, readiedOf, OpensFrame}
 use Rattle.queue.proofs.PartsLaws.{both-whole}
 use Rattle.sequential.specs.Calls.{Call, Activate, Give, Serve, Write, Take, Ready}
-use Rattle.sequential.specs.Call.{ready, Answered}
+use Rattle.sequential.specs.Call.{Answered}
 use Rattle.sequential.specs.Records.{Hands, Runs, done, next}
 use Rattle.sequential.specs.RunsExist.{StoredEntries, Stored, StoredOutcome, Throughout, SomeRun}
 use Rattle.sequential.specs.RunsOnParts.{onEntries, HandsOnParts, RunsOnParts, ended, more, ThroughoutParts}
@@ -34,7 +33,7 @@ pub serve-in-hands : ServeInHands
 serve-in-hands q after m lent serial s w = ((s .counts, w), refl)
 
 pub ready-in-hands : ReadyInHands
-ready-in-hands q m run left side r w = (go (onEntries q (ready side (contentsOf q) run)) w, refl)
+ready-in-hands q m run left kind r w = (go (onEntries q (ready kind (contentsOf q) run)) w, refl)
   where
     go : (rule : Ruled (List ℕ)) → Readies q run rule (readiedOf r q) left → noValue (r .answer) q ≡ noValue (number rule) q
     go (refuse n) w = ap (λ (x : Readied). noValue (x .answer) q) (w .outcome)
@@ -48,7 +47,7 @@ hands-on-record q m (Give kind port x) r left e w = rw e at w
 hands-on-record q m (Serve lent s) r left e w = rw e at w
 hands-on-record q m (Write s) r left e w = rw e at w
 hands-on-record q m (Take p) r left e w = rw e at w
-hands-on-record q m (Ready side run) r left e w = rw e at w
+hands-on-record q m (Ready kind run) r left e w = rw e at w
 
 -- ---- a list of calls
 runs-on-record : {q q₂ : Queue} {m m₂ : List ℕ} {calls : List Call} {log : List Answered}
@@ -75,7 +74,7 @@ hands-on-parts q m (Give kind port x) r left e w = rw e w
 hands-on-parts q m (Serve lent s) r left e w = rw e w
 hands-on-parts q m (Write s) r left e w = rw e w
 hands-on-parts q m (Take p) r left e w = rw e w
-hands-on-parts q m (Ready side run) r left e w = rw e w
+hands-on-parts q m (Ready kind run) r left e w = rw e w
 
 unfoldable runs-on-parts : {q q₂ : Queue} {m m₂ : List ℕ} {calls : List Call} {log : List Answered} (table : Table)
     → length (q .«load_entries») ≡ 64 → length (q .«store_entries») ≡ 64

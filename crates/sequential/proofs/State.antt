@@ -11,11 +11,12 @@ use lib.ListN.{length, length-append, getElem?}
 use Rattle.table.specs.Basics.{pick, allOf, countWhere}
 use Rattle.table.specs.Group.{GroupPairs}
 use Rattle.table.specs.Table.{tableFault}
+use Rattle.queue.specs.declared.Kind.{Kind}
 use Rattle.queue.specs.Ruled.{isSome}
 use Rattle.queue.specs.Contents.{Load, Store, Contents}
 use Rattle.queue.specs.Sound.{depthRight, memoryRight, addressRight}
 use Rattle.queue.proofs.Lists.{and-left, and-right, implies}
-use Rattle.sequential.specs.Calls.{Argument, Call, Side, Ready}
+use Rattle.sequential.specs.Calls.{Argument, Call, Ready}
 use Rattle.sequential.specs.Call.{Machine, Answered}
 use Rattle.sequential.specs.Plain.{Told, consOption, gather, groupIn, givenIn, rowsOf, accessesOf, inOrder, accesses}
 use Rattle.sequential.specs.Demand3.{tell, told, takeOf, takenAt, serveIn, writeIn}
@@ -166,10 +167,10 @@ seen-refused groups answered c n o e log s =
     go false = refl
 
 -- a ready call adds nothing
-pub seen-ready : (groups : List GroupPairs) (answered : List Answered) (side : Side) (run : List ℕ) (n : ℕ) (log : List Entry)
-    → Seen groups answered log → Seen groups (answered ++ record { call = Ready side run; number = n; value = none } ∷ []) log
-seen-ready groups answered side run n log s =
-    silent groups answered (record { call = Ready side run; number = n; value = none }) log s (go (eqb n 0)) (λ kind port. go (eqb n 0)) (λ port. refl) (go (eqb n 0)) (go (eqb n 0))
+pub seen-ready : (groups : List GroupPairs) (answered : List Answered) (kind : Kind) (run : List ℕ) (n : ℕ) (log : List Entry)
+    → Seen groups answered log → Seen groups (answered ++ record { call = Ready kind run; number = n; value = none } ∷ []) log
+seen-ready groups answered kind run n log s =
+    silent groups answered (record { call = Ready kind run; number = n; value = none }) log s (go (eqb n 0)) (λ kind port. go (eqb n 0)) (λ port. refl) (go (eqb n 0)) (go (eqb n 0))
   where
     go : (b : Bool) → _≡_ {A = List ℕ} (pick b [] []) []
     go true = refl

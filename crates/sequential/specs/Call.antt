@@ -11,8 +11,8 @@ use Rattle.queue.specs.Arguments.{loadAddress, storeAddress, storeData}
 use Rattle.queue.specs.Serve.{Served, serve}
 use Rattle.queue.specs.Write.{Written, write}
 use Rattle.queue.specs.Take.{Taken, takeRule}
-use Rattle.queue.specs.Ready.{readyLoads, readyStores}
-use Rattle.sequential.specs.Calls.{Argument, LoadAddress, StoreAddress, StoreData, Side, LoadSide, StoreSide}
+use Rattle.queue.specs.Ready.{ready}
+use Rattle.sequential.specs.Calls.{Argument, LoadAddress, StoreAddress, StoreData}
 use Rattle.sequential.specs.Calls.{Call, Activate, Give, Serve, Write, Take, Ready}
 
 -- a queue and the memory that is lent to its calls
@@ -52,17 +52,13 @@ give LoadAddress = loadAddress
 give StoreAddress = storeAddress
 give StoreData = storeData
 
-abbrev pub ready : Side → Contents → List ℕ → Ruled (List ℕ)
-ready LoadSide = readyLoads
-ready StoreSide = readyStores
-
 abbrev pub step : Machine → Call → Step
 step m (Activate g) = moved m (activate (m .queue) g)
 step m (Give kind port x) = moved m (give kind (m .queue) port x)
 step m (Serve c s) = served m (serve (m .queue) (m .memory) s)
 step m (Write s) = written m (write (m .queue) (m .memory) s)
 step m (Take p) = taken m (takeRule (m .queue) p)
-step m (Ready side run) = looked m (ready side (m .queue) run)
+step m (Ready kind run) = looked m (ready kind (m .queue) run)
 
 -- a call with its answer
 pub record Answered : Type 0 where

@@ -2,20 +2,18 @@
 use Prim.Native.Nat.{ℕ}
 use mathlib.Core.List.{List}
 use Rattle.queue.specs.declared.Counts.{Counts}
+use Rattle.queue.specs.declared.Kind.{Kind}
 
--- the three kinds of argument, and the two sides
+-- the three kinds of argument
 pub data Argument : Type 0 where
   LoadAddress StoreAddress StoreData : Argument
 
-pub data Side : Type 0 where
-  LoadSide StoreSide : Side
-
--- activate a group; give an argument to a port; serve with these counts, or write, a serial; take from a port; ready with
--- this run of numbers
+-- activate a group; give an argument to a port; serve with these counts, or write, a serial; take from a port; which of
+-- this kind are ready, with this run of numbers
 pub data Call : Type 0 where
   Activate : ℕ → Call
   Give : Argument → ℕ → ℕ → Call
   Serve : Counts → ℕ → Call
   Write : ℕ → Call
   Take : ℕ → Call
-  Ready : Side → List ℕ → Call
+  Ready : Kind → List ℕ → Call

@@ -38,7 +38,7 @@ takeOf port (Give kind p x) = false
 takeOf port (Serve c s) = false
 takeOf port (Write s) = false
 takeOf port (Take p) = eqb p port
-takeOf port (Ready side run) = false
+takeOf port (Ready kind run) = false
 
 abbrev pub takenAt : ℕ → List Answered → List ℕ
 takenAt port [] = []
@@ -54,7 +54,7 @@ serveIn (Give kind p x) = none
 serveIn (Serve c s) = some s
 serveIn (Write s) = none
 serveIn (Take p) = none
-serveIn (Ready side run) = none
+serveIn (Ready kind run) = none
 
 abbrev pub writeIn : Call → Option ℕ
 writeIn (Activate g) = none
@@ -62,7 +62,7 @@ writeIn (Give kind p x) = none
 writeIn (Serve c s) = none
 writeIn (Write s) = some s
 writeIn (Take p) = none
-writeIn (Ready side run) = none
+writeIn (Ready kind run) = none
 
 -- the loads and the stores among accesses
 abbrev pub isLoad : Access → Bool

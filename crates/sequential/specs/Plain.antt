@@ -31,7 +31,7 @@ groupIn (Give kind p x) = none
 groupIn (Serve c s) = none
 groupIn (Write s) = none
 groupIn (Take p) = none
-groupIn (Ready side run) = none
+groupIn (Ready kind run) = none
 
 -- is it this kind of argument
 abbrev pub sameKind : Argument → Argument → Bool
@@ -52,7 +52,7 @@ givenIn kind port (Give k p x) = pick (sameKind k kind && eqb p port) (some x) n
 givenIn kind port (Serve c s) = none
 givenIn kind port (Write s) = none
 givenIn kind port (Take p) = none
-givenIn kind port (Ready side run) = none
+givenIn kind port (Ready k run) = none
 
 -- "First it gathers rows in list order: accepted addresses for each load port, accepted addresses and accepted data for each
 -- store port." A row for each kind of argument and each port.

@@ -11,6 +11,7 @@ use Rattle.table.specs.declared.Table.{Table}
 use Rattle.table.specs.Table.{groupsOf}
 use Rattle.queue.specs.declared.Queue.{Queue}
 use Rattle.queue.specs.declared.Counts.{Counts}
+use Rattle.queue.specs.declared.Kind.{Kind}
 use Rattle.queue.specs.declared.Outcome.{Outcome}
 use Rattle.queue.specs.declared.Opened.{Opened}
 use Rattle.queue.specs.declared.Counted.{Counted}
@@ -18,19 +19,17 @@ use Rattle.queue.specs.declared.Readied.{Readied}
 use Rattle.queue.specs.declared.opening.OpenedFrame.{OpenedFrame}
 use Rattle.queue.specs.Ruled.{number}
 use Rattle.queue.specs.Contents.{contentsOf}
-use Rattle.queue.specs.Open.{openQueue}
+use Rattle.queue.specs.Open.{openQueue, freshFrame}
 use Rattle.queue.specs.Activate.{activate}
 use Rattle.queue.specs.Serve.{serve}
 use Rattle.queue.specs.Write.{write}
 use Rattle.queue.specs.Take.{takeRule}
-use Rattle.queue.specs.Outcome.{valueIn, handed, noValue, Moves, Takes, Serves, Writes, Opens}
-use Rattle.queue.specs.ServeLent.{withCounts, withoutCounts}
-use Rattle.queue.specs.ReadyOutcome.{Readies, Fronts}
-use Rattle.queue.specs.NoQueue.{freshFrame}
+use Rattle.queue.specs.Outcome.{valueIn, handed, noValue, Moves, Takes, Serves, Writes, Opens, withCounts, withoutCounts}
+use Rattle.queue.specs.Ready.{ready, Readies, Fronts}
 use Rattle.queue.specs.Parts.{queueOf, answered, OpensFrame}
 use Rattle.queue.specs.Sound.{sound}
-use Rattle.sequential.specs.Calls.{Side, Call, Activate, Give, Serve, Write, Take, Ready}
-use Rattle.sequential.specs.Call.{give, ready, Machine, Answered}
+use Rattle.sequential.specs.Calls.{Call, Activate, Give, Serve, Write, Take, Ready}
+use Rattle.sequential.specs.Call.{give, Machine, Answered}
 use Rattle.sequential.specs.Plain.{Filling}
 use Rattle.sequential.specs.Demand3.{told, takenAt, Sequential, Alike}
 
@@ -47,7 +46,7 @@ Hands q m (Give kind port x) r left = Moves q (give kind (contentsOf q) port x) 
 Hands q m (Serve lent s) r left = ((counts : Counts) × Serves q lent (serve (contentsOf q) m s) (withCounts r counts)) × (left ≡ m)
 Hands q m (Write s) r left = Writes q m (write (contentsOf q) m s) r left
 Hands q m (Take p) r left = Takes q (takeRule (contentsOf q) p) r × (left ≡ m)
-Hands q m (Ready side run) r left = (handed r ≡ noValue (number (ready side (contentsOf q) run)) q) × (left ≡ m)
+Hands q m (Ready kind run) r left = (handed r ≡ noValue (number (ready kind (contentsOf q) run)) q) × (left ≡ m)
 
 -- Calls on a queue and a memory, with their answers, up to the queue and the memory that they leave.
 pub data Runs : Queue → List ℕ → List Call → List Answered → Queue → List ℕ → Type 0 where
@@ -55,9 +54,8 @@ pub data Runs : Queue → List ℕ → List Call → List Answered → Queue →
   next : {q q₂ : Queue} {m m₁ m₂ : List ℕ} {c : Call} {cs : List Call} {log : List Answered} (r : Outcome)
       → Hands q m c r m₁ → Runs (r .queue) m₁ cs log q₂ m₂ → Runs q m (c ∷ cs) (logged c r ∷ log) q₂ m₂
 
--- Two calls serve, and two for each side tell what is ready; both contracts give the same premise. The contracts' own words
--- stand before the last arrow: of `serve_counted`, of `serve`, of `ready_loads_into` and `ready_stores_into`, and of
--- `ready_loads` and `ready_stores`. The proofs are in proofs/RecordsDemand3.antt.
+-- Two calls serve, and two tell what is ready; both contracts give the same premise. The contracts' own words stand before the
+-- last arrow: of `serve_counted`, of `serve`, of `ready_into` and of `ready`. The proofs are in proofs/RecordsDemand3.antt.
 abbrev pub ServeCountedHands : Type 0
 ServeCountedHands =
     (q : Queue) (m : List ℕ) (lent : Counts) (serial : ℕ) (r : Counted) →
@@ -72,15 +70,15 @@ ServeHands =
 
 abbrev pub ReadyIntoHands : Type 0
 ReadyIntoHands =
-    (q : Queue) (m run left : List ℕ) (side : Side) (r : Readied) →
-    Readies q run (ready side (contentsOf q) run) r left →
-    Hands q m (Ready side run) (answered (r .answer) (r .queue)) m
+    (q : Queue) (m run left : List ℕ) (kind : Kind) (r : Readied) →
+    Readies q run (ready kind (contentsOf q) run) r left →
+    Hands q m (Ready kind run) (answered (r .answer) (r .queue)) m
 
 abbrev pub ReadyHands : Type 0
 ReadyHands =
-    (q : Queue) (m run serials : List ℕ) (side : Side) (answer : ℕ) (queue : Queue) →
-    Fronts q (ready side (contentsOf q) run) answer serials queue →
-    Hands q m (Ready side run) (answered answer queue) m
+    (q : Queue) (m run serials : List ℕ) (kind : Kind) (answer : ℕ) (queue : Queue) →
+    Fronts q (ready kind (contentsOf q) run) answer serials queue →
+    Hands q m (Ready kind run) (answered answer queue) m
 
 abbrev pub machineOf : Queue → List ℕ → Machine
 machineOf q m = record { queue = contentsOf q; memory = m }

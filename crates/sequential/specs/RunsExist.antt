@@ -15,8 +15,7 @@ use Rattle.queue.specs.declared.Queue.{Queue}
 use Rattle.queue.specs.declared.Outcome.{Outcome}
 use Rattle.queue.specs.declared.Opened.{Opened}
 use Rattle.queue.specs.Ruled.{number}
-use Rattle.queue.specs.Open.{openQueue}
-use Rattle.queue.specs.NoQueue.{noQueue}
+use Rattle.queue.specs.Open.{openQueue, noQueue}
 use Rattle.queue.specs.Outcome.{valueIn, Opens}
 use Rattle.sequential.specs.Calls.{Call, Activate, Give, Serve, Write, Take, Ready}
 use Rattle.sequential.specs.Call.{Answered}
@@ -37,7 +36,7 @@ argumentFits (Give kind port x) = fits 32 x
 argumentFits (Serve c s) = true
 argumentFits (Write s) = true
 argumentFits (Take p) = true
-argumentFits (Ready side run) = true
+argumentFits (Ready kind run) = true
 
 -- A queue's record as a program holds it: each number has its bits, and there are 64 places on each side.
 pub record StoredSide (s : Side) : Type 0 where

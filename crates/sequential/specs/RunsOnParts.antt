@@ -11,24 +11,23 @@ use Rattle.table.specs.Basics.{allOf}
 use Rattle.table.specs.Table.{groupsOf}
 use Rattle.queue.specs.declared.Queue.{Queue}
 use Rattle.queue.specs.declared.Counts.{Counts}
+use Rattle.queue.specs.declared.Kind.{Kind}
 use Rattle.queue.specs.declared.Outcome.{Outcome}
 use Rattle.queue.specs.declared.serving.Service.{Service}
 use Rattle.queue.specs.declared.ready.ReadyCount.{ReadyCount}
 use Rattle.queue.specs.declared.opening.OpenedFrame.{OpenedFrame}
 use Rattle.queue.specs.Ruled.{Ruled, number}
 use Rattle.queue.specs.Contents.{contentsOf}
-use Rattle.queue.specs.Open.{openQueue}
+use Rattle.queue.specs.Open.{openQueue, freshFrame}
 use Rattle.queue.specs.Activate.{activate}
 use Rattle.queue.specs.Serve.{serve}
 use Rattle.queue.specs.Write.{write}
 use Rattle.queue.specs.Take.{takeRule}
-use Rattle.queue.specs.Outcome.{handed, noValue, Moves, Takes, Serves, Writes}
-use Rattle.queue.specs.ServeLent.{withCounts, withoutCounts}
-use Rattle.queue.specs.ReadyOutcome.{Readies}
-use Rattle.queue.specs.NoQueue.{freshFrame}
+use Rattle.queue.specs.Outcome.{handed, noValue, Moves, Takes, Serves, Writes, withCounts, withoutCounts}
+use Rattle.queue.specs.Ready.{ready, Readies}
 use Rattle.queue.specs.Parts.{queueOf, onParts, answered, countedOf, readiedOf, OpensFrame}
-use Rattle.sequential.specs.Calls.{Side, Call, Activate, Give, Serve, Write, Take, Ready}
-use Rattle.sequential.specs.Call.{give, ready, Answered}
+use Rattle.sequential.specs.Calls.{Call, Activate, Give, Serve, Write, Take, Ready}
+use Rattle.sequential.specs.Call.{give, Answered}
 use Rattle.sequential.specs.Plain.{Filling}
 use Rattle.sequential.specs.Demand3.{Sequential}
 use Rattle.sequential.specs.Records.{logged, machineOf, Runs}
@@ -46,7 +45,7 @@ HandsOnParts q m (Serve lent s) r left =
     ((counts : Counts) × Serves q lent (onEntries q (serve (contentsOf q) m s)) (withCounts r counts)) × (left ≡ m)
 HandsOnParts q m (Write s) r left = Writes q m (onEntries q (write (contentsOf q) m s)) r left
 HandsOnParts q m (Take p) r left = Takes q (onEntries q (takeRule (contentsOf q) p)) r × (left ≡ m)
-HandsOnParts q m (Ready side run) r left = (handed r ≡ noValue (number (onEntries q (ready side (contentsOf q) run))) q) × (left ≡ m)
+HandsOnParts q m (Ready kind run) r left = (handed r ≡ noValue (number (onEntries q (ready kind (contentsOf q) run))) q) × (left ≡ m)
 
 -- A lent run keeps its length. No contract says so: it is the language's own rule of a lent slice, which the logic tells every
 -- caller of a function that one is lent to.
@@ -61,8 +60,7 @@ pub data RunsOnParts : Queue → List ℕ → List Call → List Answered → Qu
       → HandsOnParts q m c r m₁ → SameLengths q (r .queue) → RunsOnParts (r .queue) m₁ cs log q₂ m₂
       → RunsOnParts q m (c ∷ cs) (logged c r ∷ log) q₂ m₂
 
--- The contracts of `serve_in`, and of `ready_loads_in` and `ready_stores_in`, give what is handed over; those of the others say it
--- as it stands.
+-- The contracts of `serve_in` and of `ready_in` give what is handed over; those of the others say it as it stands.
 abbrev pub ServeInHands : Type 0
 ServeInHands =
     (q after : Queue) (m : List ℕ) (lent : Counts) (serial : ℕ) (s : Service) →
@@ -71,9 +69,9 @@ ServeInHands =
 
 abbrev pub ReadyInHands : Type 0
 ReadyInHands =
-    (q : Queue) (m run left : List ℕ) (side : Side) (r : ReadyCount) →
-    Readies q run (onEntries q (ready side (contentsOf q) run)) (readiedOf r q) left →
-    HandsOnParts q m (Ready side run) (answered (r .answer) q) m
+    (q : Queue) (m run left : List ℕ) (kind : Kind) (r : ReadyCount) →
+    Readies q run (onEntries q (ready kind (contentsOf q) run)) (readiedOf r q) left →
+    HandsOnParts q m (Ready kind run) (answered (r .answer) q) m
 
 -- with two runs of 64 numbers it is a run of records
 abbrev pub PartsAreRecords : Type 0

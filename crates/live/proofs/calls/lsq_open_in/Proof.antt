@@ -5,8 +5,7 @@ use Rattle.table.specs.TableBytes.{tableAnswer, pack}
 use Rattle.table.specs.declared.Table.{Table}
 use Rattle.table.specs.declared.TableRead.{TableRead}
 use Rattle.queue.specs.declared.Frame.{Frame}
-use Rattle.queue.specs.Open.{openQueue}
-use Rattle.queue.specs.NoQueue.{freshFrame}
+use Rattle.queue.specs.Open.{openQueue, freshFrame}
 use Rattle.queue.specs.Parts.{OpensFrame}
 use Rattle.replay.proofs.TableLaws.{table-refused, table-got}
 use Rattle.live.proofs.CallLaws.{no-table-no-frame}

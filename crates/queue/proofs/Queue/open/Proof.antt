@@ -1,6 +1,5 @@
 use Rattle.table.specs.Table.{groupsOf}
-use Rattle.queue.specs.Open.{openQueue}
-use Rattle.queue.specs.NoQueue.{freshFrame}
+use Rattle.queue.specs.Open.{openQueue, freshFrame}
 use Rattle.queue.proofs.PartsLaws.{opens}
 use borrow.Author.Needs.{needs}
 use Rattle.queue.proofs.Queue.open.Statement.{statement}

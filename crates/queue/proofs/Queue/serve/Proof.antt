@@ -45,8 +45,7 @@ use denote.Triple.Clauses.{ensured, lasts}
 use Rattle.queue.proofs.Leave.{leaves}
 use Rattle.queue.specs.Contents.{contentsOf}
 use Rattle.queue.specs.Serve as rule
-use Rattle.queue.specs.Outcome.{Serves}
-use Rattle.queue.specs.ServeLent.{withoutCounts}
+use Rattle.queue.specs.Outcome.{Serves, withoutCounts}
 use Rattle.queue.specs.declared.Queue.{Queue}
 use Rattle.queue.specs.declared.Counts.{Counts}
 use Rattle.queue.specs.declared.Counted.{Counted}

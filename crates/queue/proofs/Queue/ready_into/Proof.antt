@@ -3,8 +3,8 @@ use mathlib.Core.Bool.{true}
 use Rattle.queue.specs.Parts.{whole}
 use Rattle.queue.proofs.PartsLaws.{both-whole}
 use borrow.Author.Needs.{needs}
-use Rattle.queue.proofs.Queue.ready_stores_into.Statement.{statement}
-use Rattle.queue.proofs.Queue.ready_stores_into.Tie as tie
+use Rattle.queue.proofs.Queue.ready_into.Statement.{statement}
+use Rattle.queue.proofs.Queue.ready_into.Tie as tie
 
 -- a queue's own arrays are whole runs
 own : (c : tie.Start) → whole (c .args .self .«load_entries») (c .args .self .«store_entries») ≡ true
@@ -14,10 +14,10 @@ returns : tie.Need-returns
 returns c =
     let k = c .before .before in
     let o = k .before .before .before .before .before .before .before .before in
-    rw (own (o .before .before .before .before .before), o .outline-of .ensures) at (k .ready-stores-in .ensures)
+    rw (own (o .before .before .before .before .before), o .outline-of .ensures) at (k .ready-in .ensures)
 
-pub ready-stores-into-spec : {M : Type 1} → statement M
-ready-stores-into-spec =
+pub ready-into-spec : {M : Type 1} → statement M
+ready-into-spec =
     tie.close
     (tie.spec
     (λ c κs. search needs)

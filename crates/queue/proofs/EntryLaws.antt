@@ -16,7 +16,8 @@ use Rattle.queue.specs.Contents.{loadOf, storeOf, firstPlace}
 use Rattle.queue.specs.Sound.{addressRight, loadRight, storeRight}
 use Rattle.queue.specs.Arguments.{loadLacksAddress, storeLacksAddress, storeLacksWord}
 use Rattle.queue.specs.Take.{untaken}
-use Rattle.queue.specs.Write.{leaving, addressApart, loadGivesWay, storeGivesWay}
+use Rattle.queue.specs.Write.{addressApart, loadGivesWay, storeGivesWay}
+use Rattle.queue.specs.Retire.{retiring}
 use Rattle.queue.specs.Internal.{lacks, finished, entryRight, sideOf, entriesIn}
 use Rattle.queue.specs.InternalWrite.{givesWay}
 
@@ -231,9 +232,9 @@ module _ {B : Type 0} (f : Entry → B) (p : B → Bool) (q : Entry → Bool) (s
   place-through [] = refl
   place-through (x ∷ l) = rw (same (entryOf x), place-through l)
 
-  leaving-through : (l : List ℕ) → leaving p (map (λ (n : ℕ). f (entryOf n)) l) ≡ leaving q (map entryOf l)
-  leaving-through [] = refl
-  leaving-through (x ∷ l) = rw (same (entryOf x)) (go (q (entryOf x)) (leaving-through l))
+  retiring-through : (l : List ℕ) → retiring p (map (λ (n : ℕ). f (entryOf n)) l) ≡ retiring q (map entryOf l)
+  retiring-through [] = refl
+  retiring-through (x ∷ l) = rw (same (entryOf x)) (go (q (entryOf x)) (retiring-through l))
     where
       go : (t : Bool) → length (frontWhile p (map (λ (n : ℕ). f (entryOf n)) l)) ≡ length (frontWhile q (map entryOf l))
           → length (pick t (f (entryOf x) ∷ frontWhile p (map (λ (n : ℕ). f (entryOf n)) l)) []) ≡ length (pick t (entryOf x ∷ frontWhile q (map entryOf l)) [])
@@ -246,8 +247,8 @@ module _ {B : Type 0} (f : Entry → B) (p : B → Bool) (q : Entry → Bool) (s
   pub side-place-same : (n : ℕ) (l : List ℕ) → firstPlace p (sideOf (λ (x : ℕ). f (entryOf x)) 0 n l) ≡ firstPlace q (entriesIn n l)
   side-place-same n l = place-through (held 0 n l)
 
-  pub side-leaving-same : (n : ℕ) (l : List ℕ) → leaving p (sideOf (λ (x : ℕ). f (entryOf x)) 0 n l) ≡ leaving q (entriesIn n l)
-  side-leaving-same n l = leaving-through (held 0 n l)
+  pub side-retiring-same : (n : ℕ) (l : List ℕ) → retiring p (sideOf (λ (x : ℕ). f (entryOf x)) 0 n l) ≡ retiring q (entriesIn n l)
+  side-retiring-same n l = retiring-through (held 0 n l)
 
 -- what a side's numbers hold is what its entries hold
 pub side-holds : {B : Type 0} (f : Entry → B) (n : ℕ) (l : List ℕ) → sideOf (λ (x : ℕ). f (entryOf x)) 0 n l ≡ map f (entriesIn n l)

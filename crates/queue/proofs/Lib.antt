@@ -18,7 +18,7 @@ pub mod AppendLaws
 pub mod ActivateLaws
 pub mod ArgumentLaws
 pub mod SourceLaws
-pub mod SettleLaws
+pub mod RetireLaws
 pub mod ServeLaws
 pub mod WriteLaws
 pub mod TakeLaws

@@ -2,7 +2,7 @@
 use Prim.Native.Nat.{ℕ, _+_}
 use mathlib.Core.Path.{_≡_, refl, sym, ap, _∙_}
 use mathlib.Core.Bool.{Bool, true, false, not}
-use mathlib.Core.List.{List, [], _∷_, _++_, append-nil}
+use mathlib.Core.List.{List, [], _∷_, _++_, map, append-nil}
 use mathlib.Core.Option.{Option, none, some}
 use lib.ListN.{getD, drop}
 use borrow.Author.Tests.{not-true, not-false}
@@ -59,6 +59,13 @@ word-on word a found s ss v = go (hasAddress s)
         → (t ≡ true) × (wordFrom word (source a (pick (unwrittenTo a s) (fromStore (s .word)) found) ss) ≡ some v)
     go true h = (refl, h)
     go false h = let e : false ≡ true = cc in false-true e
+
+-- ---- a source goes by the stores' addresses, words and marks, and not by what they remember
+pub source-alike : {A : Type 0} (f g : A → Store) → ((x : A) → f x .address ≡ g x .address) → ((x : A) → f x .word ≡ g x .word)
+    → ((x : A) → f x .written ≡ g x .written) → (a : ℕ) (found : Source) (xs : List A) → source a found (map f xs) ≡ source a found (map g xs)
+source-alike f g address word written a found [] = refl
+source-alike f g address word written a found (x ∷ xs) =
+    rw (address x, word x, written x, source-alike f g address word written a (pick (unwrittenTo a (g x)) (fromStore (g x .word)) found) xs)
 
 -- ---- written stores with an address leave a load to memory
 pub source-written : (a : ℕ) (past ss : List Store) → allOf (λ s. s .written) past ≡ true → allOf hasAddress past ≡ true

@@ -14,7 +14,7 @@ use Rattle.queue.specs.Contents.{loadOf, loadIn, contentsOf, withLoads, 
 use Rattle.queue.specs.Entry.{entryOf}
 use Rattle.queue.specs.Sound.{sound}
 use Rattle.queue.specs.Arguments.{isLoadPort}
-use Rattle.queue.specs.Write.{settle}
+use Rattle.queue.specs.Retire.{retire}
 use Rattle.queue.specs.Take.{untaken, loadTaken, takeRule}
 use Rattle.queue.specs.Internal.{loadsIn}
 use Rattle.queue.proofs.ContentsLaws.{getElem?-past, side-getElem?, side-length}
@@ -43,6 +43,6 @@ module _ (q : Queue) (port : ℕ) where
         take-unserved s = rw (right, known, ← is, here, s)
 
         pub take-served : e .filled ≡ true
-            → takeRule (contentsOf q) port ≡ accept (record { value = e .word; queue = settle (withLoads (contentsOf q) (updateAt loadTaken place (contentsOf q .loads))) })
+            → takeRule (contentsOf q) port ≡ accept (record { value = e .word; queue = retire (withLoads (contentsOf q) (updateAt loadTaken place (contentsOf q .loads))) })
         unfolding takeRule contentsOf
         take-served s = rw (right, known, ← is, here, s)

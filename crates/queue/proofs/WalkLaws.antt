@@ -9,7 +9,7 @@ use mathlib.Core.List.{List, [], _∷_}
 use lib.ListN.{drop}
 use Rattle.table.specs.Basics.{anyOf, allOf}
 use Rattle.queue.specs.Contents.{firstPlace}
-use Rattle.queue.specs.Write.{leaving}
+use Rattle.queue.specs.Retire.{retiring}
 
 -- ---- every entry passes
 pub record AllYet {B : Type 0} (p : B → Bool) (l : List B) (i : ℕ) : Type 0 where
@@ -66,19 +66,19 @@ module _ {B : Type 0} {p : B → Bool} {l : List B} {i : ℕ} (w : Seeking p l i
   seeking-end e = rw (w .is, e) (sym (add-zero i))
 
 -- ---- finished entries at the oldest end
-pub record Leaving {B : Type 0} (p : B → Bool) (l : List B) (i : ℕ) : Type 0 where
-  pub is : leaving p l ≡ i + leaving p (drop i l)
+pub record Retiring {B : Type 0} (p : B → Bool) (l : List B) (i : ℕ) : Type 0 where
+  pub is : retiring p l ≡ i + retiring p (drop i l)
 
-pub leaving-none : {B : Type 0} {p : B → Bool} {l : List B} → Leaving p l 0
-leaving-none = record { is = sym (zero-add _) }
+pub retiring-none : {B : Type 0} {p : B → Bool} {l : List B} → Retiring p l 0
+retiring-none = record { is = sym (zero-add _) }
 
-module _ {B : Type 0} {p : B → Bool} {l : List B} {i : ℕ} (w : Leaving p l i) where
+module _ {B : Type 0} {p : B → Bool} {l : List B} {i : ℕ} (w : Retiring p l i) where
   module _ {x : B} (here : drop i l ≡ x ∷ drop (i + 1) l) where
-    pub leaving-on : p x ≡ true → Leaving p l (i + 1)
-    leaving-on e = record { is = w .is ∙ rw (here, e, add-one, add-suc, suc-add) }
+    pub retiring-on : p x ≡ true → Retiring p l (i + 1)
+    retiring-on e = record { is = w .is ∙ rw (here, e, add-one, add-suc, suc-add) }
 
-    pub leaving-stop : p x ≡ false → i ≡ leaving p l
-    leaving-stop e = rw (w .is, here, e) (sym (add-zero i))
+    pub retiring-stop : p x ≡ false → i ≡ retiring p l
+    retiring-stop e = rw (w .is, here, e) (sym (add-zero i))
 
-  pub leaving-end : drop i l ≡ [] → i ≡ leaving p l
-  leaving-end e = rw (w .is, e) (sym (add-zero i))
+  pub retiring-end : drop i l ≡ [] → i ≡ retiring p l
+  retiring-end e = rw (w .is, e) (sym (add-zero i))

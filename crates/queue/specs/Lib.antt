@@ -11,6 +11,7 @@ pub mod Arguments
 pub mod Serve
 pub mod Write
 pub mod Take
+pub mod Retire
 pub mod Ready
 pub mod Counts
 pub mod Outcome
@@ -20,4 +21,5 @@ pub mod InternalActivate
 pub mod InternalArguments
 pub mod InternalServe
 pub mod InternalWrite
+pub mod InternalRetire
 pub mod InternalReady

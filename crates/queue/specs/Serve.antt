@@ -56,7 +56,7 @@ loadedFrom memory a unknown = refuse earlierStoreUnknown
 loadedFrom memory a (fromStore word) = have word noData λ w. accept (record { value = w; forwarded = true })
 loadedFrom memory a fromMemory = accept (record { value = getD memory a 0; forwarded = false })
 
--- what a load gets where it is served behind these stores: 26, 27, and then by its source
+-- what serving a load gives it, with these stores before it: 26, 27, and then by its source
 abbrev pub mayServe : List ℕ → List Store → Load → Ruled Loaded
 mayServe memory ss l =
     need (not (isSome (l .value))) alreadyDone

@@ -10,7 +10,7 @@ use Rattle.queue.specs.Ruled.{Ruled, accept, need, have}
 use Rattle.queue.specs.Contents.{Load, Contents, withLoads, updateAt, firstPlace}
 use Rattle.queue.specs.Sound.{sound}
 use Rattle.queue.specs.Arguments.{isLoadPort}
-use Rattle.queue.specs.Write.{settle}
+use Rattle.queue.specs.Retire.{retire}
 
 -- what an accepted take gives
 pub record Taken : Type 0 where
@@ -31,5 +31,5 @@ takeRule q port =
     have (l .value) notServed λ v.
     accept (record {
       value = v;
-      queue = settle (withLoads q (updateAt loadTaken (firstPlace (untaken port) (q .loads)) (q .loads)));
+      queue = retire (withLoads q (updateAt loadTaken (firstPlace (untaken port) (q .loads)) (q .loads)));
     })))

@@ -12,6 +12,7 @@ pub mod opening;
 pub mod ports;
 pub mod ready;
 pub mod refusal;
+pub mod retiring;
 pub mod serial;
 pub mod serving;
 pub mod sound;

@@ -22,8 +22,8 @@ use crate::refusal::NO_PORT;
 use crate::refusal::NONE_UNTAKEN;
 use crate::refusal::NOT_SERVED;
 use crate::refusal::UNSOUND;
+use crate::retiring::retire;
 use crate::sound::sound_in;
-use crate::writing::settle;
 
 // Take on a queue's parts: 40, 22, 33, 34.
 pub fn take_in<'a>(
@@ -73,7 +73,7 @@ pub fn take_in<'a>(
     }
     load.finished = true;
     load_entries[at] = pack(load);
-    let left = settle(outline, load_entries, store_entries);
+    let left = retire(outline, load_entries, store_entries);
     let loads_left = left.loads;
     let stores_left = left.stores;
     accepted(Value::Word(load.word), loads_left, stores_left)

@@ -1,25 +1,22 @@
-// Writing stores, and how finished entries leave: "a written store puts its data in memory"; "after each write or take,
-// finished entries (stores written, loads taken) leave each side from its oldest end until an unfinished one is oldest".
+// Writing stores: "a written store puts its data in memory".
 ghost use mathlib.Core.Path.{_≡_};
-ghost use Prim.Native.Nat.{_+_, _≤_, _<_, _-_};
+ghost use Prim.Native.Nat.{_≤_, _<_};
 ghost use lib.ListN.{length, getD};
 ghost use Rattle.table.specs.Basics.{allOf};
 ghost use Rattle.table.specs.declared.Table.{Table};
 ghost use Rattle.queue.specs.Entry.{entryOf};
 ghost use Rattle.queue.specs.Contents.{contentsOf};
-ghost use Rattle.queue.specs.Write.{leaving, settle, writeAt, write};
+ghost use Rattle.queue.specs.Write.{writeAt, write};
 ghost use Rattle.queue.specs.Ruled.{number};
 ghost use Rattle.queue.specs.Outcome.{Writes};
 ghost use Rattle.queue.specs.Parts.{frameOf, queueOf, outcomeOf, onParts};
-ghost use Rattle.queue.specs.Internal.{entriesIn, finished, frameWith, Checked};
-ghost use Rattle.queue.specs.InternalWrite.{givesWay, Shifted, shorter, withSides, mayWriteAt};
+ghost use Rattle.queue.specs.Internal.{entriesIn, frameWith, Checked};
+ghost use Rattle.queue.specs.InternalWrite.{givesWay, mayWriteAt};
 use crate::Entry;
 use crate::Outcome;
 use crate::Outline;
 use crate::Queue;
-use crate::Side;
 use crate::Value;
-use crate::answering::Sides;
 use crate::answering::Step;
 use crate::answering::accepted;
 use crate::answering::frame_after;
@@ -37,6 +34,7 @@ use crate::refusal::NO_DATA;
 use crate::refusal::NO_SERIAL;
 use crate::refusal::UNSOUND;
 use crate::refusal::WRONG_MEMORY;
+use crate::retiring::retire;
 use crate::serial::place_of;
 use crate::sound::sound_in;
 
@@ -99,79 +97,6 @@ pub(crate) fn write_fault(load_entries: &[u64], store_entries: &[u64], at: usize
     0
 }
 
-// How many entries at the oldest end are finished. A finished entry behind an unfinished one keeps its place.
-fn finished(entries: &[u64], held: u8) -> u8
-    requires { ⌜ held ≤ length (now entries) ⌝ }
-    ensures { λ r. ⌜ r ≡ leaving finished (entriesIn held (now (entries .entry))) ⌝ }
-{
-    let mut i: u8 = 0;
-    while i < held {
-        let at = i as usize;
-        let entry = unpack(entries[at]);
-        if !entry.finished {
-            return i;
-        }
-        i += 1;
-    }
-    i
-}
-
-// "The number falls as those leave and then stays 0."
-fn less(before: u8, gone: u8) -> u8
-    ensures { λ r. ⌜ r ≡ before - gone ⌝ }
-{
-    if gone <= before { before - gone } else { 0 }
-}
-
-// Moves the `left` entries behind the first `gone` to the front; each forgets `others`, as many of the other kind as go too.
-fn shift(entries: &mut [u64], gone: u8, left: u8, others: u8)
-    requires { ⌜ gone + left ≤ length (now entries) ⌝ }
-    ensures { λ _. ⌜ Shifted gone left others (now (entries .entry)) (now (entries .exit)) ⌝ }
-{
-    let from = gone as usize;
-    let count = left as usize;
-    let mut i: usize = 0;
-    while i < count {
-        let mut entry = unpack(entries[i + from]);
-        entry.before = less(entry.before, others);
-        entries[i] = pack(entry);
-        i += 1;
-    }
-}
-
-// A side after `gone` of its entries have left.
-fn shorter(side: Side, gone: u8) -> Side
-    requires { ⌜ gone ≤ side .count ⌝ }
-    ensures { λ r. ⌜ r ≡ shorter side gone ⌝ }
-{
-    Side {
-        depth: side.depth,
-        count: side.count - gone,
-        next: side.next,
-    }
-}
-
-// Finished entries leave; one that stays forgets those of the other kind that left.
-pub(crate) fn settle(outline: Outline, load_entries: &mut [u64], store_entries: &mut [u64]) -> Sides
-    requires { ⌜ (outline .loads .count ≤ length (now «load_entries»)) × (outline .stores .count ≤ length (now «store_entries»)) ⌝ }
-    ensures { λ r. ⌜ ((table : Table) → let frame = frameWith table outline in
-        contentsOf (queueOf (withSides frame r) (now («load_entries» .exit)) (now («store_entries» .exit)))
-        ≡ settle (contentsOf (queueOf frame (now («load_entries» .entry)) (now («store_entries» .entry))))) ⌝ }
-{
-    let loads = outline.loads;
-    let stores = outline.stores;
-    let loads_gone = finished(load_entries, loads.count);
-    let stores_gone = finished(store_entries, stores.count);
-    let loads_left = shorter(loads, loads_gone);
-    let stores_left = shorter(stores, stores_gone);
-    shift(load_entries, loads_gone, loads_left.count, stores_gone);
-    shift(store_entries, stores_gone, stores_left.count, loads_gone);
-    Sides {
-        loads: loads_left,
-        stores: stores_left,
-    }
-}
-
 // Write the store at a place: 25, 26, 27, 29, 31, 32. It does not read the table, so it speaks of every table.
 fn write_at(
     outline: Outline,
@@ -199,7 +124,7 @@ fn write_at(
     memory[store.address as usize] = store.word;
     store.finished = true;
     store_entries[at] = pack(store);
-    let left = settle(outline, load_entries, store_entries);
+    let left = retire(outline, load_entries, store_entries);
     let loads_left = left.loads;
     let stores_left = left.stores;
     accepted(Value::Nothing, loads_left, stores_left)
@@ -241,7 +166,7 @@ pub fn write_in<'a>(
 }
 
 impl Queue {
-    // Write the store with this serial: its data goes to memory, and finished entries leave.
+    // Write the store with this serial: its data goes to memory, and finished entries retire.
     pub fn write(self, memory: &mut [u32], serial: u32) -> Outcome
         ensures { λ r. ⌜ Writes self (now (memory .entry)) (write (contentsOf self) (now (memory .entry)) serial) r (now (memory .exit)) ⌝ }
     {

@@ -8,7 +8,7 @@ use lib.ListN.{length, length-map}
 use Rattle.table.specs.Basics.{pick, countWhere, afterWhile}
 use Rattle.table.specs.Group.{GroupPairs, Access}
 use Rattle.queue.specs.Contents.{Load, Store, Contents, withLoads, withStores, updateAt}
-use Rattle.queue.specs.Write.{settle, leaving, loadFinished, storeFinished, loadAfterLeaving, storeAfterLeaving}
+use Rattle.queue.specs.Retire.{retire, retiring, loadFinished, storeFinished, loadAfterRetiring, storeAfterRetiring}
 use Rattle.queue.proofs.Lists.{all-replace, count-append, length-updateAt, length-afterWhile}
 use Rattle.sequential.specs.Calls.{Argument}
 use Rattle.sequential.specs.Call.{Answered}
@@ -58,17 +58,17 @@ holds-store {q} {m} {memory} {log} h {i} {pre} {it} {post} l f blind right m′ 
 }
 
 -- "finished entries leave each side from its oldest end"
-pub holds-settled : {q : Contents} {m memory : List ℕ} {log : List Entry} → Holds q m memory log → Holds (settle q) m memory log
-holds-settled {q} {m} {memory} {log} h = record {
+pub holds-retired : {q : Contents} {m memory : List ℕ} {log : List Entry} → Holds q m memory log → Holds (retire q) m memory log
+holds-retired {q} {m} {memory} {log} h = record {
   limits = h .limits;
-  roomLoads = shorter loadFinished (loadAfterLeaving (leaving storeFinished (q .stores))) (q .loads) (h .roomLoads);
-  roomStores = shorter storeFinished (storeAfterLeaving (leaving loadFinished (q .loads))) (q .stores) (h .roomStores);
+  roomLoads = shorter loadFinished (loadAfterRetiring (retiring storeFinished (q .stores))) (q .loads) (h .roomLoads);
+  roomStores = shorter storeFinished (storeAfterRetiring (retiring loadFinished (q .loads))) (q .stores) (h .roomStores);
   long = h .long;
   windows = record {
-    gone = h .windows .gone + leaving loadFinished (q .loads);
-    gone′ = h .windows .gone′ + leaving storeFinished (q .stores);
-    ours = window-leave loads stores loads-stores loadAfterLeaving (λ j n l. refl) (h .windows .ours) (leaving storeFinished (q .stores));
-    theirs = window-leave stores loads stores-loads storeAfterLeaving (λ j n s. refl) (h .windows .theirs) (leaving loadFinished (q .loads));
+    gone = h .windows .gone + retiring loadFinished (q .loads);
+    gone′ = h .windows .gone′ + retiring storeFinished (q .stores);
+    ours = window-leave loads stores loads-stores loadAfterRetiring (λ j n l. refl) (h .windows .ours) (retiring storeFinished (q .stores));
+    theirs = window-leave stores loads stores-loads storeAfterRetiring (λ j n s. refl) (h .windows .theirs) (retiring loadFinished (q .loads));
   };
   rightLoads = h .rightLoads;
   rightStores = h .rightStores;

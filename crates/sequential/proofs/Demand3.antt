@@ -10,7 +10,7 @@ use lib.ListN.{length, getElem?}
 use borrow.Author.Tests.{leb-true}
 use Rattle.table.specs.Basics.{pick, allOf, countWhere}
 use Rattle.table.specs.Group.{GroupPairs}
-use Rattle.queue.specs.Write.{storeFinished}
+use Rattle.queue.specs.Retire.{storeFinished}
 use Rattle.queue.proofs.Lists.{and-left, and-both}
 use Rattle.sequential.specs.Call.{Machine, Answered, answers, leaves}
 use Rattle.sequential.specs.Plain.{Told, Rows, Filling, rowsOf, inOrder, accesses, loadedFrom, valuesAt, plainLoads, plainMemory}

@@ -19,8 +19,8 @@ use Rattle.queue.specs.Activate.{room, withGroup, activate}
 use Rattle.queue.specs.Arguments.{isLoadPort, isStorePort, loadLacksAddress, storeLacksAddress, storeLacksWord}
 use Rattle.queue.specs.Arguments.{loadWithAddress, storeWithAddress, storeWithWord, loadAddress, storeAddress, storeData}
 use Rattle.queue.specs.Serve.{Served, fromMemory, source, Loaded, loadedFrom, storesBefore, loadWithValue, serve}
-use Rattle.queue.specs.Write.{Written, storeDone, loadFinished, storeFinished, settle, write}
-use Rattle.queue.specs.Write.{loadAfterLeaving, storeAfterLeaving, leaving}
+use Rattle.queue.specs.Write.{Written, storeDone, write}
+use Rattle.queue.specs.Retire.{loadFinished, storeFinished, loadAfterRetiring, storeAfterRetiring, retiring, retire}
 use Rattle.queue.specs.Take.{Taken, untaken, loadTaken, takeRule}
 use Rattle.queue.specs.Ready.{ready}
 use Rattle.queue.specs.InternalActivate.{loadAfter, storeAfter}
@@ -96,7 +96,7 @@ source-fits memory a ss v h k e =
     (source-passes (λ x. wordFits (wordFrom (getD memory a 0) x)) a refl ss (all-getD (fits 32) memory a 0 h refl)
     (all-weaken storeFits (λ s. wordFits (s .word)) (λ s t. and-right (fits 5 (s .port)) (wordFits (s .word)) t) ss k))
 
--- ---- a queue with an entry made anew, with a group, settled; a memory with a word written
+-- ---- a queue with an entry made anew, with a group, with what is finished retired; a memory with a word written
 abbrev machine : Contents → List ℕ → Machine
 machine q m = record { queue = q; memory = m }
 
@@ -130,13 +130,13 @@ module _ (q : Contents) (m : List ℕ) (f : Fits (machine q m)) where
     memory = all-set (fits 32) m a w (f .memory) h;
   }
 
-  settle-fits : Fits (machine (settle q) m)
-  settle-fits = record {
+  retire-fits : Fits (machine (retire q) m)
+  retire-fits = record {
     loads =
-        all-map loadFits loadFits (loadAfterLeaving (leaving storeFinished (q .stores))) (λ l. refl) (afterWhile loadFinished (q .loads))
+        all-map loadFits loadFits (loadAfterRetiring (retiring storeFinished (q .stores))) (λ l. refl) (afterWhile loadFinished (q .loads))
         ∙ all-afterWhile loadFits loadFinished (q .loads) (f .loads);
     stores =
-        all-map storeFits storeFits (storeAfterLeaving (leaving loadFinished (q .loads))) (λ s. refl) (afterWhile storeFinished (q .stores))
+        all-map storeFits storeFits (storeAfterRetiring (retiring loadFinished (q .loads))) (λ s. refl) (afterWhile storeFinished (q .stores))
         ∙ all-afterWhile storeFits storeFinished (q .stores) (f .stores);
     nextLoad = f .nextLoad;
     nextStore = f .nextStore;
@@ -218,7 +218,7 @@ module _ (q : Contents) (m : List ℕ) (f : Fits (machine q m)) where
           let word : wordFits (some (w .put .word)) ≡ true =
           rw (w .may .worded) at (and-right (fits 5 (s .port)) (wordFits (s .word)) (all-found storeFits (q .stores) (storePlace q serial) at (f .stores))) in
           rw (w .result)
-          (with-memory (settle after) m (settle-fits after m (with-stores q m f storeDone (λ x h. h) (storePlace q serial)))
+          (with-memory (retire after) m (retire-fits after m (with-stores q m f storeDone (λ x h. h) (storePlace q serial)))
           (w .put .address) (w .put .word) word)
 
   take-fits : (port : ℕ) (r : Taken) → takeRule q port ≡ accept r → (fits 32 (r .value) ≡ true) × Fits (machine (r .queue) m)
@@ -230,11 +230,11 @@ module _ (q : Contents) (m : List ℕ) (f : Fits (machine q m)) where
       let (l, at, h₃) = have-accepts (getElem? (q .loads) place) _ _ h₂ in
       let (v, t₄, h₄) = have-accepts (l .value) _ _ h₃ in
       let after : Contents = withLoads q (updateAt loadTaken place (q .loads)) in
-      let result : record { value = v; queue = settle after } ≡ r = cc in
+      let result : record { value = v; queue = retire after } ≡ r = cc in
       let word : wordFits (some v) ≡ true =
       rw t₄ at (and-right (fits 5 (l .port)) (wordFits (l .value)) (all-found loadFits (q .loads) place at (f .loads))) in
       subst (λ (x : Taken). (fits 32 (x .value) ≡ true) × Fits (machine (x .queue) m)) result
-      (word, settle-fits after m (with-loads q m f loadTaken (λ x h. h) place))
+      (word, retire-fits after m (with-loads q m f loadTaken (λ x h. h) place))
 
 -- ---- a call
 module _ (m : Machine) (f : Fits m) (right : tableFault (m .queue .groups) ≡ 0) where

@@ -13,7 +13,7 @@ use borrow.Author.Tests.{le-leb}
 use Rattle.table.specs.Basics.{allOf}
 use Rattle.queue.specs.Ruled.{isSome}
 use Rattle.queue.specs.Contents.{Load, Store}
-use Rattle.queue.specs.Write.{loadFinished, storeFinished}
+use Rattle.queue.specs.Retire.{loadFinished, storeFinished}
 use Rattle.queue.proofs.Lists.{false-true, and-both}
 use Rattle.sequential.specs.Plain.{consOption}
 

@@ -16,7 +16,8 @@ use Rattle.queue.specs.Ruled.{number, isSome}
 use Rattle.queue.specs.Contents.{Load, Store, Contents, after, oldest, loadPlace, storePlace}
 use Rattle.queue.specs.Sound.{sound}
 use Rattle.queue.specs.Serve.{hasAddress, fromMemory, source, serve}
-use Rattle.queue.specs.Write.{addressApart, loadGivesWay, storeGivesWay, storeFinished, write}
+use Rattle.queue.specs.Write.{addressApart, loadGivesWay, storeGivesWay, write}
+use Rattle.queue.specs.Retire.{storeFinished}
 use Rattle.queue.proofs.Lists.{false-true, is-none, and-left, and-right, and-both, or-left, all-left, all-middle, getElem?-short}
 use Rattle.queue.proofs.SourceLaws.{source-memory}
 use Rattle.queue.proofs.Serials.{place-of-serial, oldest-small, after-small}

@@ -6,21 +6,21 @@ use mathlib.Core.List.{List, [], _∷_, _++_, map}
 use mathlib.Core.Option.{none, some}
 use lib.ListN.{length, take, getD, getElem?}
 use borrow.Author.Tests.{ltb-true}
-use Rattle.table.specs.Basics.{pick, allOf}
+use Rattle.table.specs.Basics.{allOf}
 use Rattle.table.specs.Group.{GroupPairs}
 use Rattle.queue.specs.Ruled.{accept, isSome}
 use Rattle.queue.specs.Contents.{Load, Store, Contents, loadPlace}
 use Rattle.queue.specs.Sound.{addressRight}
-use Rattle.queue.specs.Serve.{Served, Source, fromStore, fromMemory, hasAddress, unwrittenTo, source, loadWithValue, serve}
+use Rattle.queue.specs.Serve.{Served, fromMemory, hasAddress, source, loadWithValue, serve}
 use Rattle.queue.specs.declared.Counts.{Counts}
 use Rattle.queue.proofs.Lists.{is-none, and-left, and-both, or-right, implied, all-left, all-middle}
-use Rattle.queue.proofs.SourceLaws.{wordFrom, loaded-word, source-written}
+use Rattle.queue.proofs.SourceLaws.{wordFrom, loaded-word, source-alike, source-written}
 use Rattle.queue.proofs.ServeLaws.{Serving, serve-accepts}
 use Rattle.sequential.specs.Calls.{Argument, LoadAddress, StoreAddress, StoreData, Serve}
 use Rattle.sequential.specs.Call.{Machine, Answered}
 use Rattle.sequential.specs.Plain.{rowsOf}
 use Rattle.sequential.specs.Demand3.{told, takenAt}
-use Rattle.sequential.proofs.Log.{Entry, ofLoad, loads, stores, ownIn, loads-stores, entryOf, Placed, ownIn-append}
+use Rattle.sequential.proofs.Log.{Entry, ofLoad, loads, stores, ownIn, loads-stores, entryOf, ownIn-append}
 use Rattle.sequential.proofs.Window.{Located, Before, locate, past-passes, shown}
 use Rattle.sequential.proofs.MemoryInvariant.{Agree, agree-serve}
 use Rattle.sequential.proofs.Rows.{given, valueTaken}
@@ -29,16 +29,11 @@ use Rattle.sequential.proofs.Anew.{holds-load, row-kept, seen-anew}
 
 -- ---- the queue's stores before the load give it the source that the log's do
 
--- a source does not depend on remembered numbers
-source-shown : (a out : ℕ) (found : Source) (xs : List (Placed Store)) → source a found (map (shown stores out) xs) ≡ source a found (map entryOf xs)
-source-shown a out found [] = refl
-source-shown a out found (x ∷ xs) = rw (source-shown a out (pick (unwrittenTo a (x .entry)) (fromStore (x .entry .word)) found) xs)
-
 source-log : {queued : List Store} {pre : List Entry} → Before stores queued pre → (words : ℕ) → allOf (rightStore words) (ownIn stores pre) ≡ true
     → (a : ℕ) → source a fromMemory queued ≡ source a fromMemory (ownIn stores pre)
 source-log {queued} {pre} b words right a =
     rw (b .shows, b .parts)
-    (source-shown a (b .out) fromMemory (b .rest)
+    (source-alike (shown stores (b .out)) entryOf (λ x. refl) (λ x. refl) (λ x. refl) a fromMemory (b .rest)
     ∙ sym (source-written a (map entryOf (b .past)) (map entryOf (b .rest))
     (past-passes b (λ s. s .written) (λ n s. refl) (rightStore words) (λ s t f. f) right)
     (past-passes b hasAddress (λ n s. refl) (rightStore words) addressed right)))

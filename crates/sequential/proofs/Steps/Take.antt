@@ -14,7 +14,7 @@ use Rattle.queue.specs.Ruled.{accept, isSome}
 use Rattle.queue.specs.Contents.{Load, Contents, withLoads, updateAt, firstPlace}
 use Rattle.queue.specs.Sound.{sound}
 use Rattle.queue.specs.Arguments.{isLoadPort}
-use Rattle.queue.specs.Write.{settle}
+use Rattle.queue.specs.Retire.{retire}
 use Rattle.queue.specs.Take.{Taken, untaken, loadTaken, takeRule}
 use Rattle.queue.proofs.Lists.{false-true, and-left, and-right, and-both, implies, all-left, all-middle, all-weaken₂, first-passes, first-before}
 use Rattle.queue.proofs.Refusals.{need-accepts, have-accepts}
@@ -27,13 +27,13 @@ use Rattle.sequential.proofs.Window.{Located, locate, before-log}
 use Rattle.sequential.proofs.MemoryInvariant.{agree-change}
 use Rattle.sequential.proofs.Rows.{given, valueTaken, cellFor, lacking, row-of-port, none-waits}
 use Rattle.sequential.proofs.State.{State, Holds, Seen, rightLoad, taken-served, served-addressed, load-in-range, served}
-use Rattle.sequential.proofs.Anew.{holds-load, holds-settled, row-kept, seen-anew}
+use Rattle.sequential.proofs.Anew.{holds-load, holds-retired, row-kept, seen-anew}
 
 -- what an accepted take of this load says
 record Taking (q : Contents) (i : ℕ) (r : Taken) (l : Load) : Type 0 where
   value : ℕ
   has : l .value ≡ some value
-  result : r ≡ record { value = value; queue = settle (withLoads q (updateAt loadTaken i (q .loads))) }
+  result : r ≡ record { value = value; queue = retire (withLoads q (updateAt loadTaken i (q .loads))) }
 
 take-accepts : (q : Contents) (port : ℕ) (r : Taken) → takeRule q port ≡ accept r
     → (l : Load) × (getElem? (q .loads) (firstPlace (untaken port) (q .loads)) ≡ some l) × Taking q (firstPlace (untaken port) (q .loads)) r l
@@ -72,7 +72,7 @@ module _ (groups : List GroupPairs) (memory : List ℕ) (answered : List Answere
   take-at port i r pre it post l first earlier s = rw (s .result) (record {
     log = pre ++ ofLoad (loadTaken it) ∷ post;
     table = table;
-    holds = holds-settled (holds-load h l loadTaken (λ n k. refl) right (agree-change (ofLoad it) (ofLoad (loadTaken it)) post (λ m₁ n₁ k. k) pre m memory (rw (l .log-is) at (h .agree))));
+    holds = holds-retired (holds-load h l loadTaken (λ n k. refl) right (agree-change (ofLoad it) (ofLoad (loadTaken it)) post (λ m₁ n₁ k. k) pre m memory (rw (l .log-is) at (h .agree))));
     seen =
         seen-anew groups answered (record { call = Take port; number = 0; value = some v }) pre (ofLoad it) (ofLoad (loadTaken it)) post seen′ refl refl
         (λ kind p. row-kept (given kind p) (ofLoad it) (ofLoad (loadTaken it)) (take-given it kind p) post pre (rowsOf (told answered) kind p) (seen′ .rows kind p))

@@ -22,7 +22,7 @@ use Rattle.sequential.proofs.Window.{Located, turned, locate, before-lo
 use Rattle.sequential.proofs.MemoryInvariant.{Agree, agree-write}
 use Rattle.sequential.proofs.Rows.{given, valueTaken}
 use Rattle.sequential.proofs.State.{State, Holds, Seen, rightLoad, rightStore, taken-served, store-in-range}
-use Rattle.sequential.proofs.Anew.{holds-store, holds-settled, row-kept, seen-anew}
+use Rattle.sequential.proofs.Anew.{holds-store, holds-retired, row-kept, seen-anew}
 
 write-given : (s : Store) (kind : Argument) (port : ℕ) → given kind port (ofStore s) ≡ given kind port (ofStore (storeDone s))
 write-given s LoadAddress port = refl
@@ -37,7 +37,7 @@ module _ (groups : List GroupPairs) (memory : List ℕ) (answered : List Answere
   write-at serial i r pre it post l s = rw (s .result) (record {
     log = pre ++ ofStore (storeDone it) ∷ post;
     table = table;
-    holds = holds-settled (holds-store h l storeDone (λ n k. refl) right (set m a w) (length-set m a w) agree);
+    holds = holds-retired (holds-store h l storeDone (λ n k. refl) right (set m a w) (length-set m a w) agree);
     seen =
         seen-anew groups answered (record { call = Write serial; number = 0; value = none }) pre (ofStore it) (ofStore (storeDone it)) post seen′ refl refl
         (λ kind port. row-kept (given kind port) (ofStore it) (ofStore (storeDone it)) (write-given it kind port) post pre (rowsOf (told answered) kind port) (seen′ .rows kind port))

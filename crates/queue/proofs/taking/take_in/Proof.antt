@@ -11,7 +11,7 @@ use Rattle.queue.specs.declared.Queue.{Queue}
 use Rattle.queue.specs.declared.entries.Mark.the-variants.{Finished}
 use Rattle.queue.specs.Contents.{loadOf, loadIn, contentsOf, firstPlace}
 use Rattle.queue.specs.Arguments.{isLoadPort}
-use Rattle.queue.specs.Write.{settle}
+use Rattle.queue.specs.Retire.{retire}
 use Rattle.queue.specs.Take.{untaken, loadTaken, takeRule}
 use Rattle.queue.specs.Parts.{frameOf, queueOf}
 use Rattle.queue.specs.Internal.{loadsIn, lacks}
@@ -115,8 +115,8 @@ returns-4 c =
 slice-write-load-entries : tie.Need-slice-write-load-entries
 slice-write-load-entries c = inside (c .before .before .before .before .before)
 
-settle-requires : tie.Need-settle-requires
-settle-requires c κs =
+retire-requires : tie.Need-retire-requires
+retire-requires c κs =
     let w = c .before .before in
     let o = w .before .before .before .before .before .before .before in
     let e = sure (known o .before) in
@@ -145,7 +145,7 @@ returns-5 c =
     (record {
       answer = refl;
       gives = refl;
-      holds = t .settle .ensures (q .frame .table) ∙ ap settle (load-anew q loadTaken (o .oldest-without .result) (w .pack .result) (good e .loads-room) (i .if3 .left) (taken w));
+      holds = t .retire .ensures (q .frame .table) ∙ ap retire (load-anew q loadTaken (o .oldest-without .result) (w .pack .result) (good e .loads-room) (i .if3 .left) (taken w));
     })
 
 pub take-in-spec : {M : Type 1} → statement M
@@ -178,7 +178,7 @@ take-in-spec =
     (λ c κs. search needs)
     (λ c. search needs)
     slice-write-load-entries
-    settle-requires (λ c κs. search needs)
+    retire-requires (λ c κs. search needs)
     same-length-9
     (λ c. search needs)
     returns-5)

@@ -13,7 +13,8 @@ use Rattle.queue.specs.declared.answering.Step.{Step}
 use Rattle.queue.specs.Entry.{entryOf, numberOf}
 use Rattle.queue.specs.Ruled.{accept, andThen}
 use Rattle.queue.specs.Contents.{storeOf, storeIn, contentsOf}
-use Rattle.queue.specs.Write.{storeDone, settle, writtenWith, writeAt}
+use Rattle.queue.specs.Write.{storeDone, writtenWith, writeAt}
+use Rattle.queue.specs.Retire.{retire}
 use Rattle.queue.specs.Outcome.{Handed, handed}
 use Rattle.queue.specs.Parts.{queueOf, outcomeOf}
 use Rattle.queue.specs.Internal.{loadsIn, storesIn, frameWith}
@@ -109,8 +110,8 @@ slice-write-memory c =
 slice-write-store-entries : tie.Need-slice-write-store-entries
 slice-write-store-entries c = placed (c .before .before .before .before .before .before .before .before)
 
-settle-requires : tie.Need-settle-requires
-settle-requires c κs =
+retire-requires : tie.Need-retire-requires
+retire-requires c κs =
     let p = c .before .before in
     let s = start (p .before .before .before .before .before .before .before .before) in
     (loads-room s, rw (length-set (s .args .store-entries .now) (s .args .place) (p .pack .result)) (stores-room s))
@@ -131,7 +132,7 @@ returns-3 c table =
     let s = start e1 in
     rw (held e1 table, puts e2 .put, c .accepted .ensures)
     (record {
-      outcome = record { answer = refl {a = 0}; gives = refl {a = none}; holds = t .settle .ensures table ∙ ap settle (store-anew (queueWith table s) storeDone (s .args .place) (p .pack .result) (stores-room s) (e1 .if1 .left) (put p)) };
+      outcome = record { answer = refl {a = 0}; gives = refl {a = none}; holds = t .retire .ensures table ∙ ap retire (store-anew (queueWith table s) storeDone (s .args .place) (p .pack .result) (stores-room s) (e1 .if1 .left) (put p)) };
       memory-is = rw (u .unpack .ensures);
     })
 
@@ -156,7 +157,7 @@ write-at-spec =
     (λ c κs. search needs)
     (λ c. search needs)
     slice-write-store-entries
-    settle-requires (λ c κs. search needs)
+    retire-requires (λ c κs. search needs)
     (λ c. search needs)
     same-length-4
     (λ c. search needs)

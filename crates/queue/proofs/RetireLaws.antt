@@ -13,29 +13,29 @@ use Rattle.queue.specs.declared.Frame.{Frame}
 use Rattle.queue.specs.declared.Entry.{Entry}
 use Rattle.queue.specs.Entry.{entryOf, numberOf, Small}
 use Rattle.queue.specs.Contents.{loadOf, storeOf, contentsOf}
-use Rattle.queue.specs.Write.{leaving, loadFinished, storeFinished, loadAfterLeaving, storeAfterLeaving, settle}
+use Rattle.queue.specs.Retire.{retiring, loadFinished, storeFinished, loadAfterRetiring, storeAfterRetiring, retire}
 use Rattle.queue.specs.Parts.{queueOf}
 use Rattle.queue.specs.Internal.{sideOf, entriesIn, loadsIn, storesIn, finished}
-use Rattle.queue.specs.InternalWrite.{Shifted, shorter, lowered}
+use Rattle.queue.specs.InternalRetire.{Shifted, shorter, lowered}
 use Rattle.queue.proofs.Lists.{map-same}
 use Rattle.queue.proofs.ContentsLaws.{side-few, side-length}
-use Rattle.queue.proofs.EntryLaws.{entry-small, entry-number, side-holds, side-leaving-same}
+use Rattle.queue.proofs.EntryLaws.{entry-small, entry-number, side-holds, side-retiring-same}
 
 -- ---- how many leave
 module _ {A : Type 0} (p : A → Bool) where
-  pub leaving-most : (l : List A) → leaving p l ≤ length l
-  leaving-most [] = omega arith
-  leaving-most (x ∷ xs) = go (p x) (leaving-most xs)
+  pub retiring-most : (l : List A) → retiring p l ≤ length l
+  retiring-most [] = omega arith
+  retiring-most (x ∷ xs) = go (p x) (retiring-most xs)
     where
-      go : (t : Bool) → leaving p xs ≤ length xs → length (pick t (x ∷ frontWhile p xs) []) ≤ suc (length xs)
+      go : (t : Bool) → retiring p xs ≤ length xs → length (pick t (x ∷ frontWhile p xs) []) ≤ suc (length xs)
       go true h = omega arith
       go false h = omega arith
 
-  pub drop-leaving : (l : List A) → drop (leaving p l) l ≡ afterWhile p l
-  drop-leaving [] = refl
-  drop-leaving (x ∷ xs) = go (p x) (drop-leaving xs)
+  pub drop-retiring : (l : List A) → drop (retiring p l) l ≡ afterWhile p l
+  drop-retiring [] = refl
+  drop-retiring (x ∷ xs) = go (p x) (drop-retiring xs)
     where
-      go : (t : Bool) → drop (leaving p xs) xs ≡ afterWhile p xs → drop (length (pick t (x ∷ frontWhile p xs) [])) (x ∷ xs) ≡ pick t (afterWhile p xs) (x ∷ xs)
+      go : (t : Bool) → drop (retiring p xs) xs ≡ afterWhile p xs → drop (length (pick t (x ∷ frontWhile p xs) [])) (x ∷ xs) ≡ pick t (afterWhile p xs) (x ∷ xs)
       go true h = h
       go false h = refl
 
@@ -111,32 +111,32 @@ lowered-number others n =
     entry-number (lowered others (entryOf n)) (record { port = s .port; before = fewer; address = s .address; word = s .word })
 
 -- ---- both sides
-pub side-leaving : {A B : Type 0} (p : B → Bool) (f : A → B) (blank : A) (n : ℕ) (l : List A) → leaving p (sideOf f blank n l) ≤ n
-side-leaving p f blank n l = omega (arith, leaving-most p (sideOf f blank n l), side-length f blank n l)
+pub side-retiring : {A B : Type 0} (p : B → Bool) (f : A → B) (blank : A) (n : ℕ) (l : List A) → retiring p (sideOf f blank n l) ≤ n
+side-retiring p f blank n l = omega (arith, retiring-most p (sideOf f blank n l), side-length f blank n l)
 
 -- a side once its finished entries have left: `f` says what an entry holds, `h` how that changes as others leave
-side-settled : {B : Type 0} (f : Entry → B) (h : B → B) (p : B → Bool) (others : ℕ) → ((e : Entry) → f (lowered others e) ≡ h (f e)) → ((e : Entry) → p (f e) ≡ finished e)
-    → (n l : ℕ) {old new : List ℕ} → l ≡ leaving finished (entriesIn n old) → Shifted l (n - l) others old new
+side-retired : {B : Type 0} (f : Entry → B) (h : B → B) (p : B → Bool) (others : ℕ) → ((e : Entry) → f (lowered others e) ≡ h (f e)) → ((e : Entry) → p (f e) ≡ finished e)
+    → (n l : ℕ) {old new : List ℕ} → l ≡ retiring finished (entriesIn n old) → Shifted l (n - l) others old new
     → sideOf (λ (x : ℕ). f (entryOf x)) 0 (n - l) new ≡ map h (afterWhile p (sideOf (λ (x : ℕ). f (entryOf x)) 0 n old))
-side-settled f h p others same is n l {old} {new} e w =
-    let k : l + (n - l) ≡ n = (let m : l ≤ n = rw e (side-leaving finished entryOf 0 n old) in omega arith) in
-    let gone : leaving p (sideOf (λ (x : ℕ). f (entryOf x)) 0 n old) ≡ l = side-leaving-same f p finished is n old ∙ sym e in
+side-retired f h p others same is n l {old} {new} e w =
+    let k : l + (n - l) ≡ n = (let m : l ≤ n = rw e (side-retiring finished entryOf 0 n old) in omega arith) in
+    let gone : retiring p (sideOf (λ (x : ℕ). f (entryOf x)) 0 n old) ≡ l = side-retiring-same f p finished is n old ∙ sym e in
     side-holds f (n - l) new
-    ∙ rw (w .holds, k, map-map f (lowered others), ← drop-leaving p (sideOf (λ (x : ℕ). f (entryOf x)) 0 n old), gone, side-holds f n old, drop-map f l (entriesIn n old), map-map h f)
+    ∙ rw (w .holds, k, map-map f (lowered others), ← drop-retiring p (sideOf (λ (x : ℕ). f (entryOf x)) 0 n old), gone, side-holds f n old, drop-map f l (entriesIn n old), map-map h f)
     (map-same (λ (x : Entry). f (lowered others x)) (λ (x : Entry). h (f x)) same (drop l (entriesIn n old)))
 
-pub settle-sides : (frame : Frame) {loads stores ls ss : List ℕ} {l s : ℕ}
-    → l ≡ leaving finished (entriesIn (frame .loads .count) loads) → s ≡ leaving finished (entriesIn (frame .stores .count) stores)
+pub retire-sides : (frame : Frame) {loads stores ls ss : List ℕ} {l s : ℕ}
+    → l ≡ retiring finished (entriesIn (frame .loads .count) loads) → s ≡ retiring finished (entriesIn (frame .stores .count) stores)
     → Shifted l (frame .loads .count - l) s loads ls → Shifted s (frame .stores .count - s) l stores ss
     → contentsOf (queueOf (record { table = frame .table; words = frame .words; loads = shorter (frame .loads) l; stores = shorter (frame .stores) s }) ls ss)
-    ≡ settle (contentsOf (queueOf frame loads stores))
+    ≡ retire (contentsOf (queueOf frame loads stores))
 unfolding contentsOf
-settle-sides frame {loads} {stores} {ls} {ss} {l} {s} el es ml ms =
-    let left : leaving loadFinished (loadsIn (frame .loads .count) loads) ≡ l = side-leaving-same loadOf loadFinished finished (λ e. refl) (frame .loads .count) loads ∙ sym el in
-    let right : leaving storeFinished (storesIn (frame .stores .count) stores) ≡ s = side-leaving-same storeOf storeFinished finished (λ e. refl) (frame .stores .count) stores ∙ sym es in
+retire-sides frame {loads} {stores} {ls} {ss} {l} {s} el es ml ms =
+    let left : retiring loadFinished (loadsIn (frame .loads .count) loads) ≡ l = side-retiring-same loadOf loadFinished finished (λ e. refl) (frame .loads .count) loads ∙ sym el in
+    let right : retiring storeFinished (storesIn (frame .stores .count) stores) ≡ s = side-retiring-same storeOf storeFinished finished (λ e. refl) (frame .stores .count) stores ∙ sym es in
     rw (
       left,
       right,
-      side-settled loadOf (loadAfterLeaving s) loadFinished s (λ e. refl) (λ e. refl) (frame .loads .count) l el ml,
-      side-settled storeOf (storeAfterLeaving l) storeFinished l (λ e. refl) (λ e. refl) (frame .stores .count) s es ms,
+      side-retired loadOf (loadAfterRetiring s) loadFinished s (λ e. refl) (λ e. refl) (frame .loads .count) l el ml,
+      side-retired storeOf (storeAfterRetiring l) storeFinished l (λ e. refl) (λ e. refl) (frame .stores .count) s es ms,
     )

@@ -3,23 +3,23 @@ use native.Mathlib.Omega.{arith}
 use borrow.Author.Needs.{needs}
 use Rattle.queue.specs.Entry.{entryOf}
 use Rattle.queue.specs.Internal.{finished, frameWith}
-use Rattle.queue.proofs.SettleLaws.{side-leaving, settle-sides}
-use Rattle.queue.proofs.writing.settle.Statement.{statement}
-use Rattle.queue.proofs.writing.settle.Tie as tie
+use Rattle.queue.proofs.RetireLaws.{side-retiring, retire-sides}
+use Rattle.queue.proofs.retiring.retire.Statement.{statement}
+use Rattle.queue.proofs.retiring.retire.Tie as tie
 
-abbrev start : tie.After-finished → tie.Start
+abbrev start : tie.After-retiring → tie.Start
 start f = f .before .before .before .before .before .before
 
--- no more leave than are held
-loads-most : (f : tie.After-finished) → f .finished .result ≤ start f .args .outline .loads .count
+-- no more retire than are held
+loads-most : (f : tie.After-retiring) → f .retiring .result ≤ start f .args .outline .loads .count
 loads-most f =
     let s = start f in
-    omega (arith, f .finished .ensures, side-leaving finished entryOf 0 (s .args .outline .loads .count) (s .args .load-entries .now))
+    omega (arith, f .retiring .ensures, side-retiring finished entryOf 0 (s .args .outline .loads .count) (s .args .load-entries .now))
 
-stores-most : (f : tie.After-finished2) → f .finished2 .result ≤ start (f .before .before) .args .outline .stores .count
+stores-most : (f : tie.After-retiring2) → f .retiring2 .result ≤ start (f .before .before) .args .outline .stores .count
 stores-most f =
     let s = start (f .before .before) in
-    omega (arith, f .finished2 .ensures, side-leaving finished entryOf 0 (s .args .outline .stores .count) (s .args .store-entries .now))
+    omega (arith, f .retiring2 .ensures, side-retiring finished entryOf 0 (s .args .outline .stores .count) (s .args .store-entries .now))
 
 shorter-requires : tie.Need-shorter-requires
 shorter-requires c κs = loads-most (c .before .before)
@@ -46,10 +46,10 @@ returns c t =
     let s = b .shorter2 .ensures in
     let f = b .before .before in
     rw (l, s)
-    (settle-sides (frameWith t (start (f .before .before) .args .outline)) (f .before .before .finished .ensures) (f .finished2 .ensures) (rw l at (a .shift .ensures)) (rw s at (d .shift2 .ensures)))
+    (retire-sides (frameWith t (start (f .before .before) .args .outline)) (f .before .before .retiring .ensures) (f .retiring2 .ensures) (rw l at (a .shift .ensures)) (rw s at (d .shift2 .ensures)))
 
-pub settle-spec : {M : Type 1} → statement M
-settle-spec =
+pub retire-spec : {M : Type 1} → statement M
+retire-spec =
     tie.close
     (tie.spec
     (λ c κs. search needs)

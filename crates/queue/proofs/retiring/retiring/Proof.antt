@@ -8,12 +8,12 @@ use borrow.Author.Tests.{not-true, not-false}
 use Rattle.queue.specs.Entry.{entryOf}
 use Rattle.queue.specs.Internal.{entriesIn, finished}
 use Rattle.queue.proofs.ContentsLaws.{side-here, side-end}
-use Rattle.queue.proofs.WalkLaws.{Leaving, leaving-none, leaving-on, leaving-stop, leaving-end}
-use Rattle.queue.proofs.writing.finished.Statement.{statement}
-use Rattle.queue.proofs.writing.finished.Tie as tie
+use Rattle.queue.proofs.WalkLaws.{Retiring, retiring-none, retiring-on, retiring-stop, retiring-end}
+use Rattle.queue.proofs.retiring.retiring.Statement.{statement}
+use Rattle.queue.proofs.retiring.retiring.Tie as tie
 
 abbrev Inv-loop : tie.InvT-loop
-Inv-loop entries held i₀ i = (i ≤ held) × Leaving finished (entriesIn held entries) i
+Inv-loop entries held i₀ i = (i ≤ held) × Retiring finished (entriesIn held entries) i
 
 abbrev μ-loop : tie.MeasureT-loop
 μ-loop entries held i₀ i = held - i
@@ -29,25 +29,25 @@ found : (c : tie.After-unpack Inv-loop μ-loop) → let l = c .before .before in
 found c = sym (ap finished (c .unpack .ensures))
 
 loop-holds : tie.Need-loop-holds Inv-loop μ-loop
-loop-holds c = (search needs, leaving-none)
+loop-holds c = (search needs, retiring-none)
 
 returns : tie.Need-returns Inv-loop μ-loop
 returns c =
     let u = c .before .before in
     let l = u .before .before in
-    leaving-stop (l .before .loop .inv .1) (here l) (found u ∙ not-true _ (c .if1 .taken))
+    retiring-stop (l .before .loop .inv .1) (here l) (found u ∙ not-true _ (c .if1 .taken))
 
 loop-again : tie.Need-loop-again Inv-loop μ-loop
 loop-again c =
     let u = c .before .before in
     let l = u .before .before in
-    (omega arith, leaving-on (l .before .loop .inv .1) (here l) (found u ∙ not-false _ (c .if1 .left)))
+    (omega arith, retiring-on (l .before .loop .inv .1) (here l) (found u ∙ not-false _ (c .if1 .left)))
 
 returns-2 : tie.Need-returns-2 Inv-loop μ-loop
-returns-2 c = leaving-end (c .before .loop .inv .1) (side-end entryOf 0 _ (c .before .before .before .args .entries .now) _ (c .loop-test .left))
+returns-2 c = retiring-end (c .before .loop .inv .1) (side-end entryOf 0 _ (c .before .before .before .args .entries .now) _ (c .loop-test .left))
 
-pub finished-spec : {M : Type 1} → statement M
-finished-spec =
+pub retiring-spec : {M : Type 1} → statement M
+retiring-spec =
     tie.close
     (tie.spec
     Inv-loop

@@ -6,10 +6,10 @@ use lib.ListN.{length, getD, length-set}
 use borrow.Author.Needs.{needs}
 use Rattle.queue.specs.Entry.{entryOf, numberOf}
 use Rattle.queue.specs.Internal.{entriesIn}
-use Rattle.queue.specs.InternalWrite.{lowered}
-use Rattle.queue.proofs.SettleLaws.{Moved, moved-none, moved-more, moved-side, lowered-number}
-use Rattle.queue.proofs.writing.shift.Statement.{statement}
-use Rattle.queue.proofs.writing.shift.Tie as tie
+use Rattle.queue.specs.InternalRetire.{lowered}
+use Rattle.queue.proofs.RetireLaws.{Moved, moved-none, moved-more, moved-side, lowered-number}
+use Rattle.queue.proofs.retiring.shift.Statement.{statement}
+use Rattle.queue.proofs.retiring.shift.Tie as tie
 
 -- an entry's number after `others` of the other kind have left
 abbrev lower : ℕ → ℕ → ℕ

@@ -9,6 +9,8 @@ use lib.ListN.{length, take, getD, getElem?}
 use borrow.Author.Tests.{ltb-true}
 use Rattle.table.specs.Basics.{pick, allOf}
 use Rattle.table.specs.Group.{GroupPairs}
+use Rattle.queue.specs.declared.arguments.Argument.{Argument}
+use Rattle.queue.specs.declared.arguments.Argument.the-variants.{LoadAddress, StoreAddress, StoreData}
 use Rattle.queue.specs.Ruled.{accept, have, isSome}
 use Rattle.queue.specs.Contents.{Load, Store, Contents, withLoads, updateAt, loadPlace}
 use Rattle.queue.specs.Sound.{sound, addressRight}
@@ -16,7 +18,7 @@ use Rattle.queue.specs.Serve.{Served, Source, hasAddress, supplies, nearest, so
 use Rattle.queue.specs.declared.Counts.{Counts}
 use Rattle.queue.proofs.Lists.{is-none, and-left, and-right, and-both, or-left, or-right, all-left, all-weaken, all-middle}
 use Rattle.queue.proofs.Refusals.{need-accepts, have-accepts, andThen-accepts}
-use Rattle.sequential.specs.Calls.{Argument, LoadAddress, StoreAddress, StoreData, Serve}
+use Rattle.sequential.specs.Calls.{Serve}
 use Rattle.sequential.specs.Call.{Machine, Answered}
 use Rattle.sequential.specs.Plain.{rowsOf}
 use Rattle.sequential.specs.Demand3.{told, takenAt}

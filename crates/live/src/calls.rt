@@ -26,9 +26,8 @@ use queue::Side;
 use queue::activation::activate_in;
 use queue::answering::Step;
 use queue::answering::outline_of;
-use queue::arguments::load_address_in;
-use queue::arguments::store_address_in;
-use queue::arguments::store_data_in;
+use queue::arguments::Argument;
+use queue::arguments::give_in;
 use queue::opening::open_in;
 use queue::ready::ready_in;
 use queue::serving::Service;
@@ -188,13 +187,14 @@ pub extern "C" fn lsq_load_address_in(
         Moves q rule (answered r (queueOf frame (now (loads .exit)) (now (stores .entry))))) ⌝ }
 {
     let outline = outline_of(frame);
-    let answer = load_address_in(
+    let answer = give_in(
         outline,
         &frame.table.groups,
         &frame.table.loads,
         &frame.table.stores,
         loads,
         stores,
+        Argument::LoadAddress,
         port,
         address,
     );
@@ -215,13 +215,14 @@ pub extern "C" fn lsq_store_address_in(
         Moves q rule (answered r (queueOf frame (now (loads .entry)) (now (stores .exit))))) ⌝ }
 {
     let outline = outline_of(frame);
-    let answer = store_address_in(
+    let answer = give_in(
         outline,
         &frame.table.groups,
         &frame.table.loads,
         &frame.table.stores,
-        loads,
         stores,
+        loads,
+        Argument::StoreAddress,
         port,
         address,
     );
@@ -242,13 +243,14 @@ pub extern "C" fn lsq_store_data_in(
         Moves q rule (answered r (queueOf frame (now (loads .entry)) (now (stores .exit))))) ⌝ }
 {
     let outline = outline_of(frame);
-    let answer = store_data_in(
+    let answer = give_in(
         outline,
         &frame.table.groups,
         &frame.table.loads,
         &frame.table.stores,
-        loads,
         stores,
+        loads,
+        Argument::StoreData,
         port,
         word,
     );

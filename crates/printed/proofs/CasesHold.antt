@@ -8,7 +8,7 @@ use Rattle.table.specs.Trace.{eventsUpTo}
 use Rattle.queue.specs.Sound.{sound}
 use Rattle.queue.specs.Open.{openQueue}
 use Rattle.queue.specs.Activate.{activate}
-use Rattle.queue.specs.Arguments.{loadAddress, storeAddress, storeData}
+use Rattle.queue.specs.Arguments.{give}
 use Rattle.queue.specs.Serve.{serve}
 use Rattle.queue.specs.Write.{write}
 use Rattle.queue.specs.Take.{takeRule}
@@ -18,5 +18,5 @@ use Rattle.printed.specs.Text.{traceText, text}
 use Rattle.printed.specs.Cases.{AllCasesHold}
 
 pub all-cases-hold : AllCasesHold
-unfolding text traceText digitsUpTo prepare eventsUpTo numberUpTo bytesUpTo pairsFault seeing groupFault groupsFault tableFault readPairs readGroup readGroups readTable readEvent readHeader sound openQueue activate loadAddress storeAddress storeData serve write takeRule
+unfolding text traceText digitsUpTo prepare eventsUpTo numberUpTo bytesUpTo pairsFault seeing groupFault groupsFault tableFault readPairs readGroup readGroups readTable readEvent readHeader sound openQueue activate give serve write takeRule
 all-cases-hold = refl

@@ -18,24 +18,26 @@ use Rattle.table.specs.declared.Header.{Header}
 use Rattle.table.specs.Event.{readHeader}
 use Rattle.table.specs.Trace.{readEvents}
 use Rattle.queue.specs.declared.Counts.{Counts}
+use Rattle.queue.specs.declared.arguments.Argument.the-variants as Argument
 use Rattle.queue.specs.Counts.{share}
 use Rattle.queue.specs.Ruled.{Ruled, refuse, accept}
 use Rattle.queue.specs.Contents.{Contents}
 use Rattle.queue.specs.Open.{openQueue}
 use Rattle.queue.specs.Activate.{activate}
+use Rattle.queue.specs.Arguments.{give}
 use Rattle.queue.specs.Serve.{Served, serve}
 use Rattle.queue.specs.Write.{Written, write}
 use Rattle.queue.specs.Take.{Taken}
 use Rattle.queue.specs.Take as Takes
 use Rattle.queue.proofs.Refusals.{andThen-accepts}
 use Rattle.queue.proofs.WriteLaws.{write-accepts}
-use Rattle.sequential.specs.Calls.{Argument}
-use Rattle.sequential.specs.Call.{Machine, moved, served, written, taken, give}
+use Rattle.sequential.specs.Call.{Machine, moved, served, written, taken}
 use Rattle.replay.specs.Playing.{Playing, playing, stepOf, played, log, playedAll}
 use Rattle.replay.specs.Replay.{Start, startOf, openTrace, prepare, replayed}
 use Rattle.replay.proofs.EventLaws.{events-few-from}
 use Rattle.table.proofs.TraceSteps.{header-shorter}
-use Rattle.printed.specs.Text.{mostBytes, fileTooLong, tableFaultText, traceFaultText, noCounts, eventLines, wordLines, countsLine, playText, startText, traceText, groupsText, text}
+use Rattle.printed.specs.Text.{mostBytes, fileTooLong, tableFaultText, traceFaultText, noCounts, eventLines, wordLines, countsLine, playText}
+use Rattle.printed.specs.Text.{startText, traceText, groupsText, text}
 use Rattle.printed.specs.Outcome.{mostText, TextFits, TextSome, printed}
 use Rattle.printed.specs.Internal.{item}
 use Rattle.printed.proofs.PutLaws.{item-few}

@@ -14,9 +14,11 @@ use Rattle.queue.specs.Contents.{Load, Store, Contents, loadPlace, store
 use Rattle.table.specs.Basics.{anyOf, allOf}
 use Rattle.queue.specs.Sound.{sound}
 use Rattle.queue.specs.Activate.{activate, room}
-use Rattle.queue.specs.Arguments.{isLoadPort, isStorePort, loadLacksAddress, storeLacksAddress, storeLacksWord, loadAddress, storeAddress, storeData}
+use Rattle.queue.specs.Arguments.{kindOf, namesPort, inRange, waits, filled, give}
 use Rattle.queue.specs.Serve.{Source, unknown, fromStore, fromMemory, source, loadedFrom, mayServe, storesBefore, serve}
 use Rattle.queue.specs.Write.{loadGivesWay, storeGivesWay, mayWrite, loadsBefore, write}
+use Rattle.queue.specs.declared.Kind.the-variants.{Load as load}
+use Rattle.queue.specs.declared.arguments.Argument.{Argument}
 use Rattle.queue.specs.Take.{untaken, takeRule}
 use Rattle.queue.specs.Ready.{readySerials, ready}
 use Rattle.queue.proofs.Lists.{false-true, and-left, and-right}
@@ -98,25 +100,12 @@ pub activate-small : (q : Contents) (g : ℕ) → small (activate q g) ≡ true
 unfolding activate
 activate-small q g = need-small (sound q) _ _ refl (have-small (getElem? (q .groups) g) _ _ refl λ p. need-small (room q p) _ _ refl refl)
 
-pub load-address-small : (q : Contents) (port x : ℕ) → small (loadAddress q port x) ≡ true
-unfolding loadAddress
-load-address-small q port x =
+pub give-small : (argument : Argument) (q : Contents) (port x : ℕ) → small (give argument q port x) ≡ true
+unfolding give
+give-small argument q port x =
     need-small (sound q) _ _ refl
-    (need-small (anyOf (isLoadPort port) (q .groups)) _ _ refl
-    (need-small (ltb x (q .memoryLength)) _ _ refl (need-small (anyOf (loadLacksAddress port) (q .loads)) _ _ refl refl)))
-
-pub store-address-small : (q : Contents) (port x : ℕ) → small (storeAddress q port x) ≡ true
-unfolding storeAddress
-store-address-small q port x =
-    need-small (sound q) _ _ refl
-    (need-small (anyOf (isStorePort port) (q .groups)) _ _ refl
-    (need-small (ltb x (q .memoryLength)) _ _ refl (need-small (anyOf (storeLacksAddress port) (q .stores)) _ _ refl refl)))
-
-pub store-data-small : (q : Contents) (port x : ℕ) → small (storeData q port x) ≡ true
-unfolding storeData
-store-data-small q port x =
-    need-small (sound q) _ _ refl
-    (need-small (anyOf (isStorePort port) (q .groups)) _ _ refl (need-small (anyOf (storeLacksWord port) (q .stores)) _ _ refl refl))
+    (need-small (anyOf (namesPort (kindOf argument) port) (q .groups)) _ _ refl
+    (need-small (inRange argument (q .memoryLength) x) _ _ refl (need-small (waits argument port q) _ _ refl refl)))
 
 loaded-small : (m : List ℕ) (a : ℕ) (x : Source) → small (loadedFrom m a x) ≡ true
 loaded-small m a unknown = refl
@@ -154,7 +143,7 @@ pub take-small : (q : Contents) (port : ℕ) → small (takeRule q port) ≡ tru
 unfolding takeRule
 take-small q port =
     need-small (sound q) _ _ refl
-    (need-small (anyOf (isLoadPort port) (q .groups)) _ _ refl
+    (need-small (anyOf (namesPort load port) (q .groups)) _ _ refl
     (have-small (getElem? (q .loads) (firstPlace (untaken port) (q .loads))) _ _ refl λ l. have-small (l .value) _ _ refl λ v. refl))
 
 pub ready-small : (kind : Kind) (q : Contents) (run : List ℕ) → small (ready kind q run) ≡ true
@@ -164,6 +153,9 @@ ready-small kind q run = need-small (sound q) _ _ refl (need-small (leb (length 
 -- so none is 0
 pub activate-proper : (q : Contents) (g : ℕ) → proper (activate q g) ≡ true
 activate-proper q g = small-proper (activate q g) (activate-small q g)
+
+pub give-proper : (argument : Argument) (q : Contents) (port x : ℕ) → proper (give argument q port x) ≡ true
+give-proper argument q port x = small-proper (give argument q port x) (give-small argument q port x)
 
 pub serve-proper : (q : Contents) (m : List ℕ) (serial : ℕ) → proper (serve q m serial) ≡ true
 serve-proper q m serial = small-proper (serve q m serial) (serve-small q m serial)
@@ -176,3 +168,18 @@ write-proper q m serial = small-proper (write q m serial) (write-small q m seria
 
 pub take-proper : (q : Contents) (port : ℕ) → proper (takeRule q port) ≡ true
 take-proper q port = small-proper (takeRule q port) (take-small q port)
+
+-- ---- an argument that was accepted was in range, was waited for, and is in its place
+pub record Gave (argument : Argument) (q : Contents) (port x : ℕ) (next : Contents) : Type 0 where
+  pub ranged : inRange argument (q .memoryLength) x ≡ true
+  pub waited : waits argument port q ≡ true
+  pub is : filled argument port x q ≡ next
+
+pub give-accepts : (argument : Argument) (q : Contents) (port x : ℕ) {next : Contents} → give argument q port x ≡ accept next → Gave argument q port x next
+unfolding give
+give-accepts argument q port x h₀ =
+    let (t₁, h₁) = need-accepts (sound q) _ _ h₀ in
+    let (t₂, h₂) = need-accepts (anyOf (namesPort (kindOf argument) port) (q .groups)) _ _ h₁ in
+    let (t₃, h₃) = need-accepts (inRange argument (q .memoryLength) x) _ _ h₂ in
+    let (t₄, h₄) = need-accepts (waits argument port q) _ _ h₃ in
+    record { ranged = t₃; waited = t₄; is = cc }

@@ -13,8 +13,9 @@ use Rattle.queue.specs.Ruled.{refuse, accept}
 use Rattle.queue.specs.Contents.{loadOf, loadIn, contentsOf, withLoads, updateAt, firstPlace}
 use Rattle.queue.specs.Entry.{entryOf}
 use Rattle.queue.specs.Sound.{sound}
-use Rattle.queue.specs.Arguments.{isLoadPort}
+use Rattle.queue.specs.Arguments.{namesPort}
 use Rattle.queue.specs.Retire.{retire}
+use Rattle.queue.specs.declared.Kind.the-variants.{Load as load}
 use Rattle.queue.specs.Take.{untaken, loadTaken, takeRule}
 use Rattle.queue.specs.Internal.{loadsIn}
 use Rattle.queue.proofs.ContentsLaws.{getElem?-past, side-getElem?, side-length}
@@ -25,11 +26,11 @@ module _ (q : Queue) (port : ℕ) where
   take-unsound e = rw e
 
   module _ (right : sound (contentsOf q) ≡ true) where
-    pub take-no-port : anyOf (isLoadPort port) (groupsOf (q .frame .table)) ≡ false → takeRule (contentsOf q) port ≡ refuse noPort
+    pub take-no-port : anyOf (namesPort load port) (groupsOf (q .frame .table)) ≡ false → takeRule (contentsOf q) port ≡ refuse noPort
     unfolding takeRule contentsOf
     take-no-port e = rw (right, e)
 
-    module _ (known : anyOf (isLoadPort port) (groupsOf (q .frame .table)) ≡ true) (place : ℕ) (is : place ≡ firstPlace (untaken port) (loadsIn (q .frame .loads .count) (q .«load_entries»))) where
+    module _ (known : anyOf (namesPort load port) (groupsOf (q .frame .table)) ≡ true) (place : ℕ) (is : place ≡ firstPlace (untaken port) (loadsIn (q .frame .loads .count) (q .«load_entries»))) where
       pub take-none : q .frame .loads .count ≤ place → takeRule (contentsOf q) port ≡ refuse noneUntaken
       unfolding takeRule contentsOf
       take-none h = rw (right, known, ← is, getElem?-past (loadsIn (q .frame .loads .count) (q .«load_entries»)) place (rw (side-length loadIn 0 (q .frame .loads .count) (q .«load_entries»)) h))

@@ -1,26 +1,41 @@
 -- "An argument goes to its port's oldest entry that lacks it." "Load address, store address: 22 port not in the table;
 -- 23 address not below memory length; 24 no entry waits for it. Store data: 22, 24."
 use Prim.Native.Nat.{ℕ}
-use mathlib.Core.Bool.{Bool, not, _&&_}
+use mathlib.Core.Bool.{Bool, true, not, _&&_}
+use mathlib.Core.List.{List}
 use mathlib.Core.Option.{some}
 use lib.Dec.{eqb, ltb}
 use Rattle.table.specs.Basics.{anyOf}
 use Rattle.table.specs.declared.Pair.{Pair}
 use Rattle.table.specs.Group.{GroupPairs}
+use Rattle.queue.specs.declared.Kind.{Kind}
+use Rattle.queue.specs.declared.Kind.the-variants.{Load as load, Store as store}
+use Rattle.queue.specs.declared.arguments.Argument.{Argument}
+use Rattle.queue.specs.declared.arguments.Argument.the-variants.{LoadAddress, StoreAddress, StoreData}
+use Rattle.queue.specs.Kind.{ofKind}
 use Rattle.queue.specs.Refusal.{unsound, noPort, badAddress, noneWaits}
 use Rattle.queue.specs.Ruled.{Ruled, accept, need, isSome}
 use Rattle.queue.specs.Contents.{Load, Store, Contents, withLoads, withStores, updateAt, firstPlace}
 use Rattle.queue.specs.Sound.{sound}
 
--- does the table name this load port, this store port
+-- the kind of access that an argument is for
+abbrev pub kindOf : Argument → Kind
+kindOf LoadAddress = load
+kindOf StoreAddress = store
+kindOf StoreData = store
+
+-- does a group name this port among its ports of the kind
 abbrev pub isPort : ℕ → Pair → Bool
 isPort port p = eqb (p .port) port
 
-abbrev pub isLoadPort : ℕ → GroupPairs → Bool
-isLoadPort port g = anyOf (isPort port) (g .loads)
+abbrev pub namesPort : Kind → ℕ → GroupPairs → Bool
+namesPort kind port g = anyOf (isPort port) (ofKind kind (g .loads) (g .stores))
 
-abbrev pub isStorePort : ℕ → GroupPairs → Bool
-isStorePort port g = anyOf (isPort port) (g .stores)
+-- an address is below the memory length; data may be any word
+abbrev pub inRange : Argument → ℕ → ℕ → Bool
+inRange LoadAddress words a = ltb a words
+inRange StoreAddress words a = ltb a words
+inRange StoreData words w = true
 
 -- which entries wait for the argument
 abbrev pub loadLacksAddress : ℕ → Load → Bool
@@ -32,6 +47,11 @@ storeLacksAddress port s = eqb (s .port) port && not (isSome (s .address))
 abbrev pub storeLacksWord : ℕ → Store → Bool
 storeLacksWord port s = eqb (s .port) port && not (isSome (s .word))
 
+abbrev pub waits : Argument → ℕ → Contents → Bool
+waits LoadAddress port q = anyOf (loadLacksAddress port) (q .loads)
+waits StoreAddress port q = anyOf (storeLacksAddress port) (q .stores)
+waits StoreData port q = anyOf (storeLacksWord port) (q .stores)
+
 -- the entry with the argument
 abbrev pub loadWithAddress : ℕ → Load → Load
 loadWithAddress a l = record { port = l .port; address = some a; value = l .value; taken = l .taken; before = l .before }
@@ -42,25 +62,29 @@ storeWithAddress a s = record { port = s .port; address = some a; word = s .word
 abbrev pub storeWithWord : ℕ → Store → Store
 storeWithWord w s = record { port = s .port; address = s .address; word = some w; written = s .written; before = s .before }
 
-unfoldable pub loadAddress : Contents → ℕ → ℕ → Ruled Contents
-loadAddress q port a =
-    need (sound q) unsound
-    (need (anyOf (isLoadPort port) (q .groups)) noPort
-    (need (ltb a (q .memoryLength)) badAddress
-    (need (anyOf (loadLacksAddress port) (q .loads)) noneWaits
-    (accept (withLoads q (updateAt (loadWithAddress a) (firstPlace (loadLacksAddress port) (q .loads)) (q .loads)))))))
+-- the queue once the oldest entry that waits has the argument
+abbrev pub updateFirst : {A : Type 0} → (A → Bool) → (A → A) → List A → List A
+updateFirst p f l = updateAt f (firstPlace p l) l
 
-unfoldable pub storeAddress : Contents → ℕ → ℕ → Ruled Contents
-storeAddress q port a =
-    need (sound q) unsound
-    (need (anyOf (isStorePort port) (q .groups)) noPort
-    (need (ltb a (q .memoryLength)) badAddress
-    (need (anyOf (storeLacksAddress port) (q .stores)) noneWaits
-    (accept (withStores q (updateAt (storeWithAddress a) (firstPlace (storeLacksAddress port) (q .stores)) (q .stores)))))))
+abbrev pub filled : Argument → ℕ → ℕ → Contents → Contents
+filled LoadAddress port a q = withLoads q (updateFirst (loadLacksAddress port) (loadWithAddress a) (q .loads))
+filled StoreAddress port a q = withStores q (updateFirst (storeLacksAddress port) (storeWithAddress a) (q .stores))
+filled StoreData port w q = withStores q (updateFirst (storeLacksWord port) (storeWithWord w) (q .stores))
 
-unfoldable pub storeData : Contents → ℕ → ℕ → Ruled Contents
-storeData q port w =
+unfoldable pub give : Argument → Contents → ℕ → ℕ → Ruled Contents
+give argument q port x =
     need (sound q) unsound
-    (need (anyOf (isStorePort port) (q .groups)) noPort
-    (need (anyOf (storeLacksWord port) (q .stores)) noneWaits
-    (accept (withStores q (updateAt (storeWithWord w) (firstPlace (storeLacksWord port) (q .stores)) (q .stores))))))
+    (need (anyOf (namesPort (kindOf argument) port) (q .groups)) noPort
+    (need (inRange argument (q .memoryLength) x) badAddress
+    (need (waits argument port q) noneWaits
+    (accept (filled argument port x q)))))
+
+-- the three calls
+abbrev pub loadAddress : Contents → ℕ → ℕ → Ruled Contents
+loadAddress q port a = give LoadAddress q port a
+
+abbrev pub storeAddress : Contents → ℕ → ℕ → Ruled Contents
+storeAddress q port a = give StoreAddress q port a
+
+abbrev pub storeData : Contents → ℕ → ℕ → Ruled Contents
+storeData q port w = give StoreData q port w

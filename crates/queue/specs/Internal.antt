@@ -53,6 +53,28 @@ pub record Checked (outline : Outline) (loads stores : List ℕ) : Type 0 where
   pub stores-whole : Whole stores
 
 -- ---- an entry, whichever its side
+abbrev pub withAddress : ℕ → Entry → Entry
+withAddress a e = record {
+  port = e .port;
+  before = e .before;
+  addressed = true;
+  filled = e .filled;
+  finished = e .finished;
+  address = a;
+  word = e .word;
+}
+
+abbrev pub withWord : ℕ → Entry → Entry
+withWord w e = record {
+  port = e .port;
+  before = e .before;
+  addressed = e .addressed;
+  filled = true;
+  finished = e .finished;
+  address = e .address;
+  word = w;
+}
+
 abbrev pub has : Mark → Entry → Bool
 has Addressed e = e .addressed
 has Filled e = e .filled

@@ -7,6 +7,7 @@ use mathlib.Core.List.{List}
 use lib.Dec.{eqb}
 use lib.ListN.{length}
 use Rattle.queue.specs.declared.Value.the-variants.{Nothing}
+use Rattle.queue.specs.declared.Kind.{Kind}
 use Rattle.queue.specs.declared.Frame.{Frame}
 use Rattle.queue.specs.declared.Outline.{Outline}
 use Rattle.queue.specs.declared.Queue.{Queue}
@@ -17,6 +18,7 @@ use Rattle.queue.specs.declared.answering.Step.{Step}
 use Rattle.queue.specs.declared.serving.Service.{Service}
 use Rattle.queue.specs.declared.ready.ReadyCount.{ReadyCount}
 use Rattle.queue.specs.declared.opening.OpenedFrame.{OpenedFrame}
+use Rattle.queue.specs.Kind.{ofKind}
 use Rattle.queue.specs.Refusal.{unsound}
 use Rattle.queue.specs.Ruled.{Ruled, refuse, accept, need}
 use Rattle.queue.specs.Contents.{Contents, contentsOf}
@@ -37,6 +39,10 @@ outlineOf frame = record { count = frame .table .count; words = frame .words; lo
 -- the queue of a frame and two runs of entries
 abbrev pub queueOf : Frame → List ℕ → List ℕ → Queue
 queueOf frame loads stores = record { frame = frame; «load_entries» = loads; «store_entries» = stores }
+
+-- the same, by the entries of one kind and those of the other
+abbrev pub queueOfKind : Kind → Frame → List ℕ → List ℕ → Queue
+queueOfKind kind frame own others = queueOf frame (ofKind kind own others) (ofKind kind others own)
 
 -- each run has just as many numbers as a side has places
 unfoldable pub whole : List ℕ → List ℕ → Bool

@@ -5,11 +5,12 @@ use mathlib.Core.Bool.{Bool, true, not, _&&_}
 use lib.Dec.{eqb}
 use lib.ListN.{getElem?}
 use Rattle.table.specs.Basics.{anyOf}
+use Rattle.queue.specs.declared.Kind.the-variants.{Load as load}
 use Rattle.queue.specs.Refusal.{unsound, noPort, noneUntaken, notServed}
 use Rattle.queue.specs.Ruled.{Ruled, accept, need, have}
 use Rattle.queue.specs.Contents.{Load, Contents, withLoads, updateAt, firstPlace}
 use Rattle.queue.specs.Sound.{sound}
-use Rattle.queue.specs.Arguments.{isLoadPort}
+use Rattle.queue.specs.Arguments.{namesPort}
 use Rattle.queue.specs.Retire.{retire}
 
 -- what an accepted take gives
@@ -26,7 +27,7 @@ loadTaken l = record { port = l .port; address = l .address; value = l .value; t
 unfoldable pub takeRule : Contents → ℕ → Ruled Taken
 takeRule q port =
     need (sound q) unsound
-    (need (anyOf (isLoadPort port) (q .groups)) noPort
+    (need (anyOf (namesPort load port) (q .groups)) noPort
     (have (getElem? (q .loads) (firstPlace (untaken port) (q .loads))) noneUntaken λ l.
     have (l .value) notServed λ v.
     accept (record {

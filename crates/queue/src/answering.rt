@@ -1,9 +1,11 @@
 // What the calls on a queue's parts are handed and hand back: they are handed the outline, and the table's arrays and both runs
 // of entries are lent to them. A frame handed over would be copied at every call, and most of its bytes are the arrays.
 ghost use mathlib.Core.Path.{_≡_};
+ghost use Rattle.queue.specs.Kind.{ofKind};
 ghost use Rattle.queue.specs.Parts.{outlineOf, frameAfter};
 ghost use Rattle.queue.specs.Internal.{refusedStep};
 use crate::Frame;
+use crate::Kind;
 use crate::Outline;
 use crate::Side;
 use crate::Value;
@@ -60,6 +62,18 @@ pub fn outline_of(frame: Frame) -> Outline
         words: frame.words,
         loads,
         stores,
+    }
+}
+
+// The side of a kind.
+pub(crate) fn side_of(kind: Kind, outline: Outline) -> Side
+    ensures { λ r. ⌜ r ≡ ofKind kind (outline .loads) (outline .stores) ⌝ }
+{
+    let loads = outline.loads;
+    let stores = outline.stores;
+    match kind {
+        Kind::Load => loads,
+        Kind::Store => stores,
     }
 }
 

@@ -1,33 +1,51 @@
 // Arguments: "an argument goes to its port's oldest entry that lacks it".
 ghost use mathlib.Core.Path.{_≡_};
+ghost use mathlib.Core.Bool.{true};
 ghost use Prim.Native.Nat.{_≤_};
 ghost use lib.ListN.{length};
 ghost use Rattle.queue.specs.Contents.{contentsOf};
-ghost use Rattle.queue.specs.Arguments.{loadAddress, storeAddress, storeData};
+ghost use Rattle.queue.specs.Arguments.{kindOf, inRange, give, loadAddress, storeAddress, storeData};
 ghost use Rattle.queue.specs.Outcome.{Moves};
-ghost use Rattle.queue.specs.Parts.{frameOf, queueOf, answered, onParts};
+ghost use Rattle.queue.specs.Parts.{frameOf, queueOf, queueOfKind, answered, onParts};
 ghost use Rattle.queue.specs.InternalArguments.{markOf, withArgument, Given};
 use crate::Entry;
+use crate::Frame;
+use crate::Kind;
 use crate::Outcome;
 use crate::Outline;
 use crate::Queue;
 use crate::Value;
 use crate::answering::outline_of;
+use crate::answering::side_of;
 use crate::entries::Mark;
 use crate::entries::oldest_without;
 use crate::entries::pack;
 use crate::entries::unpack;
+use crate::entries::with_address;
+use crate::entries::with_word;
 use crate::ports::has_port;
 use crate::refusal::BAD_ADDRESS;
 use crate::refusal::NO_PORT;
 use crate::refusal::NONE_WAITS;
 use crate::refusal::UNSOUND;
-use crate::sound::sound_in;
+use crate::sound::sound_of;
 
-// What an entry waits for.
-pub(crate) enum Argument {
-    Address(u16),
-    Word(u32),
+// The three kinds of argument.
+pub enum Argument {
+    LoadAddress,
+    StoreAddress,
+    StoreData,
+}
+
+// The kind of access that an argument is for.
+fn kind_of(argument: Argument) -> Kind
+    ensures { λ r. ⌜ r ≡ kindOf argument ⌝ }
+{
+    match argument {
+        Argument::LoadAddress => Kind::Load,
+        Argument::StoreAddress => Kind::Store,
+        Argument::StoreData => Kind::Store,
+    }
 }
 
 // The mark of an entry that has the argument.
@@ -35,33 +53,39 @@ fn mark_of(argument: Argument) -> Mark
     ensures { λ r. ⌜ r ≡ markOf argument ⌝ }
 {
     match argument {
-        Argument::Address(_) => Mark::Addressed,
-        Argument::Word(_) => Mark::Filled,
+        Argument::LoadAddress => Mark::Addressed,
+        Argument::StoreAddress => Mark::Addressed,
+        Argument::StoreData => Mark::Filled,
+    }
+}
+
+// An address is below the memory length; data may be any word.
+fn in_range(argument: Argument, words: u16, number: u32) -> bool
+    ensures { λ r. ⌜ r ≡ inRange argument words number ⌝ }
+{
+    match argument {
+        Argument::LoadAddress => number < words as u32,
+        Argument::StoreAddress => number < words as u32,
+        Argument::StoreData => true,
     }
 }
 
 // The entry with the argument.
-pub(crate) fn with_argument(mut entry: Entry, argument: Argument) -> Entry
-    ensures { λ r. ⌜ r ≡ withArgument argument entry ⌝ }
+fn with_argument(entry: Entry, argument: Argument, number: u32) -> Entry
+    requires { ⌜ inRange argument 65536 number ≡ true ⌝ }
+    ensures { λ r. ⌜ r ≡ withArgument argument number entry ⌝ }
 {
     match argument {
-        Argument::Address(address) => {
-            entry.addressed = true;
-            entry.address = address;
-            entry
-        }
-        Argument::Word(word) => {
-            entry.filled = true;
-            entry.word = word;
-            entry
-        }
+        Argument::LoadAddress => with_address(entry, number as u16),
+        Argument::StoreAddress => with_address(entry, number as u16),
+        Argument::StoreData => with_word(entry, number),
     }
 }
 
 // Gives the argument to the port's oldest entry that lacks it, and answers 0; or 24, and changes nothing.
-fn give(entries: &mut [u64], held: u8, port: u32, argument: Argument) -> u8
-    requires { ⌜ held ≤ length (now entries) ⌝ }
-    ensures { λ r. ⌜ Given held port argument (now (entries .entry)) r (now (entries .exit)) ⌝ }
+fn give_oldest(entries: &mut [u64], held: u8, port: u32, argument: Argument, number: u32) -> u8
+    requires { ⌜ (held ≤ length (now entries)) × (inRange argument 65536 number ≡ true) ⌝ }
+    ensures { λ r. ⌜ Given held port argument number (now (entries .entry)) r (now (entries .exit)) ⌝ }
 {
     let mark = mark_of(argument);
     let at = oldest_without(entries, held, port, mark);
@@ -69,130 +93,105 @@ fn give(entries: &mut [u64], held: u8, port: u32, argument: Argument) -> u8
         return NONE_WAITS;
     }
     let entry = unpack(entries[at]);
-    let after = with_argument(entry, argument);
+    let after = with_argument(entry, argument, number);
     entries[at] = pack(after);
     0
 }
 
-// Load address on a queue's parts: 40, 22, 23, 24.
-pub fn load_address_in<'a>(
+// An argument on a queue's parts: 40, 22, 23, 24. The entries of its own kind are lent to be changed, those of the other kind to
+// be read.
+pub fn give_in<'a>(
     outline: Outline,
     groups: &'a [u32; 16],
     load_places: &'a [u16; 32],
     store_places: &'a [u16; 32],
-    load_entries: &mut [u64],
-    store_entries: &[u64],
+    own_entries: &mut [u64],
+    other_entries: &[u64],
+    argument: Argument,
     port: u32,
-    address: u32,
+    number: u32,
 ) -> u8
     ensures { λ r. ⌜ (let frame = frameOf outline (now (groups .entry)) (now («load_places» .entry)) (now («store_places» .entry)) in
-        Moves (queueOf frame (now («load_entries» .entry)) (now («store_entries» .entry)))
-        (onParts (now («load_entries» .entry)) (now («store_entries» .entry))
-        (loadAddress (contentsOf (queueOf frame (now («load_entries» .entry)) (now («store_entries» .entry)))) port address))
-        (answered r (queueOf frame (now («load_entries» .exit)) (now («store_entries» .entry))))) ⌝ }
+        let q = queueOfKind (kindOf argument) frame (now («own_entries» .entry)) (now («other_entries» .entry)) in
+        Moves q (onParts (q .«load_entries») (q .«store_entries») (give argument (contentsOf q) port number))
+        (answered r (queueOfKind (kindOf argument) frame (now («own_entries» .exit)) (now («other_entries» .entry))))) ⌝ }
 {
-    if !sound_in(
+    let kind = kind_of(argument);
+    if !sound_of(
+        kind,
         outline,
         groups,
         load_places,
         store_places,
-        load_entries,
-        store_entries,
+        own_entries,
+        other_entries,
     ) {
         return UNSOUND;
     }
-    let named = has_port(
-        outline.count,
-        groups,
-        load_places,
-        store_places,
-        false,
-        port,
-    );
-    if !named {
+    if !has_port(outline.count, groups, load_places, store_places, kind, port) {
         return NO_PORT;
     }
-    if outline.words as u32 <= address {
+    if !in_range(argument, outline.words, number) {
         return BAD_ADDRESS;
     }
-    let loads = outline.loads;
-    let argument = Argument::Address(address as u16);
-    give(load_entries, loads.count, port, argument)
+    let side = side_of(kind, outline);
+    give_oldest(own_entries, side.count, port, argument, number)
 }
 
-// Store address on a queue's parts: 40, 22, 23, 24.
-pub fn store_address_in<'a>(
-    outline: Outline,
-    groups: &'a [u32; 16],
-    load_places: &'a [u16; 32],
-    store_places: &'a [u16; 32],
-    load_entries: &[u64],
-    store_entries: &mut [u64],
-    port: u32,
-    address: u32,
-) -> u8
-    ensures { λ r. ⌜ (let frame = frameOf outline (now (groups .entry)) (now («load_places» .entry)) (now («store_places» .entry)) in
-        Moves (queueOf frame (now («load_entries» .entry)) (now («store_entries» .entry)))
-        (onParts (now («load_entries» .entry)) (now («store_entries» .entry))
-        (storeAddress (contentsOf (queueOf frame (now («load_entries» .entry)) (now («store_entries» .entry)))) port address))
-        (answered r (queueOf frame (now («load_entries» .entry)) (now («store_entries» .exit))))) ⌝ }
+// What an argument call hands back.
+fn given(answer: u8, frame: Frame, load_entries: [u64; 64], store_entries: [u64; 64]) -> Outcome
+    ensures { λ r. ⌜ r ≡ answered answer (queueOf frame «load_entries» «store_entries») ⌝ }
 {
-    if !sound_in(
-        outline,
-        groups,
-        load_places,
-        store_places,
+    let queue = Queue {
+        frame,
         load_entries,
         store_entries,
-    ) {
-        return UNSOUND;
+    };
+    Outcome {
+        answer,
+        value: Value::Nothing,
+        queue,
     }
-    let named = has_port(outline.count, groups, load_places, store_places, true, port);
-    if !named {
-        return NO_PORT;
-    }
-    if outline.words as u32 <= address {
-        return BAD_ADDRESS;
-    }
-    let stores = outline.stores;
-    let argument = Argument::Address(address as u16);
-    give(store_entries, stores.count, port, argument)
 }
 
-// Store data on a queue's parts: 40, 22, 24.
-pub fn store_data_in<'a>(
-    outline: Outline,
-    groups: &'a [u32; 16],
-    load_places: &'a [u16; 32],
-    store_places: &'a [u16; 32],
-    load_entries: &[u64],
-    store_entries: &mut [u64],
-    port: u32,
-    word: u32,
-) -> u8
-    ensures { λ r. ⌜ (let frame = frameOf outline (now (groups .entry)) (now («load_places» .entry)) (now («store_places» .entry)) in
-        Moves (queueOf frame (now («load_entries» .entry)) (now («store_entries» .entry)))
-        (onParts (now («load_entries» .entry)) (now («store_entries» .entry))
-        (storeData (contentsOf (queueOf frame (now («load_entries» .entry)) (now («store_entries» .entry)))) port word))
-        (answered r (queueOf frame (now («load_entries» .entry)) (now («store_entries» .exit))))) ⌝ }
+// Gives an argument to the port's oldest entry of its kind that lacks it.
+fn give(queue: Queue, argument: Argument, port: u32, number: u32) -> Outcome
+    ensures { λ r. ⌜ Moves queue (give argument (contentsOf queue) port number) r ⌝ }
 {
-    if !sound_in(
-        outline,
-        groups,
-        load_places,
-        store_places,
-        load_entries,
-        store_entries,
-    ) {
-        return UNSOUND;
+    let frame = queue.frame;
+    let mut load_entries = queue.load_entries;
+    let mut store_entries = queue.store_entries;
+    let outline = outline_of(frame);
+    match kind_of(argument) {
+        Kind::Load => {
+            let answer = give_in(
+                outline,
+                &frame.table.groups,
+                &frame.table.loads,
+                &frame.table.stores,
+                &mut load_entries,
+                &store_entries,
+                argument,
+                port,
+                number,
+            );
+            given(answer, frame, load_entries, store_entries)
+        }
+        Kind::Store => {
+            let answer = give_in(
+                outline,
+                &frame.table.groups,
+                &frame.table.loads,
+                &frame.table.stores,
+                &mut store_entries,
+                &load_entries,
+                argument,
+                port,
+                number,
+            );
+            given(answer, frame, load_entries, store_entries)
+        }
     }
-    let named = has_port(outline.count, groups, load_places, store_places, true, port);
-    if !named {
-        return NO_PORT;
-    }
-    let stores = outline.stores;
-    let argument = Argument::Word(word);
-    give(store_entries, stores.count, port, argument)
 }
 
 impl Queue {
@@ -200,89 +199,20 @@ impl Queue {
     pub fn load_address(self, port: u32, address: u32) -> Outcome
         ensures { λ r. ⌜ Moves self (loadAddress (contentsOf self) port address) r ⌝ }
     {
-        let frame = self.frame;
-        let mut load_entries = self.load_entries;
-        let store_entries = self.store_entries;
-        let outline = outline_of(frame);
-        let answer = load_address_in(
-            outline,
-            &frame.table.groups,
-            &frame.table.loads,
-            &frame.table.stores,
-            &mut load_entries,
-            &store_entries,
-            port,
-            address,
-        );
-        let queue = Queue {
-            frame,
-            load_entries,
-            store_entries,
-        };
-        Outcome {
-            answer,
-            value: Value::Nothing,
-            queue,
-        }
+        give(self, Argument::LoadAddress, port, address)
     }
 
     // Gives an address to the port's oldest store that has none.
     pub fn store_address(self, port: u32, address: u32) -> Outcome
         ensures { λ r. ⌜ Moves self (storeAddress (contentsOf self) port address) r ⌝ }
     {
-        let frame = self.frame;
-        let load_entries = self.load_entries;
-        let mut store_entries = self.store_entries;
-        let outline = outline_of(frame);
-        let answer = store_address_in(
-            outline,
-            &frame.table.groups,
-            &frame.table.loads,
-            &frame.table.stores,
-            &load_entries,
-            &mut store_entries,
-            port,
-            address,
-        );
-        let queue = Queue {
-            frame,
-            load_entries,
-            store_entries,
-        };
-        Outcome {
-            answer,
-            value: Value::Nothing,
-            queue,
-        }
+        give(self, Argument::StoreAddress, port, address)
     }
 
     // Gives data to the port's oldest store that has none.
     pub fn store_data(self, port: u32, word: u32) -> Outcome
         ensures { λ r. ⌜ Moves self (storeData (contentsOf self) port word) r ⌝ }
     {
-        let frame = self.frame;
-        let load_entries = self.load_entries;
-        let mut store_entries = self.store_entries;
-        let outline = outline_of(frame);
-        let answer = store_data_in(
-            outline,
-            &frame.table.groups,
-            &frame.table.loads,
-            &frame.table.stores,
-            &load_entries,
-            &mut store_entries,
-            port,
-            word,
-        );
-        let queue = Queue {
-            frame,
-            load_entries,
-            store_entries,
-        };
-        Outcome {
-            answer,
-            value: Value::Nothing,
-            queue,
-        }
+        give(self, Argument::StoreData, port, word)
     }
 }

@@ -4,7 +4,7 @@ ghost use Prim.Native.Nat.{_≤_};
 ghost use lib.ListN.{length};
 ghost use Rattle.queue.specs.Entry.{bit, entryOf, numberOf};
 ghost use Rattle.queue.specs.Contents.{firstPlace};
-ghost use Rattle.queue.specs.Internal.{has, lacks, entriesIn};
+ghost use Rattle.queue.specs.Internal.{withAddress, withWord, has, lacks, entriesIn};
 use crate::Entry;
 
 // What an entry may have, or be.
@@ -46,6 +46,24 @@ pub fn pack(entry: Entry) -> u64
     let marks = 32 * addressed + 64 * filled + 128 * finished;
     let low = entry.port as u64 % 32 + marks + 256 * entry.before as u64;
     low + 65536 * entry.address as u64 + 4294967296 * entry.word as u64
+}
+
+// The entry with an address.
+pub(crate) fn with_address(mut entry: Entry, address: u16) -> Entry
+    ensures { λ r. ⌜ r ≡ withAddress address entry ⌝ }
+{
+    entry.addressed = true;
+    entry.address = address;
+    entry
+}
+
+// The entry with a word: the value of a served load, a store's data.
+pub(crate) fn with_word(mut entry: Entry, word: u32) -> Entry
+    ensures { λ r. ⌜ r ≡ withWord word entry ⌝ }
+{
+    entry.filled = true;
+    entry.word = word;
+    entry
 }
 
 // Has the entry the mark?

@@ -4,8 +4,8 @@ ghost use Prim.Native.Nat.{_≤_};
 ghost use Rattle.table.specs.Basics.{anyOf};
 ghost use Rattle.table.specs.Group.{listOf, pairsOf, Inside};
 ghost use Rattle.table.specs.Table.{groupsIn};
-ghost use Rattle.queue.specs.InternalArguments.{namesPort};
-ghost use Rattle.queue.specs.Arguments.{isPort};
+ghost use Rattle.queue.specs.Arguments.{isPort, namesPort};
+use crate::Kind;
 use table::Group;
 use table::Span;
 use table::parts::group_at;
@@ -29,42 +29,42 @@ fn names_port(places: &[u16; 32], pairs: Span, port: u32) -> bool
     false
 }
 
-// Does the group name the port, among its store ports or among its load ports?
+// Does the group name the port among its ports of the kind?
 fn group_names<'a>(
     group: Group,
     loads: &'a [u16; 32],
     stores: &'a [u16; 32],
-    storing: bool,
+    kind: Kind,
     port: u32,
 ) -> bool
     requires { ⌜ Inside (group .loads) × Inside (group .stores) ⌝ }
-    ensures { λ r. ⌜ r ≡ namesPort storing port (pairsOf (now (loads .entry)) (now (stores .entry)) group) ⌝ }
+    ensures { λ r. ⌜ r ≡ namesPort kind port (pairsOf (now (loads .entry)) (now (stores .entry)) group) ⌝ }
 {
     let load_span = group.loads;
     let store_span = group.stores;
-    if storing {
-        return names_port(stores, store_span, port);
+    match kind {
+        Kind::Load => names_port(loads, load_span, port),
+        Kind::Store => names_port(stores, store_span, port),
     }
-    names_port(loads, load_span, port)
 }
 
-// Does the table of these parts name the port, among its store ports or among its load ports?
+// Does the table of these parts name the port among its ports of the kind?
 pub(crate) fn has_port<'a>(
     count: u8,
     groups: &'a [u32; 16],
     loads: &'a [u16; 32],
     stores: &'a [u16; 32],
-    storing: bool,
+    kind: Kind,
     port: u32,
 ) -> bool
     requires { ⌜ count ≤ 16 ⌝ }
-    ensures { λ r. ⌜ r ≡ anyOf (namesPort storing port) (groupsIn count (now (groups .entry)) (now (loads .entry)) (now (stores .entry))) ⌝ }
+    ensures { λ r. ⌜ r ≡ anyOf (namesPort kind port) (groupsIn count (now (groups .entry)) (now (loads .entry)) (now (stores .entry))) ⌝ }
 {
     let many = count as usize;
     let mut i: usize = 0;
     while i < many {
         let group = group_at(groups, i);
-        if group_names(group, loads, stores, storing, port) {
+        if group_names(group, loads, stores, kind, port) {
             return true;
         }
         i += 1;

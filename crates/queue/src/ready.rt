@@ -7,7 +7,6 @@ ghost use lib.ListN.{length, drop};
 ghost use Rattle.table.specs.declared.Table.{Table};
 ghost use Rattle.queue.specs.Contents.{loadOf, contentsOf};
 ghost use Rattle.queue.specs.Sound.{sound};
-ghost use Rattle.queue.specs.Kind.{ofKind};
 ghost use Rattle.queue.specs.Ready.{readySerials, ready, Readies, Fronts};
 ghost use denote.Ref.{ptr};
 ghost use Rattle.queue.specs.Parts.{frameOf, queueOf, onParts, readiedOf};
@@ -19,8 +18,8 @@ use crate::Outline;
 use crate::Queue;
 use crate::Readied;
 use crate::ReadySerials;
-use crate::Side;
 use crate::answering::outline_of;
+use crate::answering::side_of;
 use crate::entries::unpack;
 use crate::refusal::UNSOUND;
 use crate::serial::oldest_serial;
@@ -97,18 +96,6 @@ fn ready_at(kind: Kind, load_entries: &[u64], store_entries: &[u64], i: usize) -
             let fault = write_fault(load_entries, store_entries, i);
             fault == 0
         }
-    }
-}
-
-// The side of a kind.
-fn side_of(kind: Kind, outline: Outline) -> Side
-    ensures { λ r. ⌜ r ≡ ofKind kind (outline .loads) (outline .stores) ⌝ }
-{
-    let loads = outline.loads;
-    let stores = outline.stores;
-    match kind {
-        Kind::Load => loads,
-        Kind::Store => stores,
     }
 }
 

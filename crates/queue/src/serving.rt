@@ -18,11 +18,10 @@ use crate::Outline;
 use crate::Queue;
 use crate::Value;
 use crate::answering::outline_of;
-use crate::arguments::Argument;
-use crate::arguments::with_argument;
 use crate::counting::counted;
 use crate::entries::pack;
 use crate::entries::unpack;
+use crate::entries::with_word;
 use crate::refusal::ALREADY_DONE;
 use crate::refusal::EARLIER_STORE_UNKNOWN;
 use crate::refusal::NO_ADDRESS;
@@ -120,7 +119,7 @@ fn served(
     ensures { λ r. ⌜ (r ≡ servedAs word forwarded counts) × Filled at word (now («load_entries» .entry)) (now («load_entries» .exit)) ⌝ }
 {
     let load = unpack(load_entries[at]);
-    let after = with_argument(load, Argument::Word(word));
+    let after = with_word(load, word);
     load_entries[at] = pack(after);
     Service {
         answer: 0,

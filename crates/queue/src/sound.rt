@@ -7,9 +7,10 @@ ghost use lib.ListN.{length};
 ghost use Rattle.table.specs.Basics.{allOf};
 ghost use Rattle.queue.specs.Contents.{contentsOf};
 ghost use Rattle.queue.specs.Sound.{depthRight, memoryRight, sound};
-ghost use Rattle.queue.specs.Parts.{frameOf, queueOf, whole};
+ghost use Rattle.queue.specs.Parts.{frameOf, queueOf, queueOfKind, whole};
 ghost use Rattle.queue.specs.Internal.{entriesIn, entryRight};
 use crate::Entry;
+use crate::Kind;
 use crate::Outline;
 use crate::Queue;
 use crate::Side;
@@ -116,6 +117,40 @@ pub fn sound_in<'a>(
     }
     let fault = fault_in(outline.count, groups, load_places, store_places);
     fault == 0
+}
+
+// The same, by the entries of one kind and those of the other.
+pub(crate) fn sound_of<'a>(
+    kind: Kind,
+    outline: Outline,
+    groups: &'a [u32; 16],
+    load_places: &'a [u16; 32],
+    store_places: &'a [u16; 32],
+    own_entries: &[u64],
+    other_entries: &[u64],
+) -> bool
+    ensures { λ r. ⌜ (let frame = frameOf outline (now (groups .entry)) (now («load_places» .entry)) (now («store_places» .entry)) in
+        let q = queueOfKind kind frame (now («own_entries» .entry)) (now («other_entries» .entry)) in
+        r ≡ whole (q .«load_entries») (q .«store_entries») && sound (contentsOf q)) ⌝ }
+{
+    match kind {
+        Kind::Load => sound_in(
+            outline,
+            groups,
+            load_places,
+            store_places,
+            own_entries,
+            other_entries,
+        ),
+        Kind::Store => sound_in(
+            outline,
+            groups,
+            load_places,
+            store_places,
+            other_entries,
+            own_entries,
+        ),
+    }
 }
 
 impl Queue {

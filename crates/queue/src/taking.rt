@@ -4,6 +4,7 @@ ghost use Rattle.queue.specs.Contents.{contentsOf};
 ghost use Rattle.queue.specs.Take.{takeRule};
 ghost use Rattle.queue.specs.Outcome.{Takes};
 ghost use Rattle.queue.specs.Parts.{frameOf, queueOf, outcomeOf, onParts};
+use crate::Kind;
 use crate::Outcome;
 use crate::Outline;
 use crate::Queue;
@@ -56,7 +57,7 @@ pub fn take_in<'a>(
         groups,
         load_places,
         store_places,
-        false,
+        Kind::Load,
         port,
     );
     if !named {

@@ -1,10 +1,13 @@
 -- Laws of playing one event: what the contract of its call says is what the definition of playing gives.
 use Prim.Native.Nat.{ℕ}
 use mathlib.Core.Path.{_≡_, refl, sym, ap, ap₂, _∙_}
+use mathlib.Core.Bool.{true}
 use mathlib.Core.List.{List}
 use mathlib.Core.Option.{none}
 use Rattle.table.specs.declared.Event.{Event}
 use Rattle.table.specs.declared.Event.the-variants.{Activate, LoadAddress, StoreAddress, StoreData, Serve, Write, Take}
+use Rattle.queue.specs.declared.arguments.Argument.{Argument}
+use Rattle.queue.specs.declared.arguments.Argument.the-variants as Argument
 use Rattle.queue.specs.declared.Queue.{Queue}
 use Rattle.queue.specs.declared.Counts.{Counts}
 use Rattle.queue.specs.declared.Outcome.{Outcome}
@@ -12,13 +15,14 @@ use Rattle.queue.specs.declared.Counted.{Counted}
 use Rattle.queue.specs.Ruled.{Ruled, refuse, accept}
 use Rattle.queue.specs.Contents.{Contents, contentsOf}
 use Rattle.queue.specs.Activate.{activate}
-use Rattle.queue.specs.Arguments.{loadAddress, storeAddress, storeData}
+use Rattle.queue.specs.Arguments.{give}
 use Rattle.queue.specs.Serve.{Served, serve}
 use Rattle.queue.specs.Write.{Written, write}
 use Rattle.queue.specs.Take.{Taken, takeRule}
 use Rattle.queue.specs.Outcome.{Handed, handed, noValue, HandedCounts, valueIn, Moves, Takes, Serves, Writes, withCounts}
+use Rattle.queue.specs.Parts.{whole, onParts}
 use Rattle.sequential.specs.Call.{Machine, Step, moved, served, written, taken}
-use Rattle.replay.specs.Playing.{Playing, playing, stepOf, played, countsAfter, afterServe}
+use Rattle.replay.specs.Playing.{Playing, playing, stepOf, countsAfter, afterServe}
 use Rattle.replay.specs.Internal.{Plays}
 
 abbrev made : Machine → Counts → Playing
@@ -26,10 +30,6 @@ made m c = record { machine = m; counts = c }
 
 abbrev machine : Contents → List ℕ → Machine
 machine q m = record { queue = q; memory = m }
-
--- the event by its value
-pub plays-as : {q : Queue} {c : Counts} {m : List ℕ} {e₁ e₂ : Event} {r : Counted} {left : List ℕ} → e₁ ≡ e₂ → Plays q c m e₂ r left → Plays q c m e₁ r left
-plays-as e w = rw e w
 
 module _ (q : Queue) (c : Counts) (m : List ℕ) (e : Event) where
   abbrev now : Playing
@@ -69,25 +69,41 @@ module _ (q : Queue) (c : Counts) (m : List ℕ) (e : Event) where
       (sym (ap (λ (x : Handed). machine (contentsOf (x .queue)) m) h)) (counts ∙ sym (ap (λ (x : HandedCounts). x .counts) w))
   serves-play (accept s) r is counts w = from-step _ r m is (sym (w .answer)) (sym (w .gives)) (ap (λ (x : Contents). machine x m) (sym (w .holds))) (counts ∙ sym (w .counts))
 
--- the same for each kind of event
-module _ (q : Queue) (c : Counts) (m : List ℕ) where
-  pub play-activate : (g : ℕ) (o : Outcome) → Moves q (activate (contentsOf q) g) o → Plays q c m (Activate g) (withCounts o c) m
-  play-activate g o w = moves-play q c m (Activate g) (activate (contentsOf q) g) o refl refl w
+-- the event that an argument is given by
+abbrev pub giving : Argument → ℕ → ℕ → Event
+giving Argument.LoadAddress p a = LoadAddress p a
+giving Argument.StoreAddress p a = StoreAddress p a
+giving Argument.StoreData p w = StoreData p w
 
-  pub play-load-address : (p a : ℕ) (o : Outcome) → Moves q (loadAddress (contentsOf q) p a) o → Plays q c m (LoadAddress p a) (withCounts o c) m
-  play-load-address p a o w = moves-play q c m (LoadAddress p a) (loadAddress (contentsOf q) p a) o refl refl w
+-- the same for each kind of event, where the runs of entries are whole
+module _ (q : Queue) (c : Counts) (m : List ℕ) (full : whole (q .«load_entries») (q .«store_entries») ≡ true) where
+  -- a rule on the parts
+  abbrev onRuns : {A : Type 0} → Ruled A → Ruled A
+  onRuns rule = onParts (q .«load_entries») (q .«store_entries») rule
 
-  pub play-store-address : (p a : ℕ) (o : Outcome) → Moves q (storeAddress (contentsOf q) p a) o → Plays q c m (StoreAddress p a) (withCounts o c) m
-  play-store-address p a o w = moves-play q c m (StoreAddress p a) (storeAddress (contentsOf q) p a) o refl refl w
+  pub play-activate : {e : Event} (g : ℕ) (o : Outcome) → e ≡ Activate g → Moves q (onRuns (activate (contentsOf q) g)) o → Plays q c m e (withCounts o c) m
+  play-activate g o is w = rw is (moves-play q c m (Activate g) (activate (contentsOf q) g) o refl refl (rw full at w))
 
-  pub play-store-data : (p d : ℕ) (o : Outcome) → Moves q (storeData (contentsOf q) p d) o → Plays q c m (StoreData p d) (withCounts o c) m
-  play-store-data p d o w = moves-play q c m (StoreData p d) (storeData (contentsOf q) p d) o refl refl w
+  pub play-give : {e : Event} (argument : Argument) (p x : ℕ) (o : Outcome) → e ≡ giving argument p x
+      → Moves q (onRuns (give argument (contentsOf q) p x)) o → Plays q c m e (withCounts o c) m
+  play-give argument p x o is w = rw is (moves-play q c m (giving argument p x) (give argument (contentsOf q) p x) o (stepped argument) (uncounted argument) (rw full at w))
+    where
+      stepped : (a : Argument) → stepOf (playing (contentsOf q) m c) (giving a p x) ≡ moved (machine (contentsOf q) m) (give a (contentsOf q) p x)
+      stepped Argument.LoadAddress = refl
+      stepped Argument.StoreAddress = refl
+      stepped Argument.StoreData = refl
 
-  pub play-serve : (s : ℕ) (r : Counted) → Serves q c (serve (contentsOf q) m s) r → Plays q c m (Serve s) r m
-  play-serve s r w = serves-play q c m (Serve s) (serve (contentsOf q) m s) r refl refl w
+      uncounted : (a : Argument) → countsAfter (playing (contentsOf q) m c) (giving a p x) ≡ c
+      uncounted Argument.LoadAddress = refl
+      uncounted Argument.StoreAddress = refl
+      uncounted Argument.StoreData = refl
 
-  pub play-write : (s : ℕ) (o : Outcome) (left : List ℕ) → Writes q m (write (contentsOf q) m s) o left → Plays q c m (Write s) (withCounts o c) left
-  play-write s o left w = writes-play q c m (Write s) (write (contentsOf q) m s) o left refl refl w
+  pub play-serve : {e : Event} (s : ℕ) (r : Counted) → e ≡ Serve s → Serves q c (onRuns (serve (contentsOf q) m s)) r → Plays q c m e r m
+  play-serve s r is w = rw is (serves-play q c m (Serve s) (serve (contentsOf q) m s) r refl refl (rw full at w))
 
-  pub play-take : (p : ℕ) (o : Outcome) → Takes q (takeRule (contentsOf q) p) o → Plays q c m (Take p) (withCounts o c) m
-  play-take p o w = takes-play q c m (Take p) (takeRule (contentsOf q) p) o refl refl w
+  pub play-write : {e : Event} (s : ℕ) (o : Outcome) (left : List ℕ) → e ≡ Write s → Writes q m (onRuns (write (contentsOf q) m s)) o left
+      → Plays q c m e (withCounts o c) left
+  play-write s o left is w = rw is (writes-play q c m (Write s) (write (contentsOf q) m s) o left refl refl (rw full at w))
+
+  pub play-take : {e : Event} (p : ℕ) (o : Outcome) → e ≡ Take p → Takes q (onRuns (takeRule (contentsOf q) p)) o → Plays q c m e (withCounts o c) m
+  play-take p o is w = rw is (takes-play q c m (Take p) (takeRule (contentsOf q) p) o refl refl (rw full at w))

@@ -13,9 +13,8 @@ use queue::Side;
 use queue::Value;
 use queue::activation::activate_in;
 use queue::answering::Step;
-use queue::arguments::load_address_in;
-use queue::arguments::store_address_in;
-use queue::arguments::store_data_in;
+use queue::arguments::Argument;
+use queue::arguments::give_in;
 use queue::serving::serve_in;
 use queue::taking::take_in;
 use queue::writing::write_in;
@@ -92,39 +91,42 @@ pub(crate) fn play_event<'a>(
             counts,
         ),
         Event::LoadAddress { port, address } => {
-            let answer = load_address_in(
+            let answer = give_in(
                 outline,
                 groups,
                 load_places,
                 store_places,
                 loads,
                 stores,
+                Argument::LoadAddress,
                 port,
                 address,
             );
             unmoved(answer, Value::Nothing, outline, counts)
         }
         Event::StoreAddress { port, address } => {
-            let answer = store_address_in(
+            let answer = give_in(
                 outline,
                 groups,
                 load_places,
                 store_places,
-                loads,
                 stores,
+                loads,
+                Argument::StoreAddress,
                 port,
                 address,
             );
             unmoved(answer, Value::Nothing, outline, counts)
         }
         Event::StoreData { port, word } => {
-            let answer = store_data_in(
+            let answer = give_in(
                 outline,
                 groups,
                 load_places,
                 store_places,
-                loads,
                 stores,
+                loads,
+                Argument::StoreData,
                 port,
                 word,
             );

@@ -7,10 +7,10 @@ use mathlib.Core.List.{List, [], _∷_, _++_, map, map-append, append-nil}
 use lib.ListN.{length, length-map}
 use Rattle.table.specs.Basics.{pick, countWhere, afterWhile}
 use Rattle.table.specs.Group.{GroupPairs, Access}
+use Rattle.queue.specs.declared.arguments.Argument.{Argument}
 use Rattle.queue.specs.Contents.{Load, Store, Contents, withLoads, withStores, updateAt}
 use Rattle.queue.specs.Retire.{retire, retiring, loadFinished, storeFinished, loadAfterRetiring, storeAfterRetiring}
 use Rattle.queue.proofs.Lists.{all-replace, count-append, length-updateAt, length-afterWhile}
-use Rattle.sequential.specs.Calls.{Argument}
 use Rattle.sequential.specs.Call.{Answered}
 use Rattle.sequential.specs.Plain.{gather, rowsOf, accesses}
 use Rattle.sequential.specs.Demand3.{tell, told, takenAt, serveIn, writeIn}

@@ -5,7 +5,6 @@ use mathlib.Core.Path.{_≡_, refl, ap, _∙_, subst}
 use mathlib.Core.Bool.{Bool, true, false, _&&_}
 use mathlib.Core.List.{List, [], _∷_}
 use mathlib.Core.Option.{none, some}
-use lib.Dec.{ltb}
 use lib.ListN.{length, getD, set, getElem?}
 use borrow.Author.Tests.{lt-ltb}
 use Rattle.table.specs.Basics.{pick, anyOf, allOf, afterWhile}
@@ -16,8 +15,8 @@ use Rattle.queue.specs.Ruled.{Ruled, refuse, accept, number}
 use Rattle.queue.specs.Contents.{Load, Store, Contents, withLoads, withStores, updateAt, firstPlace, loadPlace, storePlace}
 use Rattle.queue.specs.Sound.{sound}
 use Rattle.queue.specs.Activate.{room, withGroup, activate}
-use Rattle.queue.specs.Arguments.{isLoadPort, isStorePort, loadLacksAddress, storeLacksAddress, storeLacksWord}
-use Rattle.queue.specs.Arguments.{loadWithAddress, storeWithAddress, storeWithWord, loadAddress, storeAddress, storeData}
+use Rattle.queue.specs.Arguments.{loadLacksAddress, storeLacksAddress, storeLacksWord, loadWithAddress, storeWithAddress, storeWithWord, namesPort}
+use Rattle.queue.specs.Arguments.{filled, give}
 use Rattle.queue.specs.Serve.{Served, fromMemory, source, Loaded, loadedFrom, storesBefore, loadWithValue, serve}
 use Rattle.queue.specs.Write.{Written, storeDone, write}
 use Rattle.queue.specs.Retire.{loadFinished, storeFinished, loadAfterRetiring, storeAfterRetiring, retiring, retire}
@@ -25,16 +24,18 @@ use Rattle.queue.specs.Take.{Taken, untaken, loadTaken, takeRule}
 use Rattle.queue.specs.Ready.{ready}
 use Rattle.queue.specs.InternalActivate.{loadAfter, storeAfter}
 use Rattle.queue.proofs.Lists.{false-true, and-left, and-right, and-both, all-join, all-take, all-map, all-weaken, all-middle, getElem?-split}
-use Rattle.queue.proofs.Refusals.{need-accepts, have-accepts, number-small, small}
-use Rattle.queue.proofs.Refusals.{activate-small, serve-small, write-small, take-small, ready-small}
+use Rattle.queue.proofs.Refusals.{need-accepts, have-accepts, number-small, small, activate-small, serve-small, write-small, take-small, ready-small}
+use Rattle.queue.proofs.Refusals.{give-accepts, give-small}
 use Rattle.queue.proofs.ActivateLaws.{with-group-is}
 use Rattle.queue.proofs.SourceLaws.{wordFrom, loaded-word, source-passes}
 use Rattle.queue.proofs.ServeLaws.{Serving, serve-accepts}
 use Rattle.queue.proofs.WriteLaws.{Writing, write-accepts}
-use Rattle.sequential.specs.Calls.{Argument, LoadAddress, StoreAddress, StoreData, Call, Activate, Give, Serve, Write, Take, Ready}
-use Rattle.sequential.specs.Call.{Machine, Step, moved, served, written, taken, give, step}
+use Rattle.sequential.specs.Calls.{Call, Activate, Give, Serve, Write, Take, Ready}
+use Rattle.sequential.specs.Call.{Machine, Step, moved, served, written, taken, step}
+use Rattle.queue.specs.declared.Kind.the-variants.{Load as load}
+use Rattle.queue.specs.declared.arguments.Argument.{Argument}
+use Rattle.queue.specs.declared.arguments.Argument.the-variants.{LoadAddress, StoreAddress, StoreData}
 use Rattle.sequential.specs.RunsExist.{fits, wordFits, argumentFits}
-use Rattle.sequential.proofs.CallRefusals.{give-small}
 use Rattle.sequential.proofs.Stored.{loadFits, storeFits}
 
 -- ---- lists all of whose elements pass
@@ -175,28 +176,13 @@ module _ (q : Contents) (m : List ℕ) (f : Fits (machine q m)) where
       subst (λ (c : Contents). Fits (machine c m)) result (group-fits q m f g r)
 
   give-fits : (kind : Argument) (port x : ℕ) (q′ : Contents) → fits 32 x ≡ true → give kind q port x ≡ accept q′ → Fits (machine q′ m)
-  unfolding loadAddress storeAddress storeData
-  give-fits LoadAddress port x q′ small h₀ =
-      let (t₁, h₁) = need-accepts (sound q) _ _ h₀ in
-      let (t₂, h₂) = need-accepts (anyOf (isLoadPort port) (q .groups)) _ _ h₁ in
-      let (t₃, h₃) = need-accepts (ltb x (q .memoryLength)) _ _ h₂ in
-      let (t₄, h₄) = need-accepts (anyOf (loadLacksAddress port) (q .loads)) _ _ h₃ in
-      let result : withLoads q (updateAt (loadWithAddress x) (firstPlace (loadLacksAddress port) (q .loads)) (q .loads)) ≡ q′ = cc in
-      subst (λ (c : Contents). Fits (machine c m)) result (with-loads q m f (loadWithAddress x) (λ l h. h) (firstPlace (loadLacksAddress port) (q .loads)))
-  give-fits StoreAddress port x q′ small h₀ =
-      let (t₁, h₁) = need-accepts (sound q) _ _ h₀ in
-      let (t₂, h₂) = need-accepts (anyOf (isStorePort port) (q .groups)) _ _ h₁ in
-      let (t₃, h₃) = need-accepts (ltb x (q .memoryLength)) _ _ h₂ in
-      let (t₄, h₄) = need-accepts (anyOf (storeLacksAddress port) (q .stores)) _ _ h₃ in
-      let result : withStores q (updateAt (storeWithAddress x) (firstPlace (storeLacksAddress port) (q .stores)) (q .stores)) ≡ q′ = cc in
-      subst (λ (c : Contents). Fits (machine c m)) result (with-stores q m f (storeWithAddress x) (λ s h. h) (firstPlace (storeLacksAddress port) (q .stores)))
-  give-fits StoreData port x q′ small h₀ =
-      let (t₁, h₁) = need-accepts (sound q) _ _ h₀ in
-      let (t₂, h₂) = need-accepts (anyOf (isStorePort port) (q .groups)) _ _ h₁ in
-      let (t₃, h₃) = need-accepts (anyOf (storeLacksWord port) (q .stores)) _ _ h₂ in
-      let result : withStores q (updateAt (storeWithWord x) (firstPlace (storeLacksWord port) (q .stores)) (q .stores)) ≡ q′ = cc in
-      subst (λ (c : Contents). Fits (machine c m)) result
-      (with-stores q m f (storeWithWord x) (λ s h. and-both (and-left (fits 5 (s .port)) _ h) small) (firstPlace (storeLacksWord port) (q .stores)))
+  give-fits kind port x q′ small h = subst (λ (c : Contents). Fits (machine c m)) (give-accepts kind q port x h .is) (go kind)
+    where
+      go : (kind : Argument) → Fits (machine (filled kind port x q) m)
+      go LoadAddress = with-loads q m f (loadWithAddress x) (λ l h. h) (firstPlace (loadLacksAddress port) (q .loads))
+      go StoreAddress = with-stores q m f (storeWithAddress x) (λ s h. h) (firstPlace (storeLacksAddress port) (q .stores))
+      go StoreData =
+          with-stores q m f (storeWithWord x) (λ s h. and-both (and-left (fits 5 (s .port)) _ h) small) (firstPlace (storeLacksWord port) (q .stores))
 
   serve-fits : (serial : ℕ) (r : Served) → serve q m serial ≡ accept r → (fits 32 (r .value) ≡ true) × Fits (machine (r .queue) m)
   serve-fits serial r h = go (serve-accepts q m serial r h)
@@ -225,7 +211,7 @@ module _ (q : Contents) (m : List ℕ) (f : Fits (machine q m)) where
   unfolding takeRule
   take-fits port r h₀ =
       let (t₁, h₁) = need-accepts (sound q) _ _ h₀ in
-      let (t₂, h₂) = need-accepts (anyOf (isLoadPort port) (q .groups)) _ _ h₁ in
+      let (t₂, h₂) = need-accepts (anyOf (namesPort load port) (q .groups)) _ _ h₁ in
       let place : ℕ = firstPlace (untaken port) (q .loads) in
       let (l, at, h₃) = have-accepts (getElem? (q .loads) place) _ _ h₂ in
       let (v, t₄, h₄) = have-accepts (l .value) _ _ h₃ in

@@ -4,7 +4,6 @@ pub mod Window
 pub mod MemoryInvariant
 pub mod Rows
 pub mod PlainRun
-pub mod CallRefusals
 pub mod State
 pub mod Anew
 pub mod Slots

@@ -9,8 +9,8 @@ use lib.ListN.{getD, set, getElem?}
 use Rattle.table.specs.Basics.{pick, allOf}
 use Rattle.table.specs.Group.{Access, load, store}
 use Rattle.queue.specs.Retire.{storeFinished}
+use Rattle.queue.specs.declared.arguments.Argument.the-variants.{LoadAddress, StoreAddress, StoreData}
 use Rattle.queue.proofs.Lists.{false-true, and-left, and-right}
-use Rattle.sequential.specs.Calls.{LoadAddress, StoreAddress, StoreData}
 use Rattle.sequential.specs.Plain.{Rows, Filling, nextOf, usedUp, loadedFrom, memoryFrom, valuesAt}
 use Rattle.sequential.proofs.Log.{Entry, ofLoad, ofStore, stores, ownIn}
 use Rattle.sequential.proofs.MemoryInvariant.{Agree, reads, does}

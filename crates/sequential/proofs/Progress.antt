@@ -12,6 +12,8 @@ use lib.ListN.{length, take, getElem?}
 use borrow.Author.Tests.{eq-eqb, leb-true}
 use Rattle.table.specs.Basics.{allOf, countWhere}
 use Rattle.table.specs.Group.{GroupPairs}
+use Rattle.queue.specs.declared.arguments.Argument.{Argument}
+use Rattle.queue.specs.declared.arguments.Argument.the-variants.{LoadAddress, StoreAddress, StoreData}
 use Rattle.queue.specs.Ruled.{number, isSome}
 use Rattle.queue.specs.Contents.{Load, Store, Contents, after, oldest, loadPlace, storePlace}
 use Rattle.queue.specs.Sound.{sound}
@@ -21,7 +23,6 @@ use Rattle.queue.specs.Retire.{storeFinished}
 use Rattle.queue.proofs.Lists.{false-true, is-none, and-left, and-right, and-both, or-left, all-left, all-middle, getElem?-short}
 use Rattle.queue.proofs.SourceLaws.{source-memory}
 use Rattle.queue.proofs.Serials.{place-of-serial, oldest-small, after-small}
-use Rattle.sequential.specs.Calls.{Argument, LoadAddress, StoreAddress, StoreData}
 use Rattle.sequential.specs.Call.{Machine, Answered}
 use Rattle.sequential.specs.Plain.{rowsOf, accesses, consOption}
 use Rattle.sequential.specs.Demand3.{told, uses, isLoad, isStore, someUnserved, someUnwritten, allArguments, wouldMove}

@@ -23,6 +23,7 @@ use Rattle.queue.specs.Contents.{Contents, contentsOf}
 use Rattle.queue.specs.Sound.{depthRight, memoryRight}
 use Rattle.queue.specs.Open.{groupFits, openQueue, freshFrame}
 use Rattle.queue.specs.Activate.{activate}
+use Rattle.queue.specs.Arguments.{give}
 use Rattle.queue.specs.Serve.{Served, serve}
 use Rattle.queue.specs.Write.{Written, write}
 use Rattle.queue.specs.Take.{Taken, takeRule}
@@ -31,7 +32,7 @@ use Rattle.queue.specs.Ready.{ready, Readies}
 use Rattle.queue.specs.Parts.{queueOf, OpensFrame}
 use Rattle.queue.proofs.Refusals.{proper, need-proper, refusal-not-zero}
 use Rattle.sequential.specs.Calls.{Call, Activate, Give, Serve, Write, Take, Ready}
-use Rattle.sequential.specs.Call.{Machine, Step, moved, served, written, taken, give, step, Answered, answers, leaves}
+use Rattle.sequential.specs.Call.{Machine, Step, moved, served, written, taken, step, Answered, answers, leaves}
 use Rattle.sequential.specs.Records.{logged, Hands, Runs, done, next, machineOf, OpenedRecord}
 use Rattle.sequential.specs.Records.{ServeCountedHands, ServeHands, ReadyIntoHands, ReadyHands}
 use Rattle.sequential.specs.Records.{RecordsDemand3, FramesDemand3, AlikeRecords, RecordsSound}

@@ -10,10 +10,11 @@ use lib.Dec.{eqb}
 use lib.ListN.{length}
 use borrow.Author.Tests.{eqb-true, eqb-false, eq-eqb, ne-eqb}
 use Rattle.table.specs.Basics.{pick, allOf, countWhere}
+use Rattle.queue.specs.declared.arguments.Argument.{Argument}
+use Rattle.queue.specs.declared.arguments.Argument.the-variants.{LoadAddress, StoreAddress, StoreData}
 use Rattle.queue.specs.Ruled.{isSome}
 use Rattle.queue.specs.Contents.{Load, Store}
 use Rattle.queue.proofs.Lists.{false-true, and-left, and-right, and-both}
-use Rattle.sequential.specs.Calls.{Argument, LoadAddress, StoreAddress, StoreData}
 use Rattle.sequential.specs.Plain.{Rows, nextOf, usedUp}
 use Rattle.sequential.specs.Plain.{consOption}
 use Rattle.sequential.proofs.Log.{Entry, ofLoad, ofStore, Kind, ownIn}

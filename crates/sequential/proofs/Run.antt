@@ -15,15 +15,15 @@ use Rattle.queue.specs.Contents.{Contents}
 use Rattle.queue.specs.Sound.{depthRight, memoryRight}
 use Rattle.queue.specs.Open.{groupFits, opened, openQueue}
 use Rattle.queue.specs.Activate.{activate}
+use Rattle.queue.specs.Arguments.{give}
 use Rattle.queue.specs.Serve.{Served, serve}
 use Rattle.queue.specs.Write.{Written, write}
 use Rattle.queue.specs.Take.{Taken, takeRule}
 use Rattle.queue.specs.Ready.{ready}
-use Rattle.queue.proofs.Refusals.{refusal-not-zero, need-accepts, activate-proper, serve-proper, write-proper, take-proper}
+use Rattle.queue.proofs.Refusals.{refusal-not-zero, need-accepts, activate-proper, give-proper, serve-proper, write-proper, take-proper}
 use Rattle.sequential.specs.Calls.{Call, Activate, Give, Serve, Write, Take, Ready}
-use Rattle.sequential.specs.Call.{Machine, Step, Answered, moved, served, written, taken, give, step, answers, leaves}
+use Rattle.sequential.specs.Call.{Machine, Step, Answered, moved, served, written, taken, step, answers, leaves}
 use Rattle.sequential.specs.Demand3.{Opening}
-use Rattle.sequential.proofs.CallRefusals.{give-proper}
 use Rattle.sequential.proofs.State.{Limits, State, seen-refused, seen-ready}
 use Rattle.sequential.proofs.Steps.Activate.{activate-keeps}
 use Rattle.sequential.proofs.Steps.Give.{give-keeps}

@@ -21,6 +21,7 @@ use Rattle.queue.specs.Contents.{Contents, contentsOf}
 use Rattle.queue.specs.Sound.{sound}
 use Rattle.queue.specs.Open.{opened, openQueue, noQueue, freshFrame, freshQueue}
 use Rattle.queue.specs.Activate.{activate}
+use Rattle.queue.specs.Arguments.{give}
 use Rattle.queue.specs.Serve.{Served, serve}
 use Rattle.queue.specs.Write.{Written, write}
 use Rattle.queue.specs.Take.{Taken, takeRule}
@@ -31,7 +32,7 @@ use Rattle.queue.specs.Parts.{queueOf, answered}
 use Rattle.queue.proofs.Lists.{and-left, and-right}
 use Rattle.queue.proofs.SoundLaws.{within-most}
 use Rattle.sequential.specs.Calls.{Call, Activate, Give, Serve, Write, Take, Ready}
-use Rattle.sequential.specs.Call.{Machine, Step, Answered, moved, served, written, taken, give, step}
+use Rattle.sequential.specs.Call.{Machine, Step, Answered, moved, served, written, taken, step}
 use Rattle.sequential.specs.Records.{logged, Hands, done, next, machineOf, OpenedRecord}
 use Rattle.sequential.specs.Demand3.{Opening}
 use Rattle.sequential.specs.RunsExist.{fits, argumentFits, StoredEntries, Stored, StoredOutcome, Throughout, SomeRun, RunsExist, OpeningsExist}

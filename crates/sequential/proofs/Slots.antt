@@ -5,10 +5,11 @@ use mathlib.Core.Logic.{_⊎_, inl, inr}
 use mathlib.Core.Bool.{Bool, true, false, not, _&&_}
 use mathlib.Core.Option.{Option, none, some}
 use lib.Dec.{eqb}
+use Rattle.queue.specs.declared.arguments.Argument.{Argument}
+use Rattle.queue.specs.declared.arguments.Argument.the-variants.{LoadAddress, StoreAddress, StoreData}
 use Rattle.queue.specs.Ruled.{isSome}
 use Rattle.queue.specs.Contents.{Load}
 use Rattle.queue.specs.Arguments.{loadWithAddress, storeWithAddress, storeWithWord}
-use Rattle.sequential.specs.Calls.{Argument, LoadAddress, StoreAddress, StoreData}
 use Rattle.sequential.specs.Plain.{sameKind}
 use Rattle.sequential.proofs.Log.{Entry, ofLoad, ofStore, Kind, loads, stores}
 use Rattle.sequential.proofs.Rows.{given, valueTaken, cellFor}

@@ -11,12 +11,13 @@ use lib.ListN.{length, length-append, getElem?}
 use Rattle.table.specs.Basics.{pick, allOf, countWhere}
 use Rattle.table.specs.Group.{GroupPairs}
 use Rattle.table.specs.Table.{tableFault}
+use Rattle.queue.specs.declared.arguments.Argument.{Argument}
 use Rattle.queue.specs.declared.Kind.{Kind}
 use Rattle.queue.specs.Ruled.{isSome}
 use Rattle.queue.specs.Contents.{Load, Store, Contents}
 use Rattle.queue.specs.Sound.{depthRight, memoryRight, addressRight}
 use Rattle.queue.proofs.Lists.{and-left, and-right, implies}
-use Rattle.sequential.specs.Calls.{Argument, Call, Ready}
+use Rattle.sequential.specs.Calls.{Call, Ready}
 use Rattle.sequential.specs.Call.{Machine, Answered}
 use Rattle.sequential.specs.Plain.{Told, consOption, gather, groupIn, givenIn, rowsOf, accessesOf, inOrder, accesses}
 use Rattle.sequential.specs.Demand3.{tell, told, takeOf, takenAt, serveIn, writeIn}

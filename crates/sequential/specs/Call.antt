@@ -7,12 +7,11 @@ use mathlib.Core.Option.{Option, none, some}
 use Rattle.queue.specs.Ruled.{Ruled, refuse, accept, number}
 use Rattle.queue.specs.Contents.{Contents}
 use Rattle.queue.specs.Activate.{activate}
-use Rattle.queue.specs.Arguments.{loadAddress, storeAddress, storeData}
+use Rattle.queue.specs.Arguments.{give}
 use Rattle.queue.specs.Serve.{Served, serve}
 use Rattle.queue.specs.Write.{Written, write}
 use Rattle.queue.specs.Take.{Taken, takeRule}
 use Rattle.queue.specs.Ready.{ready}
-use Rattle.sequential.specs.Calls.{Argument, LoadAddress, StoreAddress, StoreData}
 use Rattle.sequential.specs.Calls.{Call, Activate, Give, Serve, Write, Take, Ready}
 
 -- a queue and the memory that is lent to its calls
@@ -46,11 +45,6 @@ taken m (accept t) = record { number = 0; value = some (t .value); machine = rec
 -- a call that leaves the queue as it was
 abbrev pub looked : Machine → Ruled (List ℕ) → Step
 looked m r = record { number = number r; value = none; machine = m }
-
-abbrev pub give : Argument → Contents → ℕ → ℕ → Ruled Contents
-give LoadAddress = loadAddress
-give StoreAddress = storeAddress
-give StoreData = storeData
 
 abbrev pub step : Machine → Call → Step
 step m (Activate g) = moved m (activate (m .queue) g)

@@ -3,13 +3,10 @@ use Prim.Native.Nat.{ℕ}
 use mathlib.Core.List.{List}
 use Rattle.queue.specs.declared.Counts.{Counts}
 use Rattle.queue.specs.declared.Kind.{Kind}
+use Rattle.queue.specs.declared.arguments.Argument.{Argument}
 
--- the three kinds of argument
-pub data Argument : Type 0 where
-  LoadAddress StoreAddress StoreData : Argument
-
--- activate a group; give an argument to a port; serve with these counts, or write, a serial; take from a port; which of
--- this kind are ready, with this run of numbers
+-- activate a group; give an argument, which is a load address, a store address or store data, to a port; serve with these
+-- counts, or write, a serial; take from a port; which of this kind are ready, with this run of numbers
 pub data Call : Type 0 where
   Activate : ℕ → Call
   Give : Argument → ℕ → ℕ → Call

@@ -15,12 +15,14 @@ use lib.Dec.{eqb}
 use lib.ListN.{length, getElem?}
 use Rattle.table.specs.Basics.{pick, countWhere}
 use Rattle.table.specs.Group.{GroupPairs, Access, load, store}
+use Rattle.queue.specs.declared.arguments.Argument.{Argument}
+use Rattle.queue.specs.declared.arguments.Argument.the-variants.{LoadAddress, StoreAddress, StoreData}
 use Rattle.queue.specs.Ruled.{accept, number}
 use Rattle.queue.specs.Sound.{sound}
 use Rattle.queue.specs.Open.{openQueue}
 use Rattle.queue.specs.Serve.{serve}
 use Rattle.queue.specs.Write.{write}
-use Rattle.sequential.specs.Calls.{Argument, LoadAddress, StoreAddress, StoreData, Call, Activate, Give, Serve, Write, Take, Ready}
+use Rattle.sequential.specs.Calls.{Call, Activate, Give, Serve, Write, Take, Ready}
 use Rattle.sequential.specs.Call.{Machine, Answered, answers, leaves}
 use Rattle.sequential.specs.Plain.{Told, Filling, gather, groupIn, rowsOf, accesses, consOption, plainLoads, plainMemory}
 

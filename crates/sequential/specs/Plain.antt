@@ -8,7 +8,9 @@ use lib.Dec.{eqb}
 use lib.ListN.{getD, set, getElem?}
 use Rattle.table.specs.Basics.{pick}
 use Rattle.table.specs.Group.{GroupPairs, Access, load, store, order}
-use Rattle.sequential.specs.Calls.{Argument, LoadAddress, StoreAddress, StoreData, Call, Activate, Give, Serve, Write, Take, Ready}
+use Rattle.queue.specs.declared.arguments.Argument.{Argument}
+use Rattle.queue.specs.declared.arguments.Argument.the-variants.{LoadAddress, StoreAddress, StoreData}
+use Rattle.sequential.specs.Calls.{Call, Activate, Give, Serve, Write, Take, Ready}
 
 -- a call, and whether it was answered 0
 pub record Told : Type 0 where

@@ -21,6 +21,7 @@ use Rattle.queue.specs.Ruled.{number}
 use Rattle.queue.specs.Contents.{contentsOf}
 use Rattle.queue.specs.Open.{openQueue, freshFrame}
 use Rattle.queue.specs.Activate.{activate}
+use Rattle.queue.specs.Arguments.{give}
 use Rattle.queue.specs.Serve.{serve}
 use Rattle.queue.specs.Write.{write}
 use Rattle.queue.specs.Take.{takeRule}
@@ -29,7 +30,7 @@ use Rattle.queue.specs.Ready.{ready, Readies, Fronts}
 use Rattle.queue.specs.Parts.{queueOf, answered, OpensFrame}
 use Rattle.queue.specs.Sound.{sound}
 use Rattle.sequential.specs.Calls.{Call, Activate, Give, Serve, Write, Take, Ready}
-use Rattle.sequential.specs.Call.{give, Machine, Answered}
+use Rattle.sequential.specs.Call.{Machine, Answered}
 use Rattle.sequential.specs.Plain.{Filling}
 use Rattle.sequential.specs.Demand3.{told, takenAt, Sequential, Alike}
 

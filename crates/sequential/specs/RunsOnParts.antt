@@ -20,6 +20,7 @@ use Rattle.queue.specs.Ruled.{Ruled, number}
 use Rattle.queue.specs.Contents.{contentsOf}
 use Rattle.queue.specs.Open.{openQueue, freshFrame}
 use Rattle.queue.specs.Activate.{activate}
+use Rattle.queue.specs.Arguments.{give}
 use Rattle.queue.specs.Serve.{serve}
 use Rattle.queue.specs.Write.{write}
 use Rattle.queue.specs.Take.{takeRule}
@@ -27,7 +28,7 @@ use Rattle.queue.specs.Outcome.{handed, noValue, Moves, Takes, Serves, Writes, 
 use Rattle.queue.specs.Ready.{ready, Readies}
 use Rattle.queue.specs.Parts.{queueOf, onParts, answered, countedOf, readiedOf, OpensFrame}
 use Rattle.sequential.specs.Calls.{Call, Activate, Give, Serve, Write, Take, Ready}
-use Rattle.sequential.specs.Call.{give, Answered}
+use Rattle.sequential.specs.Call.{Answered}
 use Rattle.sequential.specs.Plain.{Filling}
 use Rattle.sequential.specs.Demand3.{Sequential}
 use Rattle.sequential.specs.Records.{logged, machineOf, Runs}

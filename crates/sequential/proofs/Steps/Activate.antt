@@ -11,13 +11,15 @@ use borrow.Author.Tests.{leb-true}
 use Rattle.table.specs.Basics.{allOf, countWhere}
 use Rattle.table.specs.Group.{portOf, GroupPairs, Access, load, store, order}
 use Rattle.table.proofs.Order.{loadPorts, storePorts, order-loads, order-stores}
+use Rattle.queue.specs.declared.arguments.Argument.{Argument}
+use Rattle.queue.specs.declared.arguments.Argument.the-variants.{LoadAddress, StoreAddress, StoreData}
 use Rattle.queue.specs.Ruled.{accept}
 use Rattle.queue.specs.Contents.{Contents}
 use Rattle.queue.specs.Sound.{sound}
 use Rattle.queue.specs.Activate.{newLoads, newStores, room, withGroup, activate}
 use Rattle.queue.proofs.Lists.{and-left, and-right, all-join, count-append}
 use Rattle.queue.proofs.Refusals.{need-accepts, have-accepts}
-use Rattle.sequential.specs.Calls.{Argument, LoadAddress, StoreAddress, StoreData, Activate}
+use Rattle.sequential.specs.Calls.{Activate}
 use Rattle.sequential.specs.Call.{Machine, Answered}
 use Rattle.sequential.specs.Plain.{rowsOf}
 use Rattle.sequential.specs.Demand3.{told, takenAt}

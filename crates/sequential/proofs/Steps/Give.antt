@@ -11,16 +11,16 @@ use borrow.Author.Tests.{eqb-true}
 use lib.ListN.{getElem?}
 use Rattle.table.specs.Basics.{pick, anyOf, allOf, countWhere}
 use Rattle.table.specs.Group.{GroupPairs}
+use Rattle.queue.specs.declared.arguments.Argument.{Argument}
+use Rattle.queue.specs.declared.arguments.Argument.the-variants.{LoadAddress, StoreAddress, StoreData}
 use Rattle.queue.specs.Ruled.{accept, isSome}
 use Rattle.queue.specs.Contents.{Load, Store, Contents, withLoads, withStores, updateAt, firstPlace}
-use Rattle.queue.specs.Sound.{sound}
-use Rattle.queue.specs.Arguments.{isLoadPort, isStorePort, loadLacksAddress, storeLacksAddress, storeLacksWord, loadWithAddress}
-use Rattle.queue.specs.Arguments.{storeWithAddress, storeWithWord, loadAddress, storeAddress, storeData}
+use Rattle.queue.specs.Arguments.{inRange, waits, loadLacksAddress, loadWithAddress, storeWithAddress, storeWithWord, filled, give}
 use Rattle.queue.proofs.Lists.{is-none, and-left, and-right, and-both, or-right, implies, implied}
 use Rattle.queue.proofs.Lists.{all-left, all-middle, all-weaken, any-first, first-passes, first-before}
-use Rattle.queue.proofs.Refusals.{need-accepts}
-use Rattle.sequential.specs.Calls.{Argument, LoadAddress, StoreAddress, StoreData, Give}
-use Rattle.sequential.specs.Call.{give, Machine, Answered}
+use Rattle.queue.proofs.Refusals.{give-accepts}
+use Rattle.sequential.specs.Calls.{Give}
+use Rattle.sequential.specs.Call.{Machine, Answered}
 use Rattle.sequential.specs.Plain.{consOption, sameKind, rowsOf}
 use Rattle.sequential.specs.Demand3.{told, takenAt}
 use Rattle.sequential.proofs.Log.{Entry, ofLoad, ofStore, Kind, Opposite, loads, stores, ownIn, loads-stores, stores-loads, ownIn-append}
@@ -198,34 +198,22 @@ module _ (groups : List GroupPairs) (memory : List ℕ) (answered : List Answere
 
   -- An accepted argument keeps the invariant.
   given-keeps : (kind : Argument) (q′ : Contents) → give kind q p x ≡ accept q′ → Joined kind q′
-  unfolding loadAddress storeAddress storeData loadAddresses storeAddresses storeWords Joined
-  given-keeps LoadAddress q′ h₀ =
-      let (t₁, h₁) = need-accepts (sound q) _ _ h₀ in
-      let (t₂, h₂) = need-accepts (anyOf (isLoadPort p) (q .groups)) _ _ h₁ in
-      let (t₃, h₃) = need-accepts (ltb x (q .memoryLength)) _ _ h₂ in
-      let (t₄, h₄) = need-accepts (anyOf (loadLacksAddress p) (q .loads)) _ _ h₃ in
-      let is : withLoads q (updateAt (loadWithAddress x) (firstPlace (loadLacksAddress p) (q .loads)) (q .loads)) ≡ q′ = cc in
-      subst (Joined LoadAddress) is
-      (load-given t₃ (waiting loads stores loads-stores loadAddresses (h .windows) (rightLoad (q .memoryLength)) load-has (h .rightLoads) p t₄))
-  given-keeps StoreAddress q′ h₀ =
-      let (t₁, h₁) = need-accepts (sound q) _ _ h₀ in
-      let (t₂, h₂) = need-accepts (anyOf (isStorePort p) (q .groups)) _ _ h₁ in
-      let (t₃, h₃) = need-accepts (ltb x (q .memoryLength)) _ _ h₂ in
-      let (t₄, h₄) = need-accepts (anyOf (storeLacksAddress p) (q .stores)) _ _ h₃ in
-      let is : withStores q (updateAt (storeWithAddress x) (firstPlace (storeLacksAddress p) (q .stores)) (q .stores)) ≡ q′ = cc in
-      subst (Joined StoreAddress) is
-      (store-given storeAddresses
-      (waiting stores loads stores-loads storeAddresses (turned (h .windows)) (rightStore (q .memoryLength)) (λ s r t. and-left (isSome (s .address)) _ (store-has s r t)) (h .rightStores) p t₄)
-      (λ n s. refl) (λ s r. right-store-addressed (q .memoryLength) x s t₃ r) (agree-store-addressed x))
-  given-keeps StoreData q′ h₀ =
-      let (t₁, h₁) = need-accepts (sound q) _ _ h₀ in
-      let (t₂, h₂) = need-accepts (anyOf (isStorePort p) (q .groups)) _ _ h₁ in
-      let (t₄, h₄) = need-accepts (anyOf (storeLacksWord p) (q .stores)) _ _ h₂ in
-      let is : withStores q (updateAt (storeWithWord x) (firstPlace (storeLacksWord p) (q .stores)) (q .stores)) ≡ q′ = cc in
-      subst (Joined StoreData) is
-      (store-given storeWords
-      (waiting stores loads stores-loads storeWords (turned (h .windows)) (rightStore (q .memoryLength)) (λ s r t. and-right (isSome (s .address)) _ (store-has s r t)) (h .rightStores) p t₄)
-      (λ n s. refl) (λ s r. right-store-filled (q .memoryLength) x s r) (agree-store-filled x))
+  unfolding loadAddresses storeAddresses storeWords Joined
+  given-keeps kind q′ e = let g = give-accepts kind q p x e in subst (Joined kind) (g .is) (go kind (g .ranged) (g .waited))
+    where
+      go : (kind : Argument) → inRange kind (q .memoryLength) x ≡ true → waits kind p q ≡ true → Joined kind (filled kind p x q)
+      go LoadAddress low held =
+          load-given low (waiting loads stores loads-stores loadAddresses (h .windows) (rightLoad (q .memoryLength)) load-has (h .rightLoads) p held)
+      go StoreAddress low held =
+          store-given storeAddresses
+          (waiting stores loads stores-loads storeAddresses (turned (h .windows)) (rightStore (q .memoryLength))
+          (λ s r t. and-left (isSome (s .address)) _ (store-has s r t)) (h .rightStores) p held)
+          (λ n s. refl) (λ s r. right-store-addressed (q .memoryLength) x s low r) (agree-store-addressed x)
+      go StoreData low held =
+          store-given storeWords
+          (waiting stores loads stores-loads storeWords (turned (h .windows)) (rightStore (q .memoryLength))
+          (λ s r t. and-right (isSome (s .address)) _ (store-has s r t)) (h .rightStores) p held)
+          (λ n s. refl) (λ s r. right-store-filled (q .memoryLength) x s r) (agree-store-filled x)
 
 pub give-keeps : (groups : List GroupPairs) (memory : List ℕ) (answered : List Answered) (m : Machine) → State groups memory answered m
     → (kind : Argument) (port x : ℕ) (q′ : Contents) → give kind (m .queue) port x ≡ accept q′

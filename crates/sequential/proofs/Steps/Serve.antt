@@ -16,7 +16,9 @@ use Rattle.queue.specs.declared.Counts.{Counts}
 use Rattle.queue.proofs.Lists.{is-none, and-left, and-both, or-right, implied, all-left, all-middle}
 use Rattle.queue.proofs.SourceLaws.{wordFrom, loaded-word, source-alike, source-written}
 use Rattle.queue.proofs.ServeLaws.{Serving, serve-accepts}
-use Rattle.sequential.specs.Calls.{Argument, LoadAddress, StoreAddress, StoreData, Serve}
+use Rattle.sequential.specs.Calls.{Serve}
+use Rattle.queue.specs.declared.arguments.Argument.{Argument}
+use Rattle.queue.specs.declared.arguments.Argument.the-variants.{LoadAddress, StoreAddress, StoreData}
 use Rattle.sequential.specs.Call.{Machine, Answered}
 use Rattle.sequential.specs.Plain.{rowsOf}
 use Rattle.sequential.specs.Demand3.{told, takenAt}

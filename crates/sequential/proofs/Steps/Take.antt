@@ -10,15 +10,18 @@ use borrow.Author.Tests.{not-true, eqb-true}
 use lib.ListN.{getElem?}
 use Rattle.table.specs.Basics.{pick, anyOf, allOf, countWhere}
 use Rattle.table.specs.Group.{GroupPairs}
+use Rattle.queue.specs.declared.Kind.the-variants.{Load as load}
+use Rattle.queue.specs.declared.arguments.Argument.{Argument}
+use Rattle.queue.specs.declared.arguments.Argument.the-variants.{LoadAddress, StoreAddress, StoreData}
 use Rattle.queue.specs.Ruled.{accept, isSome}
 use Rattle.queue.specs.Contents.{Load, Contents, withLoads, updateAt, firstPlace}
 use Rattle.queue.specs.Sound.{sound}
-use Rattle.queue.specs.Arguments.{isLoadPort}
+use Rattle.queue.specs.Arguments.{namesPort}
 use Rattle.queue.specs.Retire.{retire}
 use Rattle.queue.specs.Take.{Taken, untaken, loadTaken, takeRule}
 use Rattle.queue.proofs.Lists.{false-true, and-left, and-right, and-both, implies, all-left, all-middle, all-weaken₂, first-passes, first-before}
 use Rattle.queue.proofs.Refusals.{need-accepts, have-accepts}
-use Rattle.sequential.specs.Calls.{Argument, LoadAddress, StoreAddress, StoreData, Take}
+use Rattle.sequential.specs.Calls.{Take}
 use Rattle.sequential.specs.Call.{Machine, Answered}
 use Rattle.sequential.specs.Plain.{rowsOf}
 use Rattle.sequential.specs.Demand3.{told, takenAt}
@@ -40,7 +43,7 @@ take-accepts : (q : Contents) (port : ℕ) (r : Taken) → takeRule q port ≡ a
 unfolding takeRule
 take-accepts q port r h₀ =
     let (t₁, h₁) = need-accepts (sound q) _ _ h₀ in
-    let (t₂, h₂) = need-accepts (anyOf (isLoadPort port) (q .groups)) _ _ h₁ in
+    let (t₂, h₂) = need-accepts (anyOf (namesPort load port) (q .groups)) _ _ h₁ in
     let (l, at, h₃) = have-accepts (getElem? (q .loads) (firstPlace (untaken port) (q .loads))) _ _ h₂ in
     let (v, t₄, h₄) = have-accepts (l .value) _ _ h₃ in
     (l, at, record { value = v; has = t₄; result = cc })

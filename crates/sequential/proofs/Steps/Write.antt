@@ -8,12 +8,14 @@ use lib.ListN.{set, length-set, getElem?}
 use borrow.Author.Tests.{not-true}
 use Rattle.table.specs.Basics.{allOf}
 use Rattle.table.specs.Group.{GroupPairs}
+use Rattle.queue.specs.declared.arguments.Argument.{Argument}
+use Rattle.queue.specs.declared.arguments.Argument.the-variants.{LoadAddress, StoreAddress, StoreData}
 use Rattle.queue.specs.Ruled.{accept, isSome}
 use Rattle.queue.specs.Contents.{Store, Contents, storePlace}
 use Rattle.queue.specs.Write.{Written, addressApart, loadGivesWay, storeGivesWay, storeDone, write}
 use Rattle.queue.proofs.Lists.{and-both, or-left, implied, all-left, all-middle}
 use Rattle.queue.proofs.WriteLaws.{Writing, write-accepts}
-use Rattle.sequential.specs.Calls.{Argument, LoadAddress, StoreAddress, StoreData, Write}
+use Rattle.sequential.specs.Calls.{Write}
 use Rattle.sequential.specs.Call.{Machine, Answered}
 use Rattle.sequential.specs.Plain.{rowsOf}
 use Rattle.sequential.specs.Demand3.{told, takenAt}

@@ -1,35 +1,32 @@
-use mathlib.Core.Path.{_≡_, ap, _∙_}
-use borrow.Author.Tests.{lt-ltb, le-ltb}
-use Rattle.queue.specs.declared.entries.Mark.{Mark}
-use Rattle.queue.specs.Contents.{firstPlace}
-use Rattle.queue.specs.Internal.{lacks, entriesIn}
-use Rattle.queue.specs.InternalArguments.{waitingAt}
+use mathlib.Core.Path.{_≡_, sym, _∙_}
+use mathlib.Core.Bool.{true}
+use Rattle.queue.specs.Parts.{whole}
+use Rattle.queue.proofs.PartsLaws.{both-whole}
 use borrow.Author.Needs.{needs}
 use Rattle.queue.proofs.arguments.give.Statement.{statement}
 use Rattle.queue.proofs.arguments.give.Tie as tie
 
-place : (c : tie.After-oldest-without) → let s = c .before .before .before .before in
-    c .oldest-without .result ≡ waitingAt (s .args .held) (s .args .port) (s .args .argument) (s .args .entries .now)
-place c =
-    let m = c .before .before in
-    let a = m .before .before .args in
-    c .oldest-without .ensures ∙ ap (λ (mark : Mark). firstPlace (lacks mark (a .port)) (entriesIn (a .held) (a .entries .now))) (m .mark-of .ensures)
+-- a queue's own arrays are whole runs
+own : (s : tie.Start) → whole (s .args .queue .«load_entries») (s .args .queue .«store_entries») ≡ true
+own s = both-whole (s .args .queue .«load_entries») (s .args .queue .«store_entries») (search needs) (search needs)
 
 returns : tie.Need-returns
 returns c =
-    let e = place (c .before) in
-    record { answers = rw (← e, le-ltb _ _ (c .if1 .taken)); leaves = rw (← e, le-ltb _ _ (c .if1 .taken)) }
+    let g = c .before .before in
+    let m = g .before .before .before .before .before .before .before in
+    let k = m .before .before in
+    let o = k .before in
+    let is = sym (k .kind-of .ensures) ∙ m .enum-told .given .1 in
+    rw (c .given .ensures) (rw (is, own (o .before .before .before .before), o .outline-of .ensures) at (g .give-in .ensures))
 
 returns-2 : tie.Need-returns-2
 returns-2 c =
-    let w = c .before in
-    let u = w .before in
-    let i = u .before .before in
-    let e = place (i .before) in
-    record {
-      answers = rw (← e, lt-ltb _ _ (i .if1 .left));
-      leaves = rw (← e, lt-ltb _ _ (i .if1 .left), c .pack .ensures, w .with-argument .ensures, u .unpack .ensures);
-    }
+    let g = c .before .before in
+    let m = g .before .before .before .before .before .before .before in
+    let k = m .before .before in
+    let o = k .before in
+    let is = sym (k .kind-of .ensures) ∙ m .enum-told2 .given .1 in
+    rw (c .given2 .ensures) (rw (is, own (o .before .before .before .before), o .outline-of .ensures) at (g .give-in2 .ensures))
 
 pub give-spec : {M : Type 1} → statement M
 give-spec =
@@ -38,13 +35,14 @@ give-spec =
     (λ c κs. search needs)
     (λ c κs. search needs)
     (λ c. search needs)
+    (λ c. search needs)
+    (λ c. search needs)
+    (λ c κs. search needs)
+    (λ c κs. search needs)
+    (λ c. search needs)
+    (λ c. search needs)
+    (λ c. search needs)
+    (λ c κs. search needs)
+    (λ c κs. search needs)
     returns
-    (λ c. search needs)
-    (λ c. search needs)
-    (λ c κs. search needs)
-    (λ c κs. search needs)
-    (λ c κs. search needs)
-    (λ c. search needs)
-    (λ c. search needs)
-    (λ c. search needs)
     returns-2)

@@ -8,17 +8,17 @@ use Rattle.table.specs.declared.Table.{Table}
 use Rattle.table.specs.Group.{GroupPairs, pairsOf}
 use Rattle.table.specs.Table.{groupsIn, groupsOf}
 use Rattle.table.proofs.CheckLaws.{group-inside}
-use Rattle.queue.specs.InternalArguments.{namesPort}
+use Rattle.queue.specs.Arguments.{namesPort}
 use Rattle.queue.proofs.GroupLaws.{groups-here, groups-end}
 use Rattle.queue.proofs.WalkLaws.{NoneYet, none-none, none-on, none-stop, none-end}
 use Rattle.queue.proofs.ports.has_port.Statement.{statement}
 use Rattle.queue.proofs.ports.has_port.Tie as tie
 
 abbrev Inv-loop : tie.InvT-loop
-Inv-loop count groups loads stores storing port many i₀ i = (i ≤ count) × NoneYet (namesPort storing port) (groupsIn count groups loads stores) i
+Inv-loop count groups loads stores kind port many i₀ i = (i ≤ count) × NoneYet (namesPort kind port) (groupsIn count groups loads stores) i
 
 abbrev μ-loop : tie.MeasureT-loop
-μ-loop count groups loads stores storing port many i₀ i = count - i
+μ-loop count groups loads stores kind port many i₀ i = count - i
 
 -- the record of these parts
 abbrev tableOf : tie.Start Inv-loop μ-loop → Table

@@ -4,24 +4,23 @@ use lib.ListN.{getD}
 use borrow.Author.Needs.{needs}
 use Rattle.queue.specs.declared.Counts.{Counts}
 use Rattle.queue.specs.declared.Value.the-variants as Value
-use Rattle.queue.specs.declared.arguments.Argument.the-variants as Argument
 use Rattle.queue.specs.declared.Entry.{Entry}
 use Rattle.queue.specs.Entry.{entryOf, numberOf, Small}
 use Rattle.queue.specs.Contents.{loadOf}
 use Rattle.queue.proofs.EntryLaws.{entry-small, entry-number}
-use Rattle.queue.specs.InternalArguments.{withArgument}
+use Rattle.queue.specs.Internal.{withWord}
 use Rattle.queue.proofs.serving.served.Statement.{statement}
 use Rattle.queue.proofs.serving.served.Tie as tie
 
 -- the entry that is put in place is the one with its value
 packed : (c : tie.After-pack) → let s = c .before .before .before .before .before in
-    entryOf (c .pack .result) ≡ withArgument (Argument.Word (s .args .word)) (entryOf (getD (s .args .load-entries .now) (s .args .at) 0))
+    entryOf (c .pack .result) ≡ withWord (s .args .word) (entryOf (getD (s .args .load-entries .now) (s .args .at) 0))
 packed c =
     let s = c .before .before .before .before .before in
     let e : Entry = entryOf (getD (s .args .load-entries .now) (s .args .at) 0) in
     let k : Small e = entry-small (getD (s .args .load-entries .now) (s .args .at) 0) in
-    let now : Entry = withArgument (Argument.Word (s .args .word)) e in
-    ap entryOf (c .pack .ensures ∙ ap numberOf (c .before .with-argument .ensures ∙ ap (withArgument (Argument.Word (s .args .word))) (c .before .before .unpack .ensures)))
+    let now : Entry = withWord (s .args .word) e in
+    ap entryOf (c .pack .ensures ∙ ap numberOf (c .before .with-word .ensures ∙ ap (withWord (s .args .word)) (c .before .before .unpack .ensures)))
     ∙ entry-number now (record { port = k .port; before = k .before; address = k .address; word = omega arith })
 
 returns : tie.Need-returns

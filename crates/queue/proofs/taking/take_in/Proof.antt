@@ -10,8 +10,9 @@ use Rattle.table.specs.Table.{groupsOf}
 use Rattle.queue.specs.declared.Queue.{Queue}
 use Rattle.queue.specs.declared.entries.Mark.the-variants.{Finished}
 use Rattle.queue.specs.Contents.{loadOf, loadIn, contentsOf, firstPlace}
-use Rattle.queue.specs.Arguments.{isLoadPort}
+use Rattle.queue.specs.Arguments.{namesPort}
 use Rattle.queue.specs.Retire.{retire}
+use Rattle.queue.specs.declared.Kind.the-variants.{Load as load}
 use Rattle.queue.specs.Take.{untaken, loadTaken, takeRule}
 use Rattle.queue.specs.Parts.{frameOf, queueOf}
 use Rattle.queue.specs.Internal.{loadsIn, lacks}
@@ -44,7 +45,7 @@ sure c = c .before
 abbrev known : tie.After-oldest-without → tie.Else2
 known c = c .before .before .before
 
-port : (c : tie.Else2) → let s = sure (c .before) .before in anyOf (isLoadPort (start s .args .port)) (groupsOf (queue s .frame .table)) ≡ true
+port : (c : tie.Else2) → let s = sure (c .before) .before in anyOf (namesPort load (start s .args .port)) (groupsOf (queue s .frame .table)) ≡ true
 port c = sym (c .before .has-port .ensures) ∙ not-false _ (c .if2 .left)
 
 place : (c : tie.After-oldest-without) → let s = sure (known c .before) .before in

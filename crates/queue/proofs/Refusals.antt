@@ -49,10 +49,6 @@ pub have-proper : {A B : Type 0} (o : Option A) (n : ℕ) (rest : A → Ruled B)
 have-proper none n rest e h = e
 have-proper (some a) n rest e h = h a
 
-pub andThen-proper : {A B : Type 0} (r : Ruled A) (rest : A → Ruled B) → proper r ≡ true → ((a : A) → proper (rest a) ≡ true) → proper (andThen r rest) ≡ true
-andThen-proper (refuse n) rest e h = e
-andThen-proper (accept a) rest e h = h a
-
 -- ---- the refusal numbers of the calls on a queue are bytes other than 0
 abbrev byte : ℕ → Bool
 byte n = not (eqb n 0) && ltb n 256

@@ -8,23 +8,19 @@ use Rattle.table.specs.TableBytes.{readTable}
 use Rattle.queue.specs.Ruled.{Ruled, refuse, accept}
 use Rattle.replay.specs.declared.Prepared.{Prepared}
 use Rattle.replay.specs.Replay.{Start, prepare}
-use Rattle.replay.specs.Outcome.{unprepared}
-use Rattle.replay.proofs.PrepareLaws.{handed, start-prepares}
+use Rattle.replay.specs.Outcome.{preparedAs}
 use Rattle.exports.specs.Prepared.{prepared}
 use Rattle.exports.specs.Internal.{Tells}
 
-tells-refused : (n : ℕ) → Tells (refuse n) (unprepared n)
-tells-refused n = record { answer = refl; words = refl; events = refl }
+tells : (rule : Ruled Start) → Tells rule (preparedAs rule)
+tells (refuse n) = record { answer = refl; words = refl; events = refl }
+tells (accept s) = record { answer = refl; words = refl; events = refl }
 
 module _ (table trace : List ℕ) (r : Prepared) where
   -- the table is refused
-  pub tells-table : {n : ℕ} → readTable table ≡ bad n → r ≡ unprepared n → Tells (prepared table trace) r
-  tells-table {n} e f = rw (e, f) (tells-refused n)
+  pub tells-table : {n : ℕ} → readTable table ≡ bad n → r ≡ preparedAs (refuse n) → Tells (prepared table trace) r
+  tells-table {n} e f = rw (e, f) (tells (refuse n))
 
   -- the table is read, and the trace is refused or made ready
-  pub tells-trace : {gs : List GroupPairs} → readTable table ≡ got gs [] → r ≡ handed trace (prepare gs trace) → Tells (prepared table trace) r
-  tells-trace {gs} e w = rw e (go (prepare gs trace) refl w)
-    where
-      go : (rule : Ruled Start) → prepare gs trace ≡ rule → r ≡ handed trace rule → Tells rule r
-      go (refuse n) d f = rw f (tells-refused n)
-      go (accept s) d f = let p = start-prepares gs trace s d in rw f (record { answer = refl; words = p .words; events = p .count })
+  pub tells-trace : {gs : List GroupPairs} → readTable table ≡ got gs [] → r ≡ preparedAs (prepare gs trace) → Tells (prepared table trace) r
+  tells-trace {gs} e f = rw (e, f) (tells (prepare gs trace))

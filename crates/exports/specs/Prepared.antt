@@ -17,4 +17,4 @@ eventCount (accept s) = length (s .events)
 -- the memory length that the trace asks for; 0 where it is refused
 abbrev pub memoryLength : Ruled Start → ℕ
 memoryLength (refuse n) = 0
-memoryLength (accept s) = s .words
+memoryLength (accept s) = s .queue .memoryLength

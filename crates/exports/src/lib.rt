@@ -66,8 +66,7 @@ pub extern "C" fn lsq_memory_length(table: &[u8], trace: &[u8]) -> u32
     ensures { λ r. ⌜ r ≡ memoryLength (prepared (now (table .entry)) (now (trace .entry))) ⌝ }
 {
     let ready = make_ready(table, trace);
-    let header = ready.header;
-    header.words
+    ready.words as u32
 }
 
 // Replays the trace on the memory and the counts as they are lent; `counts` holds loads, then forwarded. Where it answers 0,

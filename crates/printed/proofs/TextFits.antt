@@ -1,6 +1,6 @@
 -- No text is longer than `mostText`, and none is empty.
 use Prim.Native.Nat.{ℕ, _+_, _≤_, _<_}
-use mathlib.Core.Path.{_≡_, refl, ap, _∙_}
+use mathlib.Core.Path.{_≡_, refl, ap, _∙_, sym}
 use mathlib.Core.Bool.{Bool, true, false}
 use mathlib.Core.List.{List, [], _∷_, _++_}
 use native.Mathlib.Omega.{arith}
@@ -14,15 +14,12 @@ use Rattle.table.specs.Group.{GroupPairs}
 use Rattle.table.specs.TableBytes.{readTable}
 use Rattle.table.specs.declared.Event.{Event}
 use Rattle.table.specs.declared.Event.the-variants.{Activate, LoadAddress, StoreAddress, StoreData, Serve, Write, Take}
-use Rattle.table.specs.declared.Header.{Header}
 use Rattle.table.specs.Event.{readHeader}
-use Rattle.table.specs.Trace.{readEvents}
 use Rattle.queue.specs.declared.Counts.{Counts}
 use Rattle.queue.specs.declared.arguments.Argument.the-variants as Argument
 use Rattle.queue.specs.Counts.{share}
 use Rattle.queue.specs.Ruled.{Ruled, refuse, accept}
 use Rattle.queue.specs.Contents.{Contents}
-use Rattle.queue.specs.Open.{openQueue}
 use Rattle.queue.specs.Activate.{activate}
 use Rattle.queue.specs.Arguments.{give}
 use Rattle.queue.specs.Serve.{Served, serve}
@@ -32,12 +29,15 @@ use Rattle.queue.specs.Take as Takes
 use Rattle.queue.proofs.Refusals.{andThen-accepts}
 use Rattle.queue.proofs.WriteLaws.{write-accepts}
 use Rattle.sequential.specs.Call.{Machine, moved, served, written, taken}
+use Rattle.sequential.specs.Calls.{Argument}
+use Rattle.replay.specs.Events.{eventsFrom}
 use Rattle.replay.specs.Playing.{Playing, playing, stepOf, played, log, playedAll}
 use Rattle.replay.specs.Replay.{Start, startOf, openTrace, prepare, replayed}
+use Rattle.replay.specs.Outcome.{placeIn}
 use Rattle.replay.proofs.EventLaws.{events-few-from}
-use Rattle.table.proofs.TraceSteps.{header-shorter}
 use Rattle.printed.specs.Text.{mostBytes, fileTooLong, tableFaultText, traceFaultText, noCounts, eventLines, wordLines, countsLine, playText}
 use Rattle.printed.specs.Text.{startText, traceText, groupsText, text}
+use Rattle.replay.proofs.PrepareLaws.{events-place}
 use Rattle.printed.specs.Outcome.{mostText, TextFits, TextSome, printed}
 use Rattle.printed.specs.Internal.{item}
 use Rattle.printed.proofs.PutLaws.{item-few}
@@ -80,26 +80,24 @@ played-long p (e ∷ es) = played-long (played p e) es ∙ step-long p e
 -- ---- what a trace that can be played is like
 record Small (s : Start) : Type 0 where
   pub events : length (s .events) ≤ mostBytes
-  pub words : s .words ≤ 4096
+  pub words : s .queue .memoryLength ≤ 4096
 
-start-small : (q : Contents) (words : ℕ) (rest : List ℕ) {s : Start} → words ≤ 4096 → length rest ≤ mostBytes → startOf q words (readEvents rest) ≡ accept s → Small s
-start-small q words rest {s} h k e = go (readEvents rest) refl e
+start-small : (q : Contents) (trace : List ℕ) (at : ℕ) {s : Start} → q .memoryLength ≤ 4096 → length trace ≤ mostBytes
+    → startOf q (eventsFrom trace at) ≡ accept s → Small s
+start-small q trace at {s} h k e = go (eventsFrom trace at) refl e
   where
-    go : (g : Got (List Event)) → readEvents rest ≡ g → startOf q words g ≡ accept s → Small s
+    go : (g : Got (List Event)) → eventsFrom trace at ≡ g → startOf q g ≡ accept s → Small s
     go (bad n) d f = let z : _≡_ {A = ℕ} 0 1 = cc in absurd (omega arith)
     go (got es left) d f =
-        let y : s ≡ record { queue = q; words = words; events = es } = cc in
-        rw y (record { events = omega (arith, events-few-from rest 0 d); words = h })
+        let y : s ≡ record { queue = q; events = es } = cc in
+        rw y (record { events = omega (arith, events-few-from trace at d); words = h })
 
 prepare-small : (gs : List GroupPairs) (trace : List ℕ) {s : Start} → length trace ≤ mostBytes → prepare gs trace ≡ accept s → Small s
 unfolding prepare
-prepare-small gs trace {s} k e = go (readHeader trace) refl e
-  where
-    go : (g : Got Header) → readHeader trace ≡ g → openTrace gs g ≡ accept s → Small s
-    go (bad n) d f = let z : _≡_ {A = ℕ} 0 1 = cc in absurd (omega arith)
-    go (got h rest) d f =
-        let (q, opens, starts) = andThen-accepts (openQueue gs (h .loads) (h .stores) (h .serial) (h .words)) _ f in
-        start-small q (h .words) rest (opened-words gs (h .loads) (h .stores) (h .serial) (h .words) opens) (omega (arith, header-shorter trace rest h d)) starts
+prepare-small gs trace k e =
+    let (q, opens, starts) = andThen-accepts (openTrace gs (readHeader trace)) _ e in
+    let place = events-place gs trace (readHeader trace) refl opens in
+    start-small q trace (placeIn trace (readHeader trace)) (opened-words gs (readHeader trace) opens) k (ap (startOf q) (sym place) ∙ starts)
 
 -- ---- the texts
 counts-few : (c : Counts) → length (countsLine c) ≤ 85
@@ -115,12 +113,12 @@ table-fault-few n = omega (arith, ap length (table-line n), item-few (116 ∷ 97
 trace-fault-few : (n : ℕ) → length (traceFaultText n) ≤ mostText
 trace-fault-few n = omega (arith, ap length (trace-line n), item-few (116 ∷ 114 ∷ 97 ∷ 99 ∷ 101 ∷ 32 ∷ []) n 10)
 
-play-few : (s : Start) → Small s → length (playText (replayed s (replicate (s .words) 0) noCounts)) ≤ mostText
+play-few : (s : Start) → Small s → length (playText (replayed s (replicate (s .queue .memoryLength) 0) noCounts)) ≤ mostText
 play-few s w =
-    let p = playing (s .queue) (replicate (s .words) 0) noCounts in
+    let p = playing (s .queue) (replicate (s .queue .memoryLength) 0) noCounts in
     let l = log p (s .events) in
     let q = playedAll p (s .events) in
-    let m : length (q .machine .memory) ≡ s .words = played-long p (s .events) ∙ length-replicate (s .words) 0 in
+    let m : length (q .machine .memory) ≡ s .queue .memoryLength = played-long p (s .events) ∙ length-replicate (s .queue .memoryLength) 0 in
     omega (arith, w .events, w .words, log-many p (s .events), events-text-few 1 l, words-few 0 (q .machine .memory), counts-few (q .counts), length-append (eventLines 1 l ++ wordLines 0 (q .machine .memory)) (countsLine (q .counts)), length-append (eventLines 1 l) (wordLines 0 (q .machine .memory)))
 
 start-few : (rule : Ruled Start) → ((s : Start) → rule ≡ accept s → Small s) → length (startText rule) ≤ mostText
@@ -160,7 +158,7 @@ bytes-few table trace out {n} h = go (leb mostText (length out)) refl h
 start-some : (rule : Ruled Start) → 0 < length (startText rule)
 start-some (refuse n) = omega arith
 start-some (accept s) =
-    let r = replayed s (replicate (s .words) 0) noCounts in
+    let r = replayed s (replicate (s .queue .memoryLength) 0) noCounts in
     omega (arith, length-append (eventLines 1 (r .log) ++ wordLines 0 (r .left .machine .memory)) (countsLine (r .left .counts)))
 
 trace-some : (gs : List GroupPairs) (trace : List ℕ) → 0 < length (traceText gs trace)

@@ -1,96 +1,96 @@
 -- Laws of the whole text.
 use Prim.Native.Nat.{ℕ, zero, suc, _+_, _≤_, _<_}
-use mathlib.Core.Path.{_≡_, refl, ap, _∙_}
-use mathlib.Core.Bool.{true}
+use mathlib.Core.Path.{_≡_, refl, sym, ap, _∙_}
 use mathlib.Core.List.{List, [], _∷_, _++_, map}
 use native.Mathlib.Omega.{arith}
 use native.Mathlib.Nat.{zero-add}
-use lib.Dec.{eqb, leb}
+use lib.Dec.{leb}
 use lib.ListN.{length, take, drop, replicate, length-append, length-map, length-replicate}
 use borrow.Author.Tests.{lt-ltb, le-ltb, lt-leb, le-leb, leb-true}
-use Rattle.table.specs.Basics.{allOf}
 use Rattle.table.specs.Refusal.{tooShort}
-use Rattle.table.specs.Number.{got, bad, accepts, unwritten}
+use Rattle.table.specs.Number.{Got, got, bad, accepts, unwritten}
 use Rattle.table.specs.Group.{GroupPairs}
-use Rattle.table.specs.Table.{tableFault}
 use Rattle.table.specs.TableBytes.{readTable}
 use Rattle.table.specs.declared.Event.{Event}
+use Rattle.table.specs.declared.Header.{Header}
 use Rattle.table.proofs.SpliceLaws.{splice-front}
-use Rattle.queue.specs.Refusal.{badLoadDepth, badStoreDepth, badMemoryLength, groupTooLarge}
-use Rattle.queue.specs.Ruled.{accept, need}
+use Rattle.queue.specs.Ruled.{refuse, accept}
 use Rattle.queue.specs.Contents.{Contents}
-use Rattle.queue.specs.Sound.{depthRight, memoryRight}
-use Rattle.queue.specs.Open.{groupFits, opened, openQueue}
 use Rattle.queue.proofs.Lists.{and-right}
-use Rattle.queue.proofs.Refusals.{need-accepts}
+use Rattle.sequential.proofs.Run.{limits-opened}
 use Rattle.replay.specs.declared.Replayed.{Replayed}
 use Rattle.replay.specs.Playing.{Playing, playing, played, log, answerOf, givenOf, wordOf}
-use Rattle.replay.specs.Replay.{prepare, Replay, replayed, Buffers, replay}
+use Rattle.replay.specs.Events.{eventsFrom}
+use Rattle.replay.specs.Replay.{startOf, openTrace, prepare, Replay, replayed, Buffers, replayFrom}
 use Rattle.replay.specs.Outcome.{Replays, Replayed-as}
+use Rattle.replay.proofs.Named.{named, not-nought, events-named}
+use Rattle.replay.proofs.EventLaws.{events-few-from}
 use Rattle.replay.proofs.ReplayLaws.{replay-accepted, long-enough}
-use Rattle.printed.specs.Text.{mostBytes, fileTooLong, traceFaultText, tableFaultText, noCounts, playText, startText, traceText, text}
+use Rattle.printed.specs.Text.{mostBytes, fileTooLong, traceFaultText, tableFaultText, noCounts, runText, playText, startText, traceText, text}
 use Rattle.printed.specs.Outcome.{mostText, printed}
 use Rattle.printed.specs.Internal.{Puts, rows, Printable}
 use Rattle.printed.proofs.LineLaws.{rows-log}
 
 -- ---- playing
--- a replay with room for every event is accepted
-pub plays-well : {gs : List GroupPairs} {trace memory out : List ℕ} (b : Buffers) {r : Replayed} {memory₂ : List ℕ} {b₂ : Buffers} (w : Printable gs trace memory out) → mostBytes ≤ length (b .answers) → mostBytes ≤ length (b .given) → mostBytes ≤ length (b .words) → Replayed-as memory noCounts b (replay gs trace memory noCounts b) r memory₂ b₂ → Replays (replayed (w .start) memory noCounts) b r memory₂ b₂
-plays-well {gs} {trace} {memory} b w ha hg hw played =
-    let n = length (w .start .events) in
-    let long : length memory ≡ w .start .words = ap length (w .zeros) ∙ length-replicate (w .start .words) 0 in
-    let fit = long-enough n b (omega (arith, w .few, ha)) (omega (arith, w .few, hg)) (omega (arith, w .few, hw)) in
-    rw (replay-accepted gs trace memory noCounts b (w .start) (w .is) long fit) at played
-
 pub log-many : (p : Playing) (es : List Event) → length (log p es) ≡ length es
 log-many p [] = refl
 log-many p (e ∷ es) = ap suc (log-many (played p e) es)
 
--- what the buffers, the memory and the counts then hold
-pub record Held (p : Replay) (r : Replayed) (memory : List ℕ) (b : Buffers) : Type 0 where
-  pub many : r .events ≡ length (p .log)
-  pub events : take (r .events) (rows (b .answers) (b .given) (b .words)) ≡ p .log
-  pub memory-is : memory ≡ p .left .machine .memory
-  pub counts : r .counts ≡ p .left .counts
+-- what was played, where every event can be read
+pub record PlaysWell (q : Contents) (trace : List ℕ) (at : ℕ) (r : Replayed) (memory : List ℕ) (b : Buffers) : Type 0 where
+  pub few : r .events ≤ mostBytes
   pub answers : r .events ≤ length (b .answers)
   pub given : r .events ≤ length (b .given)
   pub words : r .events ≤ length (b .words)
+  pub text : runText (take (r .events) (rows (b .answers) (b .given) (b .words))) memory (r .counts) ≡ startText (startOf q (eventsFrom trace at))
 
-pub replay-held : {p : Replay} {b : Buffers} {r : Replayed} {memory : List ℕ} {b₂ : Buffers} → Replays p b r memory b₂ → Held p r memory b₂
-replay-held {p} {b} w =
-    let n = length (p .log) in
-    rw (w .outcome, w .buffers-are) (record {
-      many = refl;
-      events = rows-log (p .log) _ _ _;
-      memory-is = w .memory-is;
-      counts = refl;
-      answers = omega (arith, length-append (map answerOf (p .log)) (drop (length (map answerOf (p .log))) (b .answers)), length-map (p .log) answerOf);
-      given = omega (arith, length-append (map givenOf (p .log)) (drop (length (map givenOf (p .log))) (b .given)), length-map (p .log) givenOf);
-      words = omega (arith, length-append (map wordOf (p .log)) (drop (length (map wordOf (p .log))) (b .words)), length-map (p .log) wordOf);
-    })
+-- a replay with room for every event is refused for an event alone
+pub record PlaysAs (q : Contents) (trace : List ℕ) (at : ℕ) (r : Replayed) (memory : List ℕ) (b : Buffers) : Type 0 where
+  pub fault : (r .answer ≡ 0 → ⊥) → startOf q (eventsFrom trace at) ≡ refuse (r .answer)
+  pub well : r .answer ≡ 0 → PlaysWell q trace at r memory b
 
--- there are no more lines than events
-pub few-lines : {gs : List GroupPairs} {trace memory out : List ℕ} (w : Printable gs trace memory out) → length (replayed (w .start) memory noCounts .log) ≤ mostBytes
-few-lines {memory = memory} w = omega (arith, w .few, log-many (playing (w .start .queue) memory noCounts) (w .start .events))
+module _ (q : Contents) {trace memory out : List ℕ} (at : ℕ) (b : Buffers) (r : Replayed) (memory₂ : List ℕ) (b₂ : Buffers)
+    (printable : Printable q trace memory out) where
+  replays-well : (p : Replay) → Replays p b r memory₂ b₂ → length (p .log) ≤ mostBytes
+      → playText p ≡ startText (startOf q (eventsFrom trace at)) → PlaysWell q trace at r memory₂ b₂
+  replays-well p w few is = rw (w .outcome, w .buffers-are) (record {
+    few = few;
+    answers = omega (arith, length-append (map answerOf (p .log)) (drop (length (map answerOf (p .log))) (b .answers)), length-map (p .log) answerOf);
+    given = omega (arith, length-append (map givenOf (p .log)) (drop (length (map givenOf (p .log))) (b .given)), length-map (p .log) givenOf);
+    words = omega (arith, length-append (map wordOf (p .log)) (drop (length (map wordOf (p .log))) (b .words)), length-map (p .log) wordOf);
+    text = rw (rows-log (p .log) _ _ _, w .memory-is) is;
+  })
 
-pub printable-text : {gs : List GroupPairs} {trace memory out : List ℕ} (w : Printable gs trace memory out) → playText (replayed (w .start) memory noCounts) ≡ startText (prepare gs trace)
-printable-text w = rw (w .is, w .zeros)
+  abbrev Plays : Got (List Event) → Type 0
+  Plays g = Replayed-as memory noCounts b (replayFrom q g memory noCounts b) r memory₂ b₂
+
+  pub plays : length (b .answers) ≡ 16384 → length (b .given) ≡ 16384 → length (b .words) ≡ 16384
+      → Plays (eventsFrom trace at) → PlaysAs q trace at r memory₂ b₂
+  plays ha hg hw v = go (eventsFrom trace at) refl v
+    where
+      go : (g : Got (List Event)) → eventsFrom trace at ≡ g → Plays g → PlaysAs q trace at r memory₂ b₂
+      go (bad n) d v =
+          let answer : r .answer ≡ n = ap (λ (x : Replayed). x .answer) (v .outcome) in
+          let proper = sym (ap named d) ∙ events-named _ (drop at trace) in
+          record { fault = λ apart. rw (d, answer); well = λ nought. absurd (not-nought proper (sym answer ∙ nought)) }
+      go (got es rest) d v =
+          let few : length es ≤ mostBytes = omega (arith, events-few-from trace at d, printable .short) in
+          let long : length memory ≡ q .memoryLength = ap length (printable .zeros) ∙ length-replicate (q .memoryLength) 0 in
+          let fit = long-enough (length es) b (omega (arith, few, ha)) (omega (arith, few, hg)) (omega (arith, few, hw)) in
+          let p = replayed (record { queue = q; events = es }) memory noCounts in
+          let u : Replays p b r memory₂ b₂ = rw (replay-accepted q (got es rest) memory noCounts b refl long fit) at v in
+          let many = log-many (playing q memory noCounts) es in
+          record {
+            fault = λ apart. absurd (apart (ap (λ (x : Replayed). x .answer) (u .outcome)));
+            well = λ nought. replays-well p u (omega (arith, few, many)) (rw (d, printable .zeros));
+          }
 
 -- ---- opening
-pub opened-words : (gs : List GroupPairs) (loads stores first words : ℕ) {q : Contents} → openQueue gs loads stores first words ≡ accept q → words ≤ 4096
-unfolding openQueue
-opened-words gs loads stores first words h =
-    let last = need (allOf (groupFits loads stores) gs) groupTooLarge (accept (opened gs loads stores first words)) in
-    let third = need (memoryRight words) badMemoryLength last in
-    let second = need (depthRight stores) badStoreDepth third in
-    let first = need (depthRight loads) badLoadDepth second in
-    let h₁ = need-accepts (eqb (tableFault gs) 0) (tableFault gs) first h .1 in
-    let h₂ = need-accepts (depthRight loads) badLoadDepth second h₁ .1 in
-    let h₃ = need-accepts (depthRight stores) badStoreDepth third h₂ .1 in
-    within-most words (need-accepts (memoryRight words) badMemoryLength last h₃ .0)
-  where
-    within-most : (n : ℕ) → memoryRight n ≡ true → n ≤ 4096
-    within-most n e = leb-true n 4096 (and-right (leb 1 n) (leb n 4096) e)
+pub opened-words : (gs : List GroupPairs) (g : Got Header) {q : Contents} → openTrace gs g ≡ accept q → q .memoryLength ≤ 4096
+opened-words gs (bad n) e = let z : _≡_ {A = ℕ} 0 1 = cc in absurd (omega arith)
+opened-words gs (got h rest) {q} e =
+    let (limits, is) = limits-opened gs (h .loads) (h .stores) (h .serial) (h .words) q e in
+    rw (sym is) (leb-true _ _ (and-right (leb 1 (h .words)) (leb (h .words) 4096) (limits .wordsRight)))
 
 -- the front of a memory all zero
 take-replicate : (n k : ℕ) → n ≤ k → take {A = ℕ} n (replicate k 0) ≡ replicate n 0

@@ -6,10 +6,8 @@ use mathlib.Core.Option.{none, some}
 use lib.Dec.{eqb}
 use lib.ListN.{length, replicate}
 use Rattle.table.specs.Basics.{pick, splice}
-use Rattle.table.specs.Group.{GroupPairs}
-use Rattle.queue.specs.Ruled.{accept}
+use Rattle.queue.specs.Contents.{Contents}
 use Rattle.replay.specs.Playing.{Logged}
-use Rattle.replay.specs.Replay.{Start, prepare}
 use Rattle.printed.specs.Decimal.{decimal}
 use Rattle.printed.specs.Text.{mostBytes}
 use Rattle.printed.specs.Outcome.{mostText}
@@ -33,11 +31,18 @@ rows (a ∷ answers) [] words = []
 rows (a ∷ answers) (g ∷ given) [] = []
 rows (a ∷ answers) (g ∷ given) (w ∷ words) = loggedAs a g w ∷ rows answers given words
 
--- a trace that can be played on a memory all zero, and room for its text
-pub record Printable (gs : List GroupPairs) (trace memory out : List ℕ) : Type 0 where
-  pub start : Start
-  pub is : prepare gs trace ≡ accept start
-  pub few : length (start .events) ≤ mostBytes
-  pub words : start .words ≤ 4096
-  pub zeros : memory ≡ replicate (start .words) 0
+-- what a replay put down of so many events, no more than a file has, a memory, and room for their text
+pub record RunFits (count : ℕ) (answers given words memory out : List ℕ) : Type 0 where
+  pub answers-hold : count ≤ length answers
+  pub given-hold : count ≤ length given
+  pub words-hold : count ≤ length words
+  pub few : count ≤ mostBytes
+  pub memory-few : length memory ≤ 4096
+  pub room : mostText ≤ length out
+
+-- a trace that is short enough to be played on a queue and a memory all zero, and room for its text
+pub record Printable (q : Contents) (trace memory out : List ℕ) : Type 0 where
+  pub short : length trace ≤ mostBytes
+  pub words : q .memoryLength ≤ 4096
+  pub zeros : memory ≡ replicate (q .memoryLength) 0
   pub room : mostText ≤ length out

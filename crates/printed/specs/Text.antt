@@ -49,8 +49,11 @@ wordLines a (w ∷ ws) = wordLine a w ++ wordLines (suc a) ws
 abbrev pub countsLine : Counts → List ℕ
 countsLine c = line (bytes "loads") (decimal (c .loads) ∷ bytes "forwarded" ∷ decimal (c .forwarded) ∷ bytes "share" ∷ decimal (share c) ∷ [])
 
+abbrev pub runText : List Logged → List ℕ → Counts → List ℕ
+runText log memory c = eventLines 1 log ++ wordLines 0 memory ++ countsLine c
+
 abbrev pub playText : Replay → List ℕ
-playText r = eventLines 1 (r .log) ++ wordLines 0 (r .left .machine .memory) ++ countsLine (r .left .counts)
+playText r = runText (r .log) (r .left .machine .memory) (r .left .counts)
 
 abbrev pub noCounts : Counts
 noCounts = record { loads = 0; forwarded = 0 }
@@ -65,7 +68,7 @@ traceFaultText n = line (bytes "trace") (decimal n ∷ [])
 -- `trace N`"; else the events are played on a memory all zero
 abbrev pub startText : Ruled Start → List ℕ
 startText (refuse n) = traceFaultText n
-startText (accept s) = playText (replayed s (replicate (s .words) 0) noCounts)
+startText (accept s) = playText (replayed s (replicate (s .queue .memoryLength) 0) noCounts)
 
 unfoldable pub traceText : List GroupPairs → List ℕ → List ℕ
 traceText gs trace = pick (ltb mostBytes (length trace)) (traceFaultText fileTooLong) (startText (prepare gs trace))

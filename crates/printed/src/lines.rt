@@ -1,8 +1,8 @@
 // The lines of the printed run.
 ghost use Prim.Native.Nat.{_+_, _*_, _≤_};
 ghost use lib.ListN.{length, take};
-ghost use Rattle.printed.specs.Text.{eventLine, eventLines, wordLine, wordLines, countsLine};
-ghost use Rattle.printed.specs.Internal.{Puts, loggedAs, rows};
+ghost use Rattle.printed.specs.Text.{eventLine, eventLines, wordLine, wordLines, countsLine, runText};
+ghost use Rattle.printed.specs.Internal.{Puts, loggedAs, rows, RunFits};
 use crate::put::put_bytes;
 use crate::put::put_item;
 use queue::Counts;
@@ -22,13 +22,7 @@ fn put_event(out: &mut [u8], at: usize, number: u64, answer: u8, given: u8, word
 }
 
 // Puts the lines of the first events, from what a replay put down of them.
-pub(crate) fn put_events(
-    out: &mut [u8],
-    answers: &[u8],
-    given: &[u8],
-    words: &[u32],
-    count: usize,
-) -> usize
+fn put_events(out: &mut [u8], answers: &[u8], given: &[u8], words: &[u32], count: usize) -> usize
     requires { ⌜ (count ≤ length (now answers)) × (count ≤ length (now given)) × (count ≤ length (now words)) × (63 * count ≤ length (now out)) ⌝ }
     ensures { λ r. ⌜ Puts (now (out .entry)) 0 (eventLines 1 (take count (rows (now (answers .entry)) (now (given .entry)) (now (words .entry))))) r (now (out .exit)) ⌝ }
 {
@@ -54,7 +48,7 @@ fn put_word(out: &mut [u8], at: usize, address: u64, word: u32) -> usize
 }
 
 // Puts the lines of a memory's words that are not 0, by address.
-pub(crate) fn put_words(out: &mut [u8], at: usize, memory: &[u32]) -> usize
+fn put_words(out: &mut [u8], at: usize, memory: &[u32]) -> usize
     requires { ⌜ at + 47 * length (now memory) ≤ length (now out) ⌝ }
     ensures { λ r. ⌜ Puts (now (out .entry)) at (wordLines 0 (now (memory .entry))) r (now (out .exit)) ⌝ }
 {
@@ -68,11 +62,30 @@ pub(crate) fn put_words(out: &mut [u8], at: usize, memory: &[u32]) -> usize
 }
 
 // Puts the last line.
-pub(crate) fn put_counts(out: &mut [u8], at: usize, counts: Counts) -> usize
+fn put_counts(out: &mut [u8], at: usize, counts: Counts) -> usize
     requires { ⌜ at + 85 ≤ length (now out) ⌝ }
     ensures { λ r. ⌜ Puts (now (out .entry)) at (countsLine counts) r (now (out .exit)) ⌝ }
 {
     let place = put_item(out, at, b"loads ", counts.loads as u64, 32);
     let place = put_item(out, place, b"forwarded ", counts.forwarded as u64, 32);
     put_item(out, place, b"share ", share(counts), 10)
+}
+
+// Puts the text of a run: the lines of its first events, of its memory and of its counts.
+pub(crate) fn put_run(
+    out: &mut [u8],
+    answers: &[u8],
+    given: &[u8],
+    words: &[u32],
+    count: usize,
+    memory: &[u32],
+    counts: Counts,
+) -> usize
+    requires { ⌜ RunFits count (now answers) (now given) (now words) (now memory) (now out) ⌝ }
+    ensures { λ r. ⌜ Puts (now (out .entry)) 0
+        (runText (take count (rows (now (answers .entry)) (now (given .entry)) (now (words .entry)))) (now (memory .entry)) counts) r (now (out .exit)) ⌝ }
+{
+    let place = put_events(out, answers, given, words, count);
+    let place = put_words(out, place, memory);
+    put_counts(out, place, counts)
 }

@@ -4,17 +4,18 @@ ghost use Prim.Native.Nat.{_≤_};
 ghost use lib.ListN.{length, replicate};
 ghost use Rattle.table.specs.Number.{HasWritten};
 ghost use Rattle.table.specs.Table.{groupsOf};
-ghost use Rattle.replay.specs.Replay.{prepare};
+ghost use Rattle.queue.specs.Contents.{contentsOf};
+ghost use Rattle.replay.specs.Events.{eventsFrom};
+ghost use Rattle.replay.specs.Replay.{startOf};
 ghost use Rattle.printed.specs.Text.{startText, traceText, text};
 ghost use Rattle.printed.specs.Outcome.{mostText, printed};
 ghost use Rattle.printed.specs.Internal.{Puts, Printable};
-use crate::lines::put_counts;
-use crate::lines::put_events;
-use crate::lines::put_words;
+use crate::lines::put_run;
 use crate::put::put_item;
 use queue::Counts;
-use replay::preparing::prepare;
-use replay::replaying::replay;
+use queue::Queue;
+use replay::preparing::open_trace;
+use replay::replaying::replay_from;
 use table::Table;
 use table::Written;
 use table::read::read_table;
@@ -44,10 +45,10 @@ fn no_memory() -> [u32; 4096]
     [0; 4096]
 }
 
-// Plays a trace on a memory all zero, and puts its text.
-fn put_played(out: &mut [u8], table: Table, trace: &[u8], memory: &mut [u32]) -> usize
-    requires { ⌜ Printable (groupsOf table) (now trace) (now memory) (now out) ⌝ }
-    ensures { λ r. ⌜ Puts (now (out .entry)) 0 (startText (prepare (groupsOf table) (now (trace .entry)))) r (now (out .exit)) ⌝ }
+// Plays the events of a trace from a place on, on a queue and a memory all zero, and puts their text.
+fn put_played(out: &mut [u8], queue: Queue, trace: &[u8], at: usize, memory: &mut [u32]) -> usize
+    requires { ⌜ Printable (contentsOf queue) (now trace) (now memory) (now out) ⌝ }
+    ensures { λ r. ⌜ Puts (now (out .entry)) 0 (startText (startOf (contentsOf queue) (eventsFrom (now (trace .entry)) at))) r (now (out .exit)) ⌝ }
 {
     let mut answers = no_answers();
     let mut given = no_answers();
@@ -56,19 +57,21 @@ fn put_played(out: &mut [u8], table: Table, trace: &[u8], memory: &mut [u32]) ->
         loads: 0,
         forwarded: 0,
     };
-    let played = replay(
-        table,
+    let played = replay_from(
+        queue,
         trace,
+        at,
         memory,
         counts,
         &mut answers,
         &mut given,
         &mut words,
     );
-    let place = put_events(out, &answers, &given, &words, played.events);
-    let place = put_words(out, place, memory);
+    if played.answer != 0 {
+        return put_item(out, 0, b"trace ", played.answer as u64, 10);
+    }
     let counts = played.counts;
-    put_counts(out, place, counts)
+    put_run(out, &answers, &given, &words, played.events, memory, counts)
 }
 
 // Puts the text of a trace, once its table is read.
@@ -79,14 +82,15 @@ fn put_trace(out: &mut [u8], table: Table, trace: &[u8]) -> usize
     if MOST_BYTES < trace.len() {
         return put_item(out, 0, b"trace ", FILE_TOO_LONG, 10);
     }
-    let ready = prepare(table, trace);
-    if ready.answer != 0 {
-        return put_item(out, 0, b"trace ", ready.answer as u64, 10);
+    let opened = open_trace(table, trace);
+    if opened.answer != 0 {
+        return put_item(out, 0, b"trace ", opened.answer as u64, 10);
     }
-    let header = ready.header;
-    let words = header.words as usize;
+    let queue = opened.queue;
+    let frame = queue.frame;
+    let words = frame.words as usize;
     let mut memory = no_memory();
-    put_played(out, table, trace, &mut memory[..words])
+    put_played(out, queue, trace, opened.at, &mut memory[..words])
 }
 
 // Puts the text of both files' bytes.

@@ -52,10 +52,6 @@ pub have-proper : {A B : Type 0} (o : Option A) (n : ℕ) (rest : A → Ruled B)
 have-proper none n rest e h = e
 have-proper (some a) n rest e h = h a
 
-pub andThen-proper : {A B : Type 0} (r : Ruled A) (rest : A → Ruled B) → proper r ≡ true → ((a : A) → proper (rest a) ≡ true) → proper (andThen r rest) ≡ true
-andThen-proper (refuse n) rest e h = e
-andThen-proper (accept a) rest e h = h a
-
 -- two rules with the same tests accept alike where what follows does
 pub need-same : {A B : Type 0} (b : Bool) (n : ℕ) (x : Ruled A) (y : Ruled B) → accepted x ≡ accepted y → accepted (need b n x) ≡ accepted (need b n y)
 need-same true n x y e = e

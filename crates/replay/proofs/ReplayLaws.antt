@@ -1,12 +1,13 @@
 -- Laws of playing events one after another into lent buffers.
 use Prim.Native.Nat.{ℕ, suc, _+_, _≤_, _<_}
-use mathlib.Core.Bool.{true, false}
+use mathlib.Core.Bool.{true, false, _&&_}
 use mathlib.Core.Path.{_≡_, refl, sym, ap, ap₂, _∙_}
 use mathlib.Core.List.{List, [], _∷_, _++_, map, map-append, append-nil}
 use mathlib.Core.Option.{Option}
 use native.Mathlib.Omega.{arith}
+use lib.Dec.{leb}
 use lib.ListN.{length, drop, set, getD, length-append, length-drop, length-map}
-use borrow.Author.Tests.{eq-eqb, ne-eqb, lt-leb, le-leb}
+use borrow.Author.Tests.{eq-eqb, ne-eqb, le-leb, leb-true}
 use lib.Seq.{set-at, drop-cons, append-snoc}
 use Rattle.table.specs.Number.{Got, got, bad}
 use Rattle.table.specs.Refusal.{tooShort}
@@ -17,16 +18,15 @@ use Rattle.queue.specs.declared.Counts.{Counts}
 use Rattle.queue.specs.declared.Counted.{Counted}
 use Rattle.queue.specs.declared.Queue.{Queue}
 use Rattle.queue.specs.Refusal.{wrongMemory}
-use Rattle.queue.specs.Ruled.{Ruled, refuse, accept}
-use Rattle.queue.specs.declared.Opened.{Opened}
+use Rattle.queue.specs.Ruled.{Ruled, accept, andThen}
 use Rattle.queue.specs.Contents.{Contents, contentsOf}
-use Rattle.queue.specs.Open.{noQueue}
-use Rattle.queue.specs.Outcome.{Opens, valueIn}
+use Rattle.queue.specs.Outcome.{valueIn}
+use Rattle.queue.proofs.Lists.{and-left, and-right}
 use Rattle.replay.specs.declared.Replayed.{Replayed}
 use Rattle.replay.specs.Events.{eventsFrom}
-use Rattle.replay.specs.Playing.{Playing, playing, stepOf, played, Logged, logged, log, playedAll, answerOf, givenOf, wordOf}
-use Rattle.replay.specs.Replay.{Start, prepare, Replay, replayed, Buffers, fits, replay}
-use Rattle.replay.specs.Outcome.{over, logIn, Replays, Replayed-as}
+use Rattle.replay.specs.Playing.{Playing, playing, stepOf, Logged, logged, log, playedAll, answerOf, givenOf, wordOf}
+use Rattle.replay.specs.Replay.{Start, prepare, replayed, Buffers, fits, replayStart, replayFrom, replay}
+use Rattle.replay.specs.Outcome.{over, logIn, Unplayed, Replays, Replayed-as}
 use Rattle.replay.specs.Internal.{Plays, Put, Playable, eventsIn, through}
 use Rattle.table.proofs.TraceSteps.{EventGot}
 
@@ -43,6 +43,19 @@ over-more f done l d i many h =
 over-length : (f : Logged → ℕ) (done : List Logged) (d : List ℕ) → length done ≤ length d → length (over (map f done) d) ≡ length d
 over-length f done d h = rw (length-append, length-drop, length-map) (omega arith)
 
+-- room in every buffer
+module _ (n : ℕ) (b : Buffers) where
+  room-for : fits n b ≡ true → (n ≤ length (b .answers)) × (n ≤ length (b .given)) × (n ≤ length (b .words))
+  room-for h =
+      let a = leb n (length (b .answers)) in
+      let g = leb n (length (b .given)) in
+      let w = leb n (length (b .words)) in
+      let front = and-left (a && g) w h in
+      (leb-true _ _ (and-left a g front), leb-true _ _ (and-right a g front), leb-true _ _ (and-right (a && g) w h))
+
+  pub long-enough : n ≤ length (b .answers) → n ≤ length (b .given) → n ≤ length (b .words) → fits n b ≡ true
+  long-enough e f h = rw (le-leb _ _ e, le-leb _ _ f, le-leb _ _ h)
+
 -- The events up to a place have been played: these answers were logged, and these events are left.
 pub record Walk (s : List ℕ) (start : ℕ) (p₀ : Playing) (b₀ : Buffers) (place i : ℕ) (p : Playing) (b : Buffers) : Type 0 where
   pub done : List Logged
@@ -57,7 +70,7 @@ pub record Walk (s : List ℕ) (start : ℕ) (p₀ : Playing) (b₀ : Buffers) (
   pub words : i + length left ≤ length (b₀ .words)
 
 pub walk-none : {s : List ℕ} {start : ℕ} {p₀ : Playing} {b₀ : Buffers} → Playable s start b₀ → Walk s start p₀ b₀ start 0 p₀ b₀
-walk-none {p₀ = p₀} w = record {
+walk-none {p₀ = p₀} {b₀} w = record {
   done = [];
   left = w .events;
   reads = w .is;
@@ -65,9 +78,9 @@ walk-none {p₀ = p₀} w = record {
   ends = ap (λ (g : Got (List Event)). playedAll p₀ (eventsIn g)) (w .is);
   many = refl;
   are = refl;
-  answers = omega (arith, w .answers);
-  given = omega (arith, w .given);
-  words = omega (arith, w .words);
+  answers = omega (arith, room-for (length (w .events)) b₀ (w .room) .0);
+  given = omega (arith, room-for (length (w .events)) b₀ (w .room) .1);
+  words = omega (arith, room-for (length (w .events)) b₀ (w .room) .2);
 }
 
 -- the next event is one of those that are left
@@ -91,6 +104,13 @@ abbrev asLogged : ℕ → Option ℕ → Logged
 asLogged n v = record { number = n; value = v }
 
 module _ {s : List ℕ} {start : ℕ} {p₀ : Playing} {b₀ : Buffers} {place i : ℕ} {p : Playing} {b : Buffers} (w : Walk s start p₀ b₀ place i p b) where
+  pub walk-lengths : (length (b .answers) ≡ length (b₀ .answers)) × (length (b .given) ≡ length (b₀ .given)) × (length (b .words) ≡ length (b₀ .words))
+  walk-lengths = (
+    rw (w .are) (over-length answerOf (w .done) (b₀ .answers) (omega (arith, w .many, w .answers))),
+    rw (w .are) (over-length givenOf (w .done) (b₀ .given) (omega (arith, w .many, w .given))),
+    rw (w .are) (over-length wordOf (w .done) (b₀ .words) (omega (arith, w .many, w .words))),
+  )
+
   -- there is room for the next event's answer
   pub record Room : Type 0 where
     pub answers : i < length (b .answers)
@@ -98,21 +118,11 @@ module _ {s : List ℕ} {start : ℕ} {p₀ : Playing} {b₀ : Buffers} {place i
     pub words : i < length (b .words)
 
   pub walk-room : {e : Event} {next : ℕ} → EventGot s place e next → Room
-  walk-room g =
-      let n = next-left (w .left) (w .reads) g in
+  walk-room e =
+      let n = next-left (w .left) (w .reads) e in
       let l : length (w .left) ≡ suc (length (n .rest)) = ap length (n .is) in
-      record {
-        answers = rw (w .are, over-length answerOf (w .done) (b₀ .answers) (omega (arith, w .many, w .answers))) (omega (arith, w .answers));
-        given = rw (w .are, over-length givenOf (w .done) (b₀ .given) (omega (arith, w .many, w .given))) (omega (arith, w .given));
-        words = rw (w .are, over-length wordOf (w .done) (b₀ .words) (omega (arith, w .many, w .words))) (omega (arith, w .words));
-      }
-
-  pub walk-lengths : (length (b .answers) ≡ length (b₀ .answers)) × (length (b .given) ≡ length (b₀ .given)) × (length (b .words) ≡ length (b₀ .words))
-  walk-lengths = (
-    rw (w .are) (over-length answerOf (w .done) (b₀ .answers) (omega (arith, w .many, w .answers))),
-    rw (w .are) (over-length givenOf (w .done) (b₀ .given) (omega (arith, w .many, w .given))),
-    rw (w .are) (over-length wordOf (w .done) (b₀ .words) (omega (arith, w .many, w .words))),
-  )
+      let (a, g, v) = walk-lengths in
+      record { answers = omega (arith, l, w .answers, a); given = omega (arith, l, w .given, g); words = omega (arith, l, w .words, v) }
 
 same-buffers : {a a₂ g g₂ w w₂ : List ℕ} → a ≡ a₂ → g ≡ g₂ → w ≡ w₂ → buffers a g w ≡ buffers a₂ g₂ w₂
 same-buffers e f h = cc
@@ -163,50 +173,33 @@ walk-no-fault {k = k} w h =
     let y : _≡_ {A = ℕ} 0 1 = cc in
     omega arith
 
--- ---- the order of checking
-module _ (gs : List GroupPairs) (trace memory : List ℕ) (c : Counts) (b : Buffers) where
-  pub replay-fault : {n : ℕ} → prepare gs trace ≡ refuse n → replay gs trace memory c b ≡ refuse n
-  unfolding replay
-  replay-fault e = rw e
-
-  module _ (s : Start) (is : prepare gs trace ≡ accept s) where
-    pub replay-memory : (length memory ≡ s .words → ⊥) → replay gs trace memory c b ≡ refuse wrongMemory
-    unfolding replay
-    replay-memory h = rw (is, ne-eqb (length memory) (s .words) h)
-
-    module _ (long : length memory ≡ s .words) where
-      pub replay-short : fits (length (s .events)) b ≡ false → replay gs trace memory c b ≡ refuse tooShort
-      unfolding replay
-      replay-short h = rw (is, eq-eqb (length memory) (s .words) long, h)
-
-      pub replay-accepted : fits (length (s .events)) b ≡ true → replay gs trace memory c b ≡ accept (replayed s memory c)
-      unfolding replay
-      replay-accepted h = rw (is, eq-eqb (length memory) (s .words) long, h)
-
-module _ (n : ℕ) (b : Buffers) where
-  pub short-answers : length (b .answers) < n → fits n b ≡ false
-  short-answers h = rw (lt-leb _ _ h)
-
-  pub short-given : n ≤ length (b .answers) → length (b .given) < n → fits n b ≡ false
-  short-given e h = rw (le-leb _ _ e, lt-leb _ _ h)
-
-  pub short-words : n ≤ length (b .answers) → n ≤ length (b .given) → length (b .words) < n → fits n b ≡ false
-  short-words e f h = rw (le-leb _ _ e, le-leb _ _ f, lt-leb _ _ h)
-
-  pub long-enough : n ≤ length (b .answers) → n ≤ length (b .given) → n ≤ length (b .words) → fits n b ≡ true
-  long-enough e f h = rw (le-leb _ _ e, le-leb _ _ f, le-leb _ _ h)
-
 -- ---- what is handed back
-module _ (memory : List ℕ) (c : Counts) (b : Buffers) (rule : Ruled Replay) where
-  pub refused-replay : {n : ℕ} {r : Replayed} → rule ≡ refuse n → r ≡ record { answer = n; events = 0; counts = c } → Replayed-as memory c b rule r memory b
-  refused-replay e f = rw e (record { outcome = f; memory-is = refl; buffers-are = refl })
+-- a refused replay leaves all as it was lent
+pub unplayed : {n : ℕ} {memory : List ℕ} {c : Counts} {b : Buffers} {r : Replayed} → r ≡ record { answer = n; events = 0; counts = c }
+    → Unplayed n memory c b r memory b
+unplayed f = record { outcome = f; memory-is = refl; buffers-are = refl }
 
-  pub accepted-replay : {p : Replay} {r : Replayed} {memory₂ : List ℕ} {b₂ : Buffers} → rule ≡ accept p → Replays p b r memory₂ b₂ → Replayed-as memory c b rule r memory₂ b₂
-  accepted-replay e w = rw e w
+-- the order of checking
+module _ (q : Contents) (g : Got (List Event)) (memory : List ℕ) (c : Counts) (b : Buffers) where
+  abbrev Refused : ℕ → Replayed → Type 0
+  Refused n r = r ≡ record { answer = n; events = 0; counts = c } → Replayed-as memory c b (replayFrom q g memory c b) r memory b
 
--- the queue that was opened, and the events that were counted, are those of the trace
-pub replays-start : (s : Start) (q : Queue) (memory : List ℕ) (c : Counts) (trace : List ℕ) (at : ℕ) {b : Buffers} {r : Replayed} {memory₂ : List ℕ} {b₂ : Buffers} → contentsOf q ≡ s .queue → eventsFrom trace at ≡ got (s .events) [] → Replays (through (playing (contentsOf q) memory c) (eventsIn (eventsFrom trace at))) b r memory₂ b₂ → Replays (replayed s memory c) b r memory₂ b₂
-replays-start s q memory c trace at e f w = rw (e, f) at w
+  pub replay-fault : {n : ℕ} {r : Replayed} → g ≡ bad n → Refused n r
+  replay-fault e f = rw e (unplayed f)
 
-pub opened-holds : (rule : Ruled Contents) (o : Opened) {q : Contents} → Opens noQueue rule o → rule ≡ accept q → contentsOf (o .queue) ≡ q
-opened-holds rule o w e = (rw e at w) .1
+  module _ {es : List Event} {rest : List ℕ} (is : g ≡ got es rest) where
+    pub replay-memory : {r : Replayed} → (length memory ≡ q .memoryLength → ⊥) → Refused wrongMemory r
+    replay-memory h f = rw (is, ne-eqb (length memory) (q .memoryLength) h) (unplayed f)
+
+    module _ (long : length memory ≡ q .memoryLength) where
+      pub replay-short : {r : Replayed} → fits (length es) b ≡ false → Refused tooShort r
+      replay-short h f = rw (is, eq-eqb (length memory) (q .memoryLength) long, h) (unplayed f)
+
+      pub replay-accepted : fits (length es) b ≡ true → replayFrom q g memory c b ≡ accept (replayed (record { queue = q; events = es }) memory c)
+      replay-accepted h = rw (is, eq-eqb (length memory) (q .memoryLength) long, h)
+
+-- a whole trace is replayed as its events are
+pub replay-opened : (gs : List GroupPairs) (trace memory : List ℕ) (c : Counts) (b : Buffers) {rule : Ruled Start} → prepare gs trace ≡ rule
+    → replay gs trace memory c b ≡ andThen rule (replayStart memory c b)
+unfolding replay
+replay-opened gs trace memory c b e = rw e

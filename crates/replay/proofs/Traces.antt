@@ -1,30 +1,29 @@
 -- Replaying goes by the trace that its bytes are; the statements are specs/Traces.antt.
 use Prim.Native.Nat.{ℕ}
-use mathlib.Core.Path.{_≡_, refl}
+use mathlib.Core.Path.{_≡_, refl, sym, ap}
 use mathlib.Core.List.{List, []}
 use native.Mathlib.Omega.{arith}
-use lib.Dec.{eqb}
-use lib.ListN.{length}
-use Rattle.table.specs.Refusal.{tooShort}
 use Rattle.table.specs.Number.{Got, got, bad}
 use Rattle.table.specs.declared.Event.{Event}
 use Rattle.table.specs.declared.Header.{Header}
 use Rattle.table.specs.Event.{readHeader}
 use Rattle.table.specs.Trace.{Trace, readEvents, readTrace, traceBytes}
 use Rattle.table.proofs.Traces.{traceOf, trace-parts, trace-of-parts, read-events-spelled, traces-read-back}
-use Rattle.queue.specs.Refusal.{wrongMemory}
-use Rattle.queue.specs.Ruled.{Ruled, refuse, accept, need, andThen}
+use Rattle.queue.specs.Ruled.{Ruled, refuse, accept, andThen}
 use Rattle.queue.specs.Contents.{Contents}
 use Rattle.queue.specs.Open.{openQueue}
 use Rattle.queue.proofs.Refusals.{andThen-accepts}
-use Rattle.replay.specs.Replay.{Start, startOf, openTrace, prepare, Replay, replayed, fits, replay}
-use Rattle.replay.specs.Traces.{openFor, startWith, startOn, TracesPrepared, OnlyTracesPrepared, TracesReplayed, WrittenPrepared, WrittenReplayed}
+use Rattle.sequential.proofs.Run.{limits-opened}
+use Rattle.replay.specs.Replay.{startOf, openTrace, eventsBehind, prepare, replayStart, replay}
+use Rattle.replay.specs.Traces.{openFor, startWith, startOn, replayOn}
+use Rattle.replay.specs.Traces.{TracesPrepared, OnlyTracesPrepared, TracesReplayed, WrittenPrepared, WrittenReplayed}
 
 pub traces-prepared : TracesPrepared
 unfolding prepare
 traces-prepared gs bytes t e = let w = trace-parts bytes [] t e .0 in go (w .rest) (w .header) (w .events)
   where
-    go : (rest : List ℕ) → readHeader bytes ≡ got (t .header) rest → readEvents rest ≡ got (t .events) [] → openTrace gs (readHeader bytes) ≡ startOn gs t
+    go : (rest : List ℕ) → readHeader bytes ≡ got (t .header) rest → readEvents rest ≡ got (t .events) []
+        → andThen (openTrace gs (readHeader bytes)) (λ q. startOf q (eventsBehind (readHeader bytes))) ≡ startOn gs t
     go rest d f = rw (d, f)
 
 pub only-traces-prepared : OnlyTracesPrepared
@@ -36,14 +35,14 @@ only-traces-prepared gs bytes s e = go (readHeader bytes) refl e
 
     read : (h : Header) (rest : List ℕ) (q : Contents) → readHeader bytes ≡ got h rest →
         openQueue gs (h .loads) (h .stores) (h .serial) (h .words) ≡ accept q →
-        (g : Got (List Event)) → readEvents rest ≡ g → startOf q (h .words) g ≡ accept s → Known
+        (g : Got (List Event)) → readEvents rest ≡ g → startOf q g ≡ accept s → Known
     read h rest q d opens (bad n) k f = let z : _≡_ {A = ℕ} 0 1 = cc in absurd (omega arith)
     read h rest q d opens (got es left) k f =
         let none : left ≡ [] = read-events-spelled rest left es k .left in
         let whole : readEvents rest ≡ got es [] = cc in
         (traceOf h es, trace-of-parts bytes rest h es d whole, rw opens f)
 
-    go : (g : Got Header) → readHeader bytes ≡ g → openTrace gs g ≡ accept s → Known
+    go : (g : Got Header) → readHeader bytes ≡ g → andThen (openTrace gs g) (λ q. startOf q (eventsBehind g)) ≡ accept s → Known
     go (bad n) d f = let z : _≡_ {A = ℕ} 0 1 = cc in absurd (omega arith)
     go (got h rest) d f =
         let (q, opens, starts) = andThen-accepts (openQueue gs (h .loads) (h .stores) (h .serial) (h .words)) _ f in
@@ -51,14 +50,11 @@ only-traces-prepared gs bytes s e = go (readHeader bytes) refl e
 
 pub traces-replayed : TracesReplayed
 unfolding replay
-traces-replayed gs bytes t memory c b e = rw (traces-prepared gs bytes t e) (go (openFor gs t))
+traces-replayed gs bytes t memory c b e = rw (traces-prepared gs bytes t e) (go (openFor gs t) refl)
   where
-    lent : Start → Ruled Replay
-    lent s = need (eqb (length memory) (s .words)) wrongMemory (need (fits (length (s .events)) b) tooShort (accept (replayed s memory c)))
-
-    go : (o : Ruled Contents) → andThen (andThen o λ q. accept (startWith q t)) lent ≡ andThen o (λ q. lent (startWith q t))
-    go (refuse n) = refl
-    go (accept q) = refl
+    go : (o : Ruled Contents) → openFor gs t ≡ o → andThen (andThen o λ q. accept (startWith q t)) (replayStart memory c b) ≡ replayOn gs t memory c b
+    go (refuse n) d = rw d
+    go (accept q) d = rw (d, sym (ap (λ (x : Contents). x .memoryLength) (limits-opened gs _ _ _ _ q d .1)))
 
 pub written-prepared : WrittenPrepared
 written-prepared gs t f = traces-prepared gs (traceBytes t) t (traces-read-back t f)

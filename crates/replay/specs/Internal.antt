@@ -1,6 +1,7 @@
 -- What the crate's own functions promise each other: nothing here is promised to a caller from outside.
-use Prim.Native.Nat.{ℕ, _≤_}
+use Prim.Native.Nat.{ℕ}
 use mathlib.Core.Path.{_≡_}
+use mathlib.Core.Bool.{true}
 use mathlib.Core.List.{List, []}
 use lib.ListN.{length, set}
 use Rattle.table.specs.Number.{Got, got, bad}
@@ -16,15 +17,13 @@ use Rattle.queue.specs.Parts.{queueOf}
 use Rattle.replay.specs.declared.playing.Played.{Played}
 use Rattle.replay.specs.Events.{eventsFrom}
 use Rattle.replay.specs.Playing.{Playing, playing, stepOf, played, log, playedAll, givenIn, wordIn}
-use Rattle.replay.specs.Replay.{Replay, Buffers}
+use Rattle.replay.specs.Replay.{Replay, Buffers, fits}
 
 -- every event from a place on can be read, and there is room for what each is answered
 pub record Playable (s : List ℕ) (place : ℕ) (b : Buffers) : Type 0 where
   pub events : List Event
   pub is : eventsFrom s place ≡ got events []
-  pub answers : length events ≤ length (b .answers)
-  pub given : length events ≤ length (b .given)
-  pub words : length events ≤ length (b .words)
+  pub room : fits (length events) b ≡ true
 
 abbrev pub eventsIn : Got (List Event) → List Event
 eventsIn (got es rest) = es

@@ -21,9 +21,9 @@ abbrev pub openFor : List GroupPairs → Trace → Ruled Contents
 openFor gs t = openQueue gs (t .header .loads) (t .header .stores) (t .header .serial) (t .header .words)
 
 abbrev pub startWith : Contents → Trace → Start
-startWith q t = record { queue = q; words = t .header .words; events = t .events }
+startWith q t = record { queue = q; events = t .events }
 
--- A trace as it is meant is refused by opening alone, and else it is played with just its events and its memory length.
+-- A trace as it is meant is refused by opening alone, and else it is played with just its events.
 abbrev pub startOn : List GroupPairs → Trace → Ruled Start
 startOn gs t = andThen (openFor gs t) λ q. accept (startWith q t)
 

@@ -1,16 +1,20 @@
 // Replaying a whole trace.
 ghost use mathlib.Core.Path.{_≡_};
+ghost use mathlib.Core.Bool.{_&&_};
+ghost use lib.Dec.{leb};
 ghost use Rattle.table.specs.Table.{groupsOf};
 ghost use Rattle.queue.specs.Contents.{contentsOf};
 ghost use Rattle.replay.specs.Events.{eventsFrom};
 ghost use Rattle.replay.specs.Playing.{playing};
-ghost use Rattle.replay.specs.Replay.{replay};
+ghost use Rattle.replay.specs.Replay.{replayFrom, replay};
 ghost use Rattle.replay.specs.Outcome.{Replays, Replayed-as};
 ghost use Rattle.replay.specs.Internal.{Playable, eventsIn, through};
+use crate::EventCount;
 use crate::Replayed;
+use crate::counting::count_events;
 use crate::playing::play_event;
 use crate::playing::put;
-use crate::preparing::prepare;
+use crate::preparing::open_trace;
 use queue::Counts;
 use queue::Queue;
 use queue::answering::outline_of;
@@ -92,9 +96,55 @@ fn play_all(
     }
 }
 
-// Replays a trace from a fresh opening of the table, on the memory and the counts as they are lent, and puts what each event
-// is answered at the front of the buffers: its answer, 1 or 0 as it gave a value or none, and the value or 0. Nothing that
-// was lent is changed where it answers a fault of the trace, 30 or 10.
+// Buffers of these lengths have room for so many events.
+fn have_room(events: usize, answers: usize, given: usize, words: usize) -> bool
+    ensures { λ r. ⌜ r ≡ leb events answers && leb events given && leb events words ⌝ }
+{
+    if answers < events {
+        return false;
+    }
+    if given < events {
+        return false;
+    }
+    events <= words
+}
+
+// Replays the events of a trace from a place on, on a queue, on the memory and the counts as they are lent, and puts what each
+// event is answered at the front of the buffers: its answer, 1 or 0 as it gave a value or none, and the value or 0. Nothing that
+// was lent is changed where it answers a fault of an event, 30 or 10.
+pub fn replay_from(
+    queue: Queue,
+    trace: &[u8],
+    at: usize,
+    memory: &mut [u32],
+    counts: Counts,
+    answers: &mut [u8],
+    given: &mut [u8],
+    words: &mut [u32],
+) -> Replayed
+    ensures { λ r. ⌜ Replayed-as (now (memory .entry)) counts
+        (record { answers = now (answers .entry); given = now (given .entry); words = now (words .entry) })
+        (replayFrom (contentsOf queue) (eventsFrom (now (trace .entry)) at) (now (memory .entry)) counts
+        (record { answers = now (answers .entry); given = now (given .entry); words = now (words .entry) }))
+        r (now (memory .exit)) (record { answers = now (answers .exit); given = now (given .exit); words = now (words .exit) }) ⌝ }
+{
+    let count = count_events(trace, at);
+    let events = match count {
+        EventCount::Events(events) => events,
+        EventCount::BadEvent(number) => return unplayed(number, counts),
+    };
+    let frame = queue.frame;
+    if memory.len() != frame.words as usize {
+        return unplayed(WRONG_MEMORY, counts);
+    }
+    if !have_room(events, answers.len(), given.len(), words.len()) {
+        return unplayed(TOO_SHORT, counts);
+    }
+    play_all(queue, counts, trace, at, memory, answers, given, words)
+}
+
+// Replays a trace from a fresh opening of the table, as its events are replayed; where it cannot be opened it answers that fault,
+// and nothing that was lent is changed.
 pub fn replay(
     table: Table,
     trace: &[u8],
@@ -104,42 +154,23 @@ pub fn replay(
     given: &mut [u8],
     words: &mut [u32],
 ) -> Replayed
-    ensures { λ r. ⌜ Replayed-as (now (memory .entry)) counts (record { answers = now (answers .entry); given = now (given .entry); words = now (words .entry) })
-        (replay (groupsOf table) (now (trace .entry)) (now (memory .entry)) counts (record { answers = now (answers .entry); given = now (given .entry); words = now (words .entry) }))
+    ensures { λ r. ⌜ Replayed-as (now (memory .entry)) counts
+        (record { answers = now (answers .entry); given = now (given .entry); words = now (words .entry) })
+        (replay (groupsOf table) (now (trace .entry)) (now (memory .entry)) counts
+        (record { answers = now (answers .entry); given = now (given .entry); words = now (words .entry) }))
         r (now (memory .exit)) (record { answers = now (answers .exit); given = now (given .exit); words = now (words .exit) }) ⌝ }
 {
-    let ready = prepare(table, trace);
-    if ready.answer != 0 {
-        return unplayed(ready.answer, counts);
+    let opened = open_trace(table, trace);
+    if opened.answer != 0 {
+        return unplayed(opened.answer, counts);
     }
-    let header = ready.header;
-    if memory.len() != header.words as usize {
-        return unplayed(WRONG_MEMORY, counts);
-    }
-    let events = ready.events;
-    if answers.len() < events {
-        return unplayed(TOO_SHORT, counts);
-    }
-    if given.len() < events {
-        return unplayed(TOO_SHORT, counts);
-    }
-    if words.len() < events {
-        return unplayed(TOO_SHORT, counts);
-    }
-    let opened = Queue::open(
-        table,
-        header.loads,
-        header.stores,
-        header.serial,
-        header.words,
-    );
     let queue = opened.queue;
-    play_all(
+    replay_from(
         queue,
-        counts,
         trace,
-        ready.at,
+        opened.at,
         memory,
+        counts,
         answers,
         given,
         words,

@@ -24,11 +24,6 @@ header-place s rest h e =
     let n : placeOf s rest ≡ length bytes = omega (arith, ap length is, length-append bytes rest) in
     sym (drop-at bytes rest (length bytes) refl) ∙ cc
 
-pub header-shorter : (s rest : List ℕ) (h : Header) → readHeader s ≡ got h rest → length rest ≤ length s
-header-shorter s rest h e =
-    let (bytes, is, spelled) = only-spelled-headers s rest h e in
-    omega (arith, ap length is, length-append bytes rest)
-
 pub record HeaderGot (s : List ℕ) (h : Header) (place : ℕ) : Type 0 where
   pub is : readHeader s ≡ got h (drop place s)
   pub at : placeOf s (drop place s) ≡ place

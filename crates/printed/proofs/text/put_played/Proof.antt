@@ -1,77 +1,66 @@
-use mathlib.Core.Path.{_≡_, ap, _∙_}
+use Prim.Native.Nat.{_≤_}
+use mathlib.Core.Path.{_≡_, sym, ap, _∙_}
 use native.Mathlib.Omega.{arith}
-use lib.ListN.{length, length-append, length-replicate}
-use Rattle.replay.specs.Replay.{replayed}
+use lib.ListN.{length, length-replicate}
+use Rattle.queue.specs.Contents.{contentsOf}
+use Rattle.replay.specs.Replay.{Buffers}
 use Rattle.replay.proofs.ReplayLaws.{buffers}
-use Rattle.printed.specs.Text.{noCounts, eventLines, wordLines}
-use Rattle.printed.proofs.PutLaws.{puts-as, puts-length, puts-puts}
-use Rattle.printed.proofs.LineLaws.{both, both-end, both-long, events-text-few, words-few}
-use Rattle.printed.proofs.TextLaws.{plays-well, Held, replay-held, few-lines, printable-text}
+use Rattle.printed.specs.Text.{startText}
+use Rattle.printed.proofs.PutLaws.{puts-as}
+use Rattle.printed.proofs.LineLaws.{trace-line}
+use Rattle.printed.proofs.TextLaws.{PlaysAs, plays}
 use borrow.Author.Needs.{needs}
 use Rattle.printed.proofs.text.put_played.Statement.{statement}
 use Rattle.printed.proofs.text.put_played.Tie as tie
 
--- what the replay leaves
-held : (c : tie.After-replay) → Held (replayed (c .before .before .before .before .before .before .before .before .before .before .before .pre .start) (c .before .before .before .before .before .before .before .before .before .before .before .args .memory .now) noCounts) (c .replay .result) (c .replay .last .1 .1 .0) (buffers (c .replay .last .1 .1 .1 .1 .0) (c .replay .last .1 .1 .1 .1 .1 .0) (c .replay .last .1 .1 .1 .1 .1 .1 .0))
-held c =
-    let a : length (c .before .before .before .before .before .before .before .no-answers .result) ≡ 16384 = search needs in
-    let g : length (c .before .before .before .before .before .before .no-answers2 .result) ≡ 16384 = search needs in
-    let v : length (c .before .before .before .before .before .no-values .result) ≡ 16384 = search needs in
-    let b = buffers (c .before .before .before .before .before .before .before .no-answers .result) (c .before .before .before .before .before .before .no-answers2 .result) (c .before .before .before .before .before .no-values .result) in
-    replay-held (plays-well b (c .before .before .before .before .before .before .before .before .before .before .before .pre) (omega arith) (omega arith) (omega arith) (c .replay .ensures))
+abbrev startAt : tie.After-replay-from → tie.Start
+startAt r = r .before .before .before .before .before .before .before .before .before .before .before
 
-put-events-requires : tie.Need-put-events-requires
-put-events-requires c κs =
-    let w = c .before .before .before .before .before .before .before .before .before .before .before .before .before .before .before .before .before .before .before .before .pre in
-    let r = c .before .before .before .before .before .before .before .before .before in
-    let h = held r in
-    (h .answers, h .given, h .words, omega (arith, h .many, few-lines w, w .room))
+-- the buffers, as they were lent and as they are left
+abbrev fresh : tie.After-replay-from → Buffers
+fresh r =
+    let v = r .before .before .before .before .before in
+    buffers (v .before .before .no-answers .result) (v .before .no-answers2 .result) (v .no-values .result)
 
-put-words-requires : tie.Need-put-words-requires
-put-words-requires c κs =
-    let w = c .before .before .before .before .before .before .before .before .before .before .before .before .before .before .before .before .before .before .before .before .before .before .before .before .before .pre in
-    let r = c .before .before .before .before .before .before .before .before .before .before .before .before .before .before in
-    let h = held r in
-    let e = puts-as (ap (eventLines 1) (h .events)) (c .before .before .before .before .put-events .ensures) in
-    let log = replayed (w .start) (c .before .before .before .before .before .before .before .before .before .before .before .before .before .before .before .before .before .before .before .before .before .before .before .before .before .args .memory .now) noCounts .log in
-    let few = events-text-few 1 log in
-    let lines = few-lines w in
-    let m : length (r .replay .last .1 .1 .0) ≡ length (c .before .before .before .before .before .before .before .before .before .before .before .before .before .before .before .before .before .before .before .before .before .before .before .before .before .args .memory .now) = search needs in
-    let z : length (c .before .before .before .before .before .before .before .before .before .before .before .before .before .before .before .before .before .before .before .before .before .before .before .before .before .args .memory .now) ≡ w .start .words = ap length (w .zeros) ∙ length-replicate (w .start .words) 0 in
-    omega (arith, few, lines, e .ends, puts-length e (omega (arith, few, lines, w .room)), w .room, w .words)
+long : (r : tie.After-replay-from) → (length (fresh r .answers) ≡ 16384) × (length (fresh r .given) ≡ 16384) × (length (fresh r .words) ≡ 16384)
+long r = (search needs, search needs, search needs)
 
-put-counts-requires : tie.Need-put-counts-requires
-put-counts-requires c κs =
-    let w = c .before .before .before .before .before .before .before .before .before .before .before .before .before .before .before .before .before .before .before .before .before .before .before .before .before .before .before .before .before .before .pre in
-    let r = c .before .before .before .before .before .before .before .before .before .before .before .before .before .before .before .before .before .before .before in
-    let h = held r in
-    let e = puts-as (ap (eventLines 1) (h .events)) (c .before .before .before .before .before .before .before .before .before .put-events .ensures) in
-    let log = replayed (w .start) (c .before .before .before .before .before .before .before .before .before .before .before .before .before .before .before .before .before .before .before .before .before .before .before .before .before .before .before .before .before .before .args .memory .now) noCounts .log in
-    let few = events-text-few 1 log in
-    let lines = few-lines w in
-    let m : length (r .replay .last .1 .1 .0) ≡ length (c .before .before .before .before .before .before .before .before .before .before .before .before .before .before .before .before .before .before .before .before .before .before .before .before .before .before .before .before .before .before .args .memory .now) = search needs in
-    let z : length (c .before .before .before .before .before .before .before .before .before .before .before .before .before .before .before .before .before .before .before .before .before .before .before .before .before .before .before .before .before .before .args .memory .now) ≡ w .start .words = ap length (w .zeros) ∙ length-replicate (w .start .words) 0 in
-    let v = c .before .before .before .before .put-words .ensures in
-    let some = words-few 0 (r .replay .last .1 .1 .0) in
-    omega (arith, few, lines, some, both-end e v (omega (arith, few, lines, some, w .room, w .words)), both-long e v (omega (arith, few, lines, some, w .room, w .words)), w .room, w .words)
+abbrev filled : tie.After-replay-from → Buffers
+filled r = let l = r .replay-from .last .1 .1 .1 .1 .1 in buffers (l .0) (l .1 .0) (l .1 .1 .0)
+
+-- what was played
+told : (r : tie.After-replay-from)
+    → let s = startAt r in
+    PlaysAs (contentsOf (s .args .queue)) (s .args .trace .now) (s .args .at) (r .replay-from .result) (r .replay-from .last .1 .1 .1 .0) (filled r)
+told r =
+    let s = startAt r in
+    let l = long r in
+    plays (contentsOf (s .args .queue)) (s .args .at) (fresh r) (r .replay-from .result) _ (filled r) (s .pre) (l .0) (l .1) (l .2) (r .replay-from .ensures)
 
 returns : tie.Need-returns
 returns c =
-    let w = c .before .before .before .before .before .before .before .before .before .before .before .before .before .before .before .before .before .before .before .before .before .before .before .before .before .before .before .before .before .before .before .before .before .pre in
-    let r = c .before .before .before .before .before .before .before .before .before .before .before .before .before .before .before .before .before .before .before .before .before .before in
-    let h = held r in
-    let e = puts-as (ap (eventLines 1) (h .events)) (c .before .before .before .before .before .before .before .before .before .before .before .before .put-events .ensures) in
-    let log = replayed (w .start) (c .before .before .before .before .before .before .before .before .before .before .before .before .before .before .before .before .before .before .before .before .before .before .before .before .before .before .before .before .before .before .before .before .before .args .memory .now) noCounts .log in
-    let few = events-text-few 1 log in
-    let lines = few-lines w in
-    let m : length (r .replay .last .1 .1 .0) ≡ length (c .before .before .before .before .before .before .before .before .before .before .before .before .before .before .before .before .before .before .before .before .before .before .before .before .before .before .before .before .before .before .before .before .before .args .memory .now) = search needs in
-    let z : length (c .before .before .before .before .before .before .before .before .before .before .before .before .before .before .before .before .before .before .before .before .before .before .before .before .before .before .before .before .before .before .before .before .before .args .memory .now) ≡ w .start .words = ap length (w .zeros) ∙ length-replicate (w .start .words) 0 in
-    let v = c .before .before .before .before .before .before .before .put-words .ensures in
-    let some = words-few 0 (r .replay .last .1 .1 .0) in
-    let y = c .before .before .put-counts .ensures in
-    let b = both e v (omega (arith, few, lines, some, w .room, w .words)) in
-    let t = puts-puts b (omega (arith, few, lines, some, w .room, w .words, length-append (eventLines 1 log) (wordLines 0 (r .replay .last .1 .1 .0)))) y in
-    puts-as (printable-text w) (rw (h .memory-is, h .counts) at t)
+    let i = c .before .before in
+    let t = i .before .before .before .before in
+    let r = t .before .before .before .before .before .before .before in
+    puts-as (trace-line (r .replay-from .result .answer) ∙ sym (ap startText (told r .fault (t .if1 .taken)))) (i .put-item .ensures)
+
+put-run-requires : tie.Need-put-run-requires
+put-run-requires c κs =
+    let e = c .before .before .before .before .before .before in
+    let r = e .before .before .before .before .before .before .before in
+    let s = startAt r in
+    let w = told r .well (e .if1 .left) in
+    let m : length (r .replay-from .last .1 .1 .1 .0) ≡ length (s .args .memory .now) = search needs in
+    let z = ap length (s .pre .zeros) ∙ length-replicate (contentsOf (s .args .queue) .memoryLength) 0 in
+    let few : length (r .replay-from .last .1 .1 .1 .0) ≤ 4096 = omega (arith, m, z, s .pre .words) in
+    record { answers-hold = w .answers; given-hold = w .given; words-hold = w .words; few = w .few; memory-few = few; room = s .pre .room }
+
+returns-2 : tie.Need-returns-2
+returns-2 c =
+    let p = c .before .before in
+    let e = p .before .before .before .before .before .before .before in
+    let w = told (e .before .before .before .before .before .before .before) .well (e .if1 .left) in
+    puts-as (w .text) (p .put-run .ensures)
 
 pub put-played-spec : {M : Type 1} → statement M
 put-played-spec =
@@ -86,10 +75,14 @@ put-played-spec =
     (λ c κs. search needs)
     (λ c. search needs)
     (λ c. search needs)
-    (λ c. search needs)
-    put-events-requires
-    put-words-requires
-    put-counts-requires
+    (λ c κs. search needs)
     (λ c. search needs)
     (λ c. search needs)
-    returns)
+    returns
+    (λ c. search needs)
+    (λ c. search needs)
+    (λ c. search needs)
+    put-run-requires
+    (λ c. search needs)
+    (λ c. search needs)
+    returns-2)

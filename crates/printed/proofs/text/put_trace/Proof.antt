@@ -4,8 +4,9 @@ use native.Mathlib.Omega.{arith}
 use lib.ListN.{length}
 use lib.Seq.{length-take-le}
 use Rattle.table.specs.Table.{groupsOf}
-use Rattle.replay.proofs.EventLaws.{events-few-from}
-use Rattle.replay.proofs.PrepareLaws.{prepare-refused, Started, prepare-accepted}
+use Rattle.table.specs.Event.{readHeader}
+use Rattle.queue.proofs.ContentsLaws.{words-held}
+use Rattle.replay.proofs.PrepareLaws.{prepare-refused, trace-opened, prepare-opened}
 use Rattle.printed.specs.Text.{startText}
 use Rattle.printed.proofs.PutLaws.{puts-as}
 use Rattle.printed.proofs.LineLaws.{trace-line}
@@ -19,42 +20,51 @@ returns c = puts-as (trace-line 36 ∙ sym (trace-long (groupsOf (c .before .bef
 
 returns-2 : tie.Need-returns-2
 returns-2 c =
-    let p = c .before .before .before .before .before .before .before .before in
-    let refused = prepare-refused (groupsOf (c .before .before .before .before .before .before .before .before .before .before .before .before .args .table)) (c .before .before .before .before .before .before .before .before .before .before .before .before .args .trace .now) (p .prepare .result) (p .prepare .ensures) (c .before .before .before .before .before .before .if2 .taken) in
-    puts-as (trace-line (p .prepare .result .answer) ∙ sym (trace-short (groupsOf (c .before .before .before .before .before .before .before .before .before .before .before .before .args .table)) (c .before .before .before .before .before .before .before .before .before .before .before .before .args .trace .now) (c .before .before .before .before .before .before .before .before .before .if1 .left) ∙ ap startText refused)) (c .before .before .put-item2 .ensures)
+    let t = c .before .before .before .before .before .before in
+    let o = t .before .before in
+    let a = o .before .before .before .before .args in
+    let refused = prepare-refused (groupsOf (a .table)) (a .trace .now) (o .open-trace .result) (o .open-trace .ensures) (t .if2 .taken) in
+    let short = trace-short (groupsOf (a .table)) (a .trace .now) (o .before .if1 .left) in
+    puts-as (trace-line (o .open-trace .result .answer) ∙ sym (short ∙ ap startText refused)) (c .before .before .put-item2 .ensures)
 
--- what was made ready, and that its memory fits
-started : (c : tie.Else2) → Started (groupsOf (c .before .before .before .before .before .before .args .table)) (c .before .before .before .before .before .before .args .trace .now) (c .before .before .prepare .result)
-started c = prepare-accepted _ _ (c .before .before .prepare .result) (c .before .before .prepare .ensures) (c .if2 .left)
-
-few-words : (c : tie.Else2) → c .before .before .prepare .result .header .words ≤ 4096
-few-words c = opened-words _ _ _ _ _ (started c .well .opens)
+-- the memory fits
+few-words : (e : tie.Else2) → e .before .before .open-trace .result .queue .frame .words ≤ 4096
+few-words e =
+    let o = e .before .before in
+    let a = o .before .before .before .before .args in
+    let is = trace-opened (groupsOf (a .table)) (a .trace .now) (o .open-trace .result) (o .open-trace .ensures) (e .if2 .left) in
+    omega (arith, opened-words (groupsOf (a .table)) (readHeader (a .trace .now)) is, words-held (o .open-trace .result .queue))
 
 array-borrow-prefix-memory : tie.Need-array-borrow-prefix-memory
 array-borrow-prefix-memory c =
     let l : length (c .before .no-memory .result) ≡ 4096 = search needs in
-    omega (arith, few-words (c .before .before .before .before))
+    omega (arith, few-words (c .before .before .before .before .before))
 
 slice-aggregate-put-played : tie.Need-slice-aggregate-put-played
 slice-aggregate-put-played c =
     let l : length (c .before .before .no-memory .result) ≡ 4096 = search needs in
-    sym (length-take-le _ (c .before .before .no-memory .result) (omega (arith, few-words (c .before .before .before .before .before))))
+    sym (length-take-le _ (c .before .before .no-memory .result) (omega (arith, few-words (c .before .before .before .before .before .before))))
 
 put-played-requires : tie.Need-put-played-requires
 put-played-requires c κs =
-    let e = c .before .before .before .before .before in
-    let s = started e in
+    let e = c .before .before .before .before .before .before in
+    let o = e .before .before in
+    let m = words-held (o .open-trace .result .queue) in
     record {
-      start = s .start;
-      is = s .is;
-      few = omega (arith, events-few-from (c .before .before .before .before .before .before .before .before .before .before .before .args .trace .now) (e .before .before .prepare .result .at) (s .well .events), e .before .before .before .if1 .left);
-      words = omega (arith, few-words e, s .well .words);
-      zeros = take-zeros _ _ (c .before .before .no-memory .ensures) (few-words e) (s .well .words);
-      room = c .before .before .before .before .before .before .before .before .before .before .before .pre;
+      short = o .before .if1 .left;
+      words = omega (arith, few-words e, m);
+      zeros = take-zeros _ _ (c .before .before .no-memory .ensures) (few-words e) (sym m);
+      room = o .before .before .before .before .pre;
     }
 
 returns-3 : tie.Need-returns-3
-returns-3 c = puts-as (sym (trace-short (groupsOf (c .before .before .before .before .before .before .before .before .before .before .before .before .before .before .before .args .table)) (c .before .before .before .before .before .before .before .before .before .before .before .before .before .before .before .args .trace .now) (c .before .before .before .before .before .before .before .before .before .before .before .before .if1 .left))) (c .before .before .before .put-played .ensures)
+returns-3 c =
+    let p = c .before .before .before in
+    let e = p .before .before .before .before .before .before .before in
+    let o = e .before .before in
+    let a = o .before .before .before .before .args in
+    let is = prepare-opened (groupsOf (a .table)) (a .trace .now) (o .open-trace .result) (o .open-trace .ensures) (e .if2 .left) in
+    puts-as (sym (trace-short (groupsOf (a .table)) (a .trace .now) (o .before .if1 .left) ∙ ap startText is)) (p .put-played .ensures)
 
 pub put-trace-spec : {M : Type 1} → statement M
 put-trace-spec =

@@ -12,7 +12,7 @@ use borrow.Author.Tests.{lt-ltb, le-ltb, lt-leb, le-leb}
 use lib.Dec.{ltb}
 use Rattle.table.specs.Basics.{pick, splice}
 use Rattle.table.specs.Refusal.{tooShort}
-use Rattle.table.specs.Number.{bytesUpTo, numberBytes, bytesOf, accepts, wrote, unwritten}
+use Rattle.table.specs.Number.{bytesUpTo, numberBytes, bytesOf, accepts, wrote, unwritten, PutAt, PutIfFits}
 use Rattle.table.proofs.NumberLaws.{numberBound}
 
 pub splice-none : (d : List ℕ) (p : ℕ) → splice d p [] ≡ d
@@ -47,6 +47,17 @@ wrote-short bytes buffer h = rw (lt-leb _ _ h)
 pub wrote-fits : (bytes buffer : List ℕ) → length bytes ≤ length buffer → wrote bytes buffer ≡ record { answer = accepts (length bytes); buffer = splice buffer 0 bytes }
 unfolding wrote
 wrote-fits bytes buffer h = rw (le-leb _ _ h, zero-add)
+
+-- what is put at a place, where there is room and where there is none
+module _ {buffer bytes left : List ℕ} {at r : ℕ} where
+  pub put-at : at + length bytes ≤ length buffer → PutIfFits buffer at bytes r left → PutAt buffer at bytes r left
+  put-at h w = (rw (le-leb _ _ h) at (w .ends), rw (le-leb _ _ h) at (w .is))
+
+  pub put-fits : at + length bytes ≤ length buffer → PutAt buffer at bytes r left → PutIfFits buffer at bytes r left
+  put-fits h w = record { ends = rw (le-leb _ _ h) (w .0); is = rw (le-leb _ _ h) (w .1) }
+
+pub put-nothing : {buffer bytes : List ℕ} {at : ℕ} → length buffer < at + length bytes → PutIfFits buffer at bytes at buffer
+put-nothing h = record { ends = rw (lt-leb _ _ h); is = rw (lt-leb _ _ h) }
 
 -- ---- a number's bytes, stored one by one: `left` is what is still to be written, from `place` on
 pub record Putting (d : List ℕ) (p n : ℕ) (out : List ℕ) (left place : ℕ) : Type 0 where

@@ -18,14 +18,10 @@ use Rattle.table.specs.declared.read.GroupsRead.{GroupsRead}
 use Rattle.table.specs.Number.{Got, got, bad, andThen, readNumber, Reply, accepts, refuses, replyNumber, Reading, reading}
 use Rattle.table.specs.TableBytes.{filled, pack}
 use Rattle.table.specs.Packed.{packedGroup}
-use Rattle.table.specs.Basics.{pick, splice}
+use Rattle.table.specs.Basics.{pick}
 use Rattle.table.specs.Group.{GroupPairs, listOf, Inside}
 use Rattle.table.specs.Table.{loadRule, storeRule, pairsFault, seeing, Seen, seenAfter, groupFault}
 use Rattle.table.specs.declared.trace.Numbers.{Numbers}
-
--- bytes put at a place of a buffer: where they end, and the buffer as it is left
-abbrev pub PutAt : List ℕ → ℕ → List ℕ → ℕ → List ℕ → Type 0
-PutAt buffer at bytes r left = (r ≡ at + length bytes) × (left ≡ splice buffer at bytes)
 
 -- the numbers that are written together
 abbrev pub listed : Numbers → List ℕ

@@ -11,7 +11,7 @@ use Rattle.table.specs.declared.NumberRead.{NumberRead}
 use Rattle.table.specs.declared.NumberRead.the-variants.{Number, Refused}
 use Rattle.table.specs.declared.Written.{Written}
 use Rattle.table.specs.declared.Written.the-variants.{Bytes, Unwritten}
-use Rattle.table.specs.Basics.{pick}
+use Rattle.table.specs.Basics.{pick, splice}
 use Rattle.table.specs.Refusal.{ended, tooLarge, tooShort}
 
 -- What reading gives: a value and the bytes after it, or the refusal number.
@@ -122,6 +122,15 @@ wrote bytes buffer =
     pick (leb (length bytes) (length buffer))
     (record { answer = accepts (length bytes); buffer = bytes ++ drop (length bytes) buffer })
     (unwritten tooShort buffer)
+
+-- bytes put at a place of a buffer: where they end, and the buffer as it is left
+abbrev pub PutAt : List ℕ → ℕ → List ℕ → ℕ → List ℕ → Type 0
+PutAt buffer at bytes r left = (r ≡ at + length bytes) × (left ≡ splice buffer at bytes)
+
+-- the same where they fit; else nothing is put, and the answer is the place itself
+pub record PutIfFits (buffer : List ℕ) (at : ℕ) (bytes : List ℕ) (r : ℕ) (left : List ℕ) : Type 0 where
+  pub ends : r ≡ pick (leb (at + length bytes) (length buffer)) (at + length bytes) at
+  pub is : left ≡ pick (leb (at + length bytes) (length buffer)) (splice buffer at bytes) buffer
 
 -- are there no bytes
 abbrev pub isEmpty : List ℕ → Bool

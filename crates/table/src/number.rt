@@ -3,7 +3,7 @@ ghost use mathlib.Core.Path.{_≡_};
 ghost use Prim.Native.Nat.{_+_, _≤_};
 ghost use lib.ListN.{length, drop};
 ghost use Rattle.table.specs.Number.{readNumber, readIn, numberReply, numberRefusal, numberBytes, byteCount, significantBits, HasWritten, wrote};
-ghost use Rattle.table.specs.Internal.{PutAt};
+ghost use Rattle.table.specs.Number.{PutAt, PutIfFits};
 use crate::NumberRead;
 use crate::Written;
 use crate::refusal::ENDED;
@@ -105,7 +105,7 @@ pub fn number_length(value: u32) -> usize
 }
 
 // Puts a number's bytes at a place where they fit, and says where they end.
-pub(crate) fn put_number(out: &mut [u8], at: usize, value: u32) -> usize
+fn put_fitting(out: &mut [u8], at: usize, value: u32) -> usize
     requires { ⌜ at + length (numberBytes value) ≤ length (now out) ⌝ }
     ensures { λ r. ⌜ PutAt (now (out .entry)) at (numberBytes value) r (now (out .exit)) ⌝ }
 {
@@ -120,6 +120,20 @@ pub(crate) fn put_number(out: &mut [u8], at: usize, value: u32) -> usize
     place + 1
 }
 
+// Puts a number's bytes at a place, and says where they end. Where they do not fit, it puts nothing and says the place itself.
+pub fn put_number(out: &mut [u8], at: usize, value: u32) -> usize
+    ensures { λ r. ⌜ PutIfFits (now (out .entry)) at (numberBytes value) r (now (out .exit)) ⌝ }
+{
+    let length = out.len();
+    if length < at {
+        return at;
+    }
+    if length - at < number_length(value) {
+        return at;
+    }
+    put_fitting(out, at, value)
+}
+
 // Writes a number at the front of a buffer, in the fewest bytes.
 pub fn write_number(value: u32, out: &mut [u8]) -> Written
     ensures { λ r. ⌜ HasWritten (wrote (numberBytes value) (now (out .entry))) r (now (out .exit)) ⌝ }
@@ -128,6 +142,6 @@ pub fn write_number(value: u32, out: &mut [u8]) -> Written
     if out.len() < length {
         return Written::Unwritten(TOO_SHORT);
     }
-    put_number(out, 0, value);
+    put_fitting(out, 0, value);
     Written::Bytes(length)
 }

@@ -1,56 +1,25 @@
--- What is still to be written, spliced where the writer stands, makes the buffer that is promised.
+-- Where the bytes do not fit nothing is put; else they are put at the place.
 use native.Mathlib.Omega.{arith}
-use lib.ListN.{length-set}
 use borrow.Author.Needs.{needs}
-use Rattle.table.proofs.SpliceLaws.{Putting, putting-none, putting-room, putting-more, putting-end}
+use Rattle.table.proofs.SpliceLaws.{put-fits, put-nothing}
 use Rattle.table.proofs.number.put_number.Statement.{statement}
 use Rattle.table.proofs.number.put_number.Tie as tie
 
-abbrev Inv-loop : tie.InvT-loop
-Inv-loop out₀ at value left₀ place₀ out left place = Putting out₀ at value out left place
+returns : tie.Need-returns
+returns c = put-nothing (omega (arith, c .if1 .taken))
 
-abbrev μ-loop : tie.MeasureT-loop
-μ-loop out₀ at value left₀ place₀ out left place = left
+returns-2 : tie.Need-returns-2
+returns-2 c = put-nothing (omega (arith, c .if2 .taken, c .before .number-length .ensures .1))
 
-loop-holds : tie.Need-loop-holds Inv-loop μ-loop
-loop-holds c = putting-none (search needs)
+put-fitting-requires : tie.Need-put-fitting-requires
+put-fitting-requires c κs = omega (arith, c .before .if2 .left, c .before .before .number-length .ensures .1)
 
-slice-write-out : tie.Need-slice-write-out Inv-loop μ-loop
-slice-write-out c = putting-room (c .before .loop .inv) (c .before .before .pre)
-
-add-place : tie.Need-add-place Inv-loop μ-loop
-add-place c = omega (arith, putting-room (c .before .loop .inv) (c .before .before .pre), c .before .loop .inv .long)
-
-loop-again : tie.Need-loop-again Inv-loop μ-loop
-loop-again c = putting-more (c .before .loop .inv) (c .before .before .pre) (c .loop-test .taken)
-
-slice-write-out-2 : tie.Need-slice-write-out-2 Inv-loop μ-loop
-slice-write-out-2 c = putting-room (c .before .loop .inv) (c .before .before .pre)
-
-add-result : tie.Need-add-result Inv-loop μ-loop
-add-result c = omega (arith, putting-room (c .before .loop .inv) (c .before .before .pre), c .before .loop .inv .long)
-
-same-length : tie.Need-same-length Inv-loop μ-loop
-same-length c = simp length-set (c .before .loop .inv .long)
-
-returns : tie.Need-returns Inv-loop μ-loop
-returns c = putting-end (c .before .loop .inv) (c .before .before .pre) (c .loop-test .left)
+returns-3 : tie.Need-returns-3
+returns-3 c =
+    let e = c .before .before .before .before in
+    put-fits (omega (arith, e .if2 .left, e .before .number-length .ensures .1)) (c .before .before .put-fitting .ensures)
 
 pub put-number-spec : {M : Type 1} → statement M
 put-number-spec =
     tie.close
-    (tie.spec
-    Inv-loop
-    μ-loop
-    loop-holds
-    (λ c. omega arith)
-    (λ c. omega arith)
-    slice-write-out
-    add-place
-    (λ c. omega arith)
-    loop-again
-    (λ c. omega arith)
-    slice-write-out-2
-    add-result
-    same-length
-    returns)
+    (tie.spec returns (λ c κs. search needs) returns-2 put-fitting-requires (λ c. search needs) returns-3)

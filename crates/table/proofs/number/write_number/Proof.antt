@@ -19,14 +19,14 @@ returns c = rw (wrote-short (numberBytes (c .before .before .before .args .value
 fits : (c : tie.Else1) → length (numberBytes (c .before .before .before .args .value)) ≤ length (c .before .before .before .args .out .now)
 fits c = omega (arith, long (c .before))
 
-put-number-requires : tie.Need-put-number-requires
-put-number-requires c κs = omega (arith, fits (c .before))
+put-fitting-requires : tie.Need-put-fitting-requires
+put-fitting-requires c κs = omega (arith, fits (c .before))
 
 returns-2 : tie.Need-returns-2
 returns-2 c =
     let e = c .before .before .before .before in
-    rw (wrote-fits (numberBytes (e .before .before .before .args .value)) (e .before .before .before .args .out .now) (fits e)) (ap accepts (long (e .before)), c .before .before .put-number .ensures .1)
+    rw (wrote-fits (numberBytes (e .before .before .before .args .value)) (e .before .before .before .args .out .now) (fits e)) (ap accepts (long (e .before)), c .before .before .put-fitting .ensures .1)
 
 pub write-number-spec : {M : Type 1} → statement M
 write-number-spec =
-    tie.close (tie.spec (λ c κs. search needs) returns put-number-requires (λ c. search needs) returns-2)
+    tie.close (tie.spec (λ c κs. search needs) returns put-fitting-requires (λ c. search needs) returns-2)

@@ -6,7 +6,7 @@ use lib.ListN.{length, take, getD}
 use lib.Seq.{take-suc}
 use borrow.Author.Needs.{needs}
 use Rattle.table.specs.Number.{bytesOf, numberBytes}
-use Rattle.table.proofs.SpliceLaws.{Put, put-none, put-length, put-one, bytes-room}
+use Rattle.table.proofs.SpliceLaws.{put-at, Put, put-none, put-length, put-one, bytes-room}
 use Rattle.table.proofs.trace.put_numbers.Statement.{statement}
 use Rattle.table.proofs.trace.put_numbers.Tie as tie
 
@@ -30,18 +30,15 @@ next-fits c =
 loop-holds : tie.Need-loop-holds Inv-loop μ-loop
 loop-holds c = (search needs, put-none)
 
-put-number-requires : tie.Need-put-number-requires Inv-loop μ-loop
-put-number-requires c κs =
-    let l = c .before .before in
-    omega (arith, next-fits l, put-length (l .before .loop .inv .1) (omega (arith, next-fits l)), l .before .loop .inv .1 .ends)
-
 loop-again : tie.Need-loop-again Inv-loop μ-loop
 loop-again c =
     let p = c .before .before in
     let l = p .before .before .before in
     let v = l .before .before .before .args .t1 .values in
     let i = l .before .loop .i in
-    (omega arith, rw (add-one, take-suc v i 0 (omega (arith, whole (l .before .before .before), l .loop-test .taken))) (put-one (l .before .loop .inv .1) (getD v i 0) (omega (arith, next-fits l)) (p .put-number .ensures .1) (p .put-number .ensures .0)))
+    let w = l .before .loop .inv .1 in
+    let e = put-at (omega (arith, next-fits l, put-length w (omega (arith, next-fits l)), w .ends)) (p .put-number .ensures) in
+    (omega arith, rw (add-one, take-suc v i 0 (omega (arith, whole (l .before .before .before), l .loop-test .taken))) (put-one w (getD v i 0) (omega (arith, next-fits l)) (e .1) (e .0)))
 
 all-put : (c : tie.After-loop Inv-loop μ-loop) → c .before .loop .i ≡ c .before .before .before .args .t1 .count
 all-put c = omega arith
@@ -61,7 +58,7 @@ put-numbers-spec =
     loop-holds
     (λ c. omega arith)
     (λ c. omega arith)
-    put-number-requires
+    (λ c κs. search needs)
     (λ c. omega arith)
     (λ c. omega arith)
     loop-again

@@ -4,10 +4,10 @@ use mathlib.Core.List.{_∷_, []}
 use native.Mathlib.Omega.{arith}
 use lib.ListN.{length}
 use Rattle.table.specs.Basics.{flat}
-use Rattle.table.specs.Number.{bytesOf, numberBytes}
+use Rattle.table.specs.Number.{bytesOf, numberBytes, PutAt}
 use Rattle.table.specs.Group.{listOf}
 use Rattle.table.specs.TableBytes.{pairNumbers}
-use Rattle.table.proofs.SpliceLaws.{Put, put-none, put-two}
+use Rattle.table.proofs.SpliceLaws.{put-at, Put, put-none, put-two}
 use Rattle.table.proofs.WriteLaws.{group-bytes, put-group}
 use borrow.Author.Needs.{needs}
 use Rattle.table.proofs.write.put_group.Statement.{statement}
@@ -17,26 +17,31 @@ use Rattle.table.proofs.write.put_group.Tie as tie
 room : (c : tie.Start) → c .args .at + (length (numberBytes (c .args .group .loads .count)) + length (numberBytes (c .args .group .stores .count)) + length (bytesOf (flat pairNumbers (listOf (c .args .loads .now) (c .args .group .loads)))) + length (bytesOf (flat pairNumbers (listOf (c .args .stores .now) (c .args .group .stores))))) ≤ length (c .args .out .now)
 room c = omega (arith, group-bytes (c .args .loads .now) (c .args .stores .now) (c .args .group), c .pre .1)
 
-put-number-requires : tie.Need-put-number-requires
-put-number-requires c κs =
-    omega (arith, room (c .before .before .before .before .before))
+-- each count is put
+abbrev start : tie.After-put-number → tie.Start
+start c = c .before .before .before .before .before .before
 
-put-number-requires-2 : tie.Need-put-number-requires-2
-put-number-requires-2 c κs =
-    let n = c .before .before .before .before in
-    omega (arith, room (n .before .before .before .before .before .before), n .put-number .ensures .0, n .put-number .kept .0)
+first-put : (c : tie.After-put-number) → let a = start c .args in
+    PutAt (a .out .now) (a .at) (numberBytes (a .group .loads .count)) (c .put-number .result) (c .put-number .last .0)
+first-put c = put-at (omega (arith, room (start c))) (c .put-number .ensures)
+
+second-put : (c : tie.After-put-number2) → let n = c .before .before .before .before .before in
+    PutAt (n .put-number .last .0) (n .put-number .result) (numberBytes (start n .args .group .stores .count)) (c .put-number2 .result) (c .put-number2 .last .0)
+second-put c =
+    let n = c .before .before .before .before .before in
+    put-at (omega (arith, room (start n), first-put n .0, n .put-number .kept .0)) (c .put-number2 .ensures)
 
 -- both counts have been put
 counts-put : (c : tie.After-put-number2) → Put (c .before .before .before .before .before .before .before .before .before .before .before .args .out .now) (c .before .before .before .before .before .before .before .before .before .before .before .args .at) (c .before .before .before .before .before .before .before .before .before .before .before .args .group .loads .count ∷ c .before .before .before .before .before .before .before .before .before .before .before .args .group .stores .count ∷ []) (c .put-number2 .last .0) (c .put-number2 .result)
 counts-put c =
     let n = c .before .before .before .before .before in
-    let s = n .before .before .before .before .before .before in
-    put-two put-none (s .args .group .loads .count) (s .args .group .stores .count) (omega (arith, room s)) (n .put-number .ensures .1) (n .put-number .ensures .0) (c .put-number2 .ensures .1) (c .put-number2 .ensures .0)
+    let s = start n in
+    put-two put-none (s .args .group .loads .count) (s .args .group .stores .count) (omega (arith, room s)) (first-put n .1) (first-put n .0) (second-put c .1) (second-put c .0)
 
 counts-end : (c : tie.After-put-number2) → (c .put-number2 .result ≡ c .before .before .before .before .before .before .before .before .before .before .before .args .at + length (numberBytes (c .before .before .before .before .before .before .before .before .before .before .before .args .group .loads .count)) + length (numberBytes (c .before .before .before .before .before .before .before .before .before .before .before .args .group .stores .count))) × (length (c .put-number2 .last .0) ≡ length (c .before .before .before .before .before .before .before .before .before .before .before .args .out .now))
 counts-end c =
     let n = c .before .before .before .before .before in
-    (omega (arith, n .put-number .ensures .0, c .put-number2 .ensures .0), omega (arith, n .put-number .kept .0, c .put-number2 .kept .0))
+    (omega (arith, first-put n .0, second-put c .0), omega (arith, n .put-number .kept .0, c .put-number2 .kept .0))
 
 put-pairs-requires : tie.Need-put-pairs-requires
 put-pairs-requires c κs =
@@ -74,9 +79,9 @@ put-group-spec =
     tie.close
     (tie.spec
     (λ c. search needs)
-    put-number-requires
+    (λ c κs. search needs)
     (λ c. search needs)
-    put-number-requires-2
+    (λ c κs. search needs)
     put-pairs-requires
     put-pairs-requires-2
     same-length

@@ -7,11 +7,11 @@ use lib.Seq.{take-all}
 use borrow.Author.Needs.{needs}
 use Rattle.table.specs.declared.Pair.{Pair}
 use Rattle.table.specs.Basics.{flat}
-use Rattle.table.specs.Number.{bytesOf, numberBytes}
+use Rattle.table.specs.Number.{bytesOf, numberBytes, PutAt}
 use Rattle.table.specs.Group.{listOf, blankPair}
 use Rattle.table.specs.TableBytes.{pairNumbers}
 use Rattle.table.proofs.CheckLaws.{view-length, view-at}
-use Rattle.table.proofs.SpliceLaws.{Put, put-none, put-length, put-two}
+use Rattle.table.proofs.SpliceLaws.{put-at, Put, put-none, put-length, put-two}
 use Rattle.table.proofs.WriteLaws.{flat-next, flat-room, pair-length}
 use Rattle.table.proofs.write.put_pairs.Statement.{statement}
 use Rattle.table.proofs.write.put_pairs.Tie as tie
@@ -60,26 +60,22 @@ mul-unpack-pair c = omega (arith, start (c .before) .pre .0)
 element-copy-out-unpack-pair : tie.Need-element-copy-out-unpack-pair Inv-loop μ-loop
 element-copy-out-unpack-pair c = omega (arith, start (c .before) .pre .0)
 
-put-number-requires : tie.Need-put-number-requires Inv-loop μ-loop
-put-number-requires c κs =
-    let u = c .before .before in
-    let w = turn u .before .loop .inv .1 in
-    omega (arith, room u, w .ends, put-length w (omega (arith, room u)))
-
--- where the offset ends
 abbrev puts : tie.After-put-number Inv-loop μ-loop → tie.After-unpack-pair Inv-loop μ-loop
 puts c = c .before .before .before
+
+-- the offset is put, and where it ends
+offset-put : (c : tie.After-put-number Inv-loop μ-loop) → let l = turn (puts c) .before .loop in
+    PutAt (l .out) (l .place) (numberBytes (puts c .unpack-pair .result .offset)) (c .put-number .result) (c .put-number .last .0)
+offset-put c =
+    let u = puts c in
+    let w = turn u .before .loop .inv .1 in
+    put-at (omega (arith, room u, w .ends, put-length w (omega (arith, room u)))) (c .put-number .ensures)
 
 first-ends : (c : tie.After-put-number Inv-loop μ-loop) → let l = turn (puts c) .before in
     (length (c .put-number .last .0) ≡ length (start l .args .out .now)) × (c .put-number .result ≡ start l .args .at + length (bytesOf (flat pairNumbers (take (l .loop .i) (listed l)))) + length (numberBytes (puts c .unpack-pair .result .offset)))
 first-ends c =
     let w = turn (puts c) .before .loop .inv .1 in
-    (c .put-number .kept .0 ∙ put-length w (omega (arith, room (puts c))), omega (arith, c .put-number .ensures .0, w .ends))
-
-put-number-requires-2 : tie.Need-put-number-requires-2 Inv-loop μ-loop
-put-number-requires-2 c κs =
-    let n = c .before .before .before .before in
-    omega (arith, room (puts n), first-ends n .0, first-ends n .1)
+    (c .put-number .kept .0 ∙ put-length w (omega (arith, room (puts c))), omega (arith, offset-put c .0, w .ends))
 
 -- the turn that ends
 abbrev ended : tie.After-slice-known3 Inv-loop μ-loop → tie.After-put-number Inv-loop μ-loop
@@ -101,8 +97,9 @@ loop-again c =
     let l = turn u in
     let i = l .before .loop .i in
     let p = u .unpack-pair .result in
+    let f = put-at (omega (arith, room u, first-ends n .0, first-ends n .1)) (m .put-number2 .ensures) in
     let q = flat-next pairNumbers (listed (l .before)) i blankPair (omega (arith, size (l .before), l .loop-test .taken)) in
-    (omega (arith, l .loop-test .taken), rw (q, this u) (put-two (l .before .loop .inv .1) (p .offset) (p .port) (omega (arith, room u)) (n .put-number .ensures .1) (n .put-number .ensures .0) (m .put-number2 .ensures .1) (m .put-number2 .ensures .0)))
+    (omega (arith, l .loop-test .taken), rw (q, this u) (put-two (l .before .loop .inv .1) (p .offset) (p .port) (omega (arith, room u)) (offset-put n .1) (offset-put n .0) (f .1) (f .0)))
 
 -- all pairs have been put
 done : (c : tie.After-loop Inv-loop μ-loop) → Put (start (c .before) .args .out .now) (start (c .before) .args .at) (flat pairNumbers (listed (c .before))) (c .before .loop .out) (c .before .loop .place)
@@ -128,9 +125,9 @@ put-pairs-spec =
     element-copy-out-unpack-pair
     (λ c κs. search needs)
     (λ c. search needs)
-    put-number-requires
+    (λ c κs. search needs)
     (λ c. search needs)
-    put-number-requires-2
+    (λ c κs. search needs)
     add-i
     loop-less
     loop-again

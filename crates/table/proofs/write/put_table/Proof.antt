@@ -7,12 +7,12 @@ use lib.Seq.{take-all}
 use borrow.Author.Needs.{needs}
 use Rattle.table.specs.declared.Table.{Table}
 use Rattle.table.specs.Basics.{flat}
-use Rattle.table.specs.Number.{numberBytes, bytesOf}
+use Rattle.table.specs.Number.{numberBytes, bytesOf, PutAt}
 use Rattle.table.specs.Group.{GroupPairs, pairsOf}
 use Rattle.table.specs.Table.{groupsIn, groupsOf}
 use Rattle.table.specs.TableBytes.{groupNumbers}
 use Rattle.table.proofs.CheckLaws.{groups-size, group-inside, group-at}
-use Rattle.table.proofs.SpliceLaws.{Put, put-none, put-two, put-more, put-length}
+use Rattle.table.proofs.SpliceLaws.{put-at, Put, put-none, put-two, put-more, put-length}
 use Rattle.table.proofs.WriteLaws.{flat-next, flat-room, table-size, put-table}
 use Rattle.table.proofs.write.put_table.Statement.{statement}
 use Rattle.table.proofs.write.put_table.Tie as tie
@@ -44,27 +44,30 @@ tableAt c = tableOf (start (fields (head c)))
 space : (c : tie.Start Inv-loop μ-loop) → length (numberBytes 2) + length (numberBytes (c .args .count)) + length (bytesOf (flat groupNumbers (groupsOf (tableOf c)))) ≤ length (c .args .out .now)
 space c = omega (arith, table-size (groupsOf (tableOf c)) (c .args .count) (groups-size (tableOf c)), c .pre .1)
 
-put-number-requires : tie.Need-put-number-requires Inv-loop μ-loop
-put-number-requires c κs = omega (arith, space (c .before .before))
-
-put-number-requires-2 : tie.Need-put-number-requires-2 Inv-loop μ-loop
-put-number-requires-2 c κs =
-    let n = c .before .before .before in
-    omega (arith, space (start n), n .put-number .ensures .0, n .put-number .kept .0)
-
 loop-holds : tie.Need-loop-holds Inv-loop μ-loop
 loop-holds c = (search needs, put-none)
+
+-- the head's numbers are put, one by one
+fields-put : (c : tie.After-put-number Inv-loop μ-loop) →
+    PutAt (start c .args .out .now) 0 (numberBytes 2) (c .put-number .result) (c .put-number .last .0)
+fields-put c = put-at (omega (arith, space (start c))) (c .put-number .ensures)
+
+count-put : (c : tie.After-put-number2 Inv-loop μ-loop) → let n = fields c in
+    PutAt (n .put-number .last .0) (n .put-number .result) (numberBytes (start n .args .count)) (c .put-number2 .result) (c .put-number2 .last .0)
+count-put c =
+    let n = fields c in
+    put-at (omega (arith, space (start n), fields-put n .0, n .put-number .kept .0)) (c .put-number2 .ensures)
 
 -- the head has been put
 head-put : (c : tie.After-put-number2 Inv-loop μ-loop) → Put (start (fields c) .args .out .now) 0 (2 ∷ start (fields c) .args .count ∷ []) (c .put-number2 .last .0) (c .put-number2 .result)
 head-put c =
     let n = fields c in
-    put-two put-none 2 (start n .args .count) (omega (arith, space (start n))) (n .put-number .ensures .1) (n .put-number .ensures .0) (c .put-number2 .ensures .1) (c .put-number2 .ensures .0)
+    put-two put-none 2 (start n .args .count) (omega (arith, space (start n))) (fields-put n .1) (fields-put n .0) (count-put c .1) (count-put c .0)
 
 head-end : (c : tie.After-put-number2 Inv-loop μ-loop) → (c .put-number2 .result ≡ length (numberBytes 2) + length (numberBytes (start (fields c) .args .count))) × (length (c .put-number2 .last .0) ≡ length (start (fields c) .args .out .now))
 head-end c =
     let n = fields c in
-    (omega (arith, n .put-number .ensures .0, c .put-number2 .ensures .0), omega (arith, n .put-number .kept .0, c .put-number2 .kept .0))
+    (omega (arith, fields-put n .0, count-put c .0), omega (arith, n .put-number .kept .0, c .put-number2 .kept .0))
 
 -- the group that a turn puts is the table's
 abbrev groupOf : tie.After-group-at Inv-loop μ-loop → GroupPairs
@@ -130,8 +133,8 @@ put-table-spec =
     (tie.spec
     Inv-loop
     μ-loop
-    put-number-requires
-    put-number-requires-2
+    (λ c κs. search needs)
+    (λ c κs. search needs)
     loop-holds
     (λ c κs. search needs)
     put-group-requires

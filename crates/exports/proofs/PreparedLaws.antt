@@ -2,7 +2,7 @@
 use Prim.Native.Nat.{ℕ}
 use mathlib.Core.Path.{_≡_, refl}
 use mathlib.Core.List.{List, []}
-use Rattle.table.specs.Number.{got, bad}
+use Rattle.number.specs.Number.{got, bad}
 use Rattle.table.specs.Group.{GroupPairs}
 use Rattle.table.specs.TableBytes.{readTable}
 use Rattle.queue.specs.Ruled.{Ruled, refuse, accept}

@@ -5,8 +5,8 @@ use mathlib.Core.List.{List, [], _∷_}
 use native.Mathlib.Omega.{arith}
 use lib.ListN.{length, set}
 use borrow.Author.Tests.{lt-leb, le-leb}
-use Rattle.table.specs.Refusal.{tooShort}
-use Rattle.table.specs.Number.{got, bad}
+use Rattle.number.specs.Refusal.{tooShort}
+use Rattle.number.specs.Number.{got, bad}
 use Rattle.table.specs.Group.{GroupPairs}
 use Rattle.table.specs.TableBytes.{readTable}
 use Rattle.queue.specs.declared.Counts.{Counts}

@@ -3,7 +3,7 @@ use Prim.Native.Nat.{ℕ}
 use mathlib.Core.List.{List, [], _∷_}
 use lib.Dec.{leb}
 use lib.ListN.{length, getD}
-use Rattle.table.specs.Refusal.{tooShort}
+use Rattle.number.specs.Refusal.{tooShort}
 use Rattle.queue.specs.declared.Counts.{Counts}
 use Rattle.queue.specs.Ruled.{Ruled, refuse, accept, need, andThen}
 use Rattle.replay.specs.Replay.{Replay, Buffers, tableIn, replay}

@@ -1,6 +1,6 @@
 -- The printed text, as a number of bytes.
 use Prim.Native.Nat.{ℕ}
-use Rattle.table.specs.Number.{Reply, accepts, refuses}
+use Rattle.number.specs.Number.{Reply, accepts, refuses}
 
 -- how many bytes were written; 0 where none were: no text is empty (`TextSome` of the crate `printed`)
 abbrev pub textLength : Reply ℕ → ℕ

@@ -9,6 +9,8 @@ ghost use Rattle.exports.specs.Text.{textLength};
 ghost use Rattle.exports.specs.Prepared.{prepared, eventCount, memoryLength};
 ghost use Rattle.exports.specs.Replay.{lent, replayLent, answered};
 ghost use Rattle.exports.specs.Internal.{Tells};
+use number::BytesWritten;
+use number::refusal::TOO_SHORT;
 use printed::text::print;
 use queue::Counts;
 use queue::counting::share;
@@ -16,9 +18,7 @@ use replay::Prepared;
 use replay::preparing::prepare;
 use replay::preparing::unprepared;
 use replay::replaying::replay;
-use table::Written;
 use table::read::read_table;
-use table::refusal::TOO_SHORT;
 
 // Reads the table and makes the trace ready.
 fn make_ready(table: &[u8], trace: &[u8]) -> Prepared
@@ -114,8 +114,8 @@ pub extern "C" fn lsq_text(table: &[u8], trace: &[u8], out: &mut [u8]) -> u64
 {
     let written = print(table, trace, out);
     match written {
-        Written::Bytes(n) => n as u64,
-        Written::Unwritten(_) => 0,
+        BytesWritten::Bytes(n) => n as u64,
+        BytesWritten::Unwritten(_) => 0,
     }
 }
 

@@ -4,7 +4,7 @@ use mathlib.Core.Path.{_≡_, refl, ap, _∙_}
 use mathlib.Core.List.{List, []}
 use mathlib.Core.Option.{Option}
 use Rattle.table.specs.declared.Table.{Table}
-use Rattle.table.specs.Refusal.{badGroupCount}
+use Rattle.number.specs.Refusal.{badGroupCount}
 use Rattle.table.specs.Table.{groupsOf, tableFault}
 use Rattle.table.specs.TableBytes.{pack}
 use Rattle.queue.specs.declared.opening.OpenedFrame.{OpenedFrame}

@@ -1,20 +1,20 @@
 // For C and Rust: a table read into its record, and tables, events and numbers written to lent buffers.
 ghost use mathlib.Core.Path.{_≡_};
-ghost use Rattle.table.specs.Number.{numberBytes, writtenReply, wrote};
+ghost use Rattle.number.specs.Number.{numberBytes, writtenReply, wrote};
 ghost use Rattle.table.specs.Table.{groupsOf};
 ghost use Rattle.table.specs.TableBytes.{readTable, tableAnswer, wroteTable};
-ghost use Rattle.table.specs.Event.{wroteEventOf};
-ghost use Rattle.live.specs.Bytes.{bytesWritten, tableFound};
+ghost use Rattle.trace.specs.Event.{wroteEventOf};
+ghost use Rattle.live.specs.Bytes.{liveWritten, tableFound};
+use number::BytesWritten;
+use number::writing::write_number;
 use table::Table;
-use table::Written;
-use table::number::write_number;
 use table::read::read_table;
-use table::trace::write_event_of;
 use table::write::write_table;
+use trace::writing::write_event_of;
 
 // What writing hands back: 0 and how many bytes were written, or the refusal and 0.
 #[repr(C)]
-pub struct BytesWritten {
+pub struct LiveWritten {
     pub answer: u32,
     pub count: u64,
 }
@@ -27,15 +27,15 @@ pub struct TableFound {
 }
 
 // The numbers of a writer's answer.
-fn bytes_written(written: Written) -> BytesWritten
-    ensures { λ r. ⌜ r ≡ bytesWritten (writtenReply written) ⌝ }
+fn live_written(written: BytesWritten) -> LiveWritten
+    ensures { λ r. ⌜ r ≡ liveWritten (writtenReply written) ⌝ }
 {
     match written {
-        Written::Bytes(n) => BytesWritten {
+        BytesWritten::Bytes(n) => LiveWritten {
             answer: 0,
             count: n as u64,
         },
-        Written::Unwritten(number) => BytesWritten {
+        BytesWritten::Unwritten(number) => LiveWritten {
             answer: number as u32,
             count: 0,
         },
@@ -57,35 +57,30 @@ pub extern "C" fn lsq_read_table(bytes: &[u8]) -> TableFound
 
 // Writes a table at the front of a buffer: 4, 5, 8, 6, 7, then 10.
 #[no_mangle]
-pub extern "C" fn lsq_write_table(table: Table, out: &mut [u8]) -> BytesWritten
+pub extern "C" fn lsq_write_table(table: Table, out: &mut [u8]) -> LiveWritten
     ensures { λ r. ⌜ (let done = wroteTable (groupsOf table) (now (out .entry)) in
-        (r ≡ bytesWritten (done .answer)) × (now (out .exit) ≡ done .buffer)) ⌝ }
+        (r ≡ liveWritten (done .answer)) × (now (out .exit) ≡ done .buffer)) ⌝ }
 {
     let written = write_table(table, out);
-    bytes_written(written)
+    live_written(written)
 }
 
 // Writes an event, by its kind and its numbers, at the front of a buffer: 35, then 10.
 #[no_mangle]
-pub extern "C" fn lsq_write_event(
-    kind: u32,
-    first: u32,
-    second: u32,
-    out: &mut [u8],
-) -> BytesWritten
+pub extern "C" fn lsq_write_event(kind: u32, first: u32, second: u32, out: &mut [u8]) -> LiveWritten
     ensures { λ r. ⌜ (let done = wroteEventOf kind first second (now (out .entry)) in
-        (r ≡ bytesWritten (done .answer)) × (now (out .exit) ≡ done .buffer)) ⌝ }
+        (r ≡ liveWritten (done .answer)) × (now (out .exit) ≡ done .buffer)) ⌝ }
 {
     let written = write_event_of(kind, first, second, out);
-    bytes_written(written)
+    live_written(written)
 }
 
 // Writes a number at the front of a buffer, in the fewest bytes: 10.
 #[no_mangle]
-pub extern "C" fn lsq_write_number(value: u32, out: &mut [u8]) -> BytesWritten
+pub extern "C" fn lsq_write_number(value: u32, out: &mut [u8]) -> LiveWritten
     ensures { λ r. ⌜ (let done = wrote (numberBytes value) (now (out .entry)) in
-        (r ≡ bytesWritten (done .answer)) × (now (out .exit) ≡ done .buffer)) ⌝ }
+        (r ≡ liveWritten (done .answer)) × (now (out .exit) ≡ done .buffer)) ⌝ }
 {
     let written = write_number(value, out);
-    bytes_written(written)
+    live_written(written)
 }

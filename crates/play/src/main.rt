@@ -3,9 +3,9 @@ ghost use Prim.Native.Nat.{_≤_};
 ghost use lib.ListN.{length};
 use libc::STDERR_FILENO;
 use libc::STDOUT_FILENO;
+use number::BytesWritten;
 use printed::text::MOST_BYTES;
 use printed::text::MOST_TEXT;
-use table::Written;
 
 // One byte more than a file may have, so that a longer file is seen to be too long.
 fn file_buffer() -> [u8; MOST_BYTES + 1] {
@@ -44,7 +44,7 @@ fn write_out(text: &[u8]) {
 fn show(table: &[u8], trace: &[u8]) {
     let mut out = text_buffer();
     let written = printed::text::print(table, trace, &mut out);
-    if let Written::Bytes(n) = written {
+    if let BytesWritten::Bytes(n) = written {
         write_out(&out[..n]);
     }
 }

@@ -1,10 +1,10 @@
 -- K1 to K10, proved together from the definitions, by computation.
 use mathlib.Core.Path.{refl}
-use Rattle.table.specs.Number.{numberUpTo, bytesUpTo}
+use Rattle.number.specs.Number.{numberUpTo, bytesUpTo}
 use Rattle.table.specs.Table.{pairsFault, seeing, groupFault, groupsFault, tableFault}
 use Rattle.table.specs.TableBytes.{readPairs, readGroup, readGroups, readTable}
-use Rattle.table.specs.Event.{readEvent, readHeader}
-use Rattle.table.specs.Trace.{eventsUpTo}
+use Rattle.trace.specs.Event.{readEvent, readHeader}
+use Rattle.trace.specs.Trace.{eventsUpTo}
 use Rattle.queue.specs.Sound.{sound}
 use Rattle.queue.specs.Open.{openQueue}
 use Rattle.queue.specs.Activate.{activate}

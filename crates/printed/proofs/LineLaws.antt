@@ -12,7 +12,7 @@ use lib.ListN.{length, getD, take, length-append}
 use lib.Seq.{take-suc, length-take-le, append-snoc}
 use borrow.Author.Tests.{eq-eqb, ne-eqb}
 use Rattle.printed.specs.Decimal.{decimal}
-use Rattle.table.specs.Basics.{pick}
+use Rattle.number.specs.Basics.{pick}
 use Rattle.queue.specs.declared.Counts.{Counts}
 use Rattle.queue.specs.Counts.{share}
 use Rattle.replay.specs.Playing.{Logged, answerOf, givenOf, wordOf, givenIn, wordIn}

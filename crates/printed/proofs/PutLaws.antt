@@ -10,8 +10,8 @@ use lib.Dec.{ltb}
 use lib.ListN.{length, getD, take, set, length-append}
 use lib.Seq.{take-suc, length-take-le}
 use borrow.Author.Tests.{lt-ltb, le-ltb}
-use Rattle.table.specs.Basics.{pick}
-use Rattle.table.proofs.SpliceLaws.{splice-none, splice-set, length-splice, splice-splice}
+use Rattle.number.specs.Basics.{pick}
+use Rattle.number.proofs.SpliceLaws.{splice-none, splice-set, length-splice, splice-splice}
 use Rattle.printed.specs.Decimal.{digitsUpTo, decimal}
 use Rattle.printed.specs.Internal.{Puts, item}
 

@@ -7,14 +7,14 @@ use native.Mathlib.Omega.{arith}
 use lib.Dec.{leb, ltb}
 use lib.ListN.{length, drop, replicate, length-append, length-set, length-replicate}
 use borrow.Author.Tests.{leb-true, ltb-false}
-use Rattle.table.specs.Basics.{pick}
-use Rattle.table.specs.Refusal.{tooShort}
-use Rattle.table.specs.Number.{Got, got, bad, accepts, Wrote, unwritten}
+use Rattle.number.specs.Basics.{pick}
+use Rattle.number.specs.Refusal.{tooShort, fileTooLong}
+use Rattle.number.specs.Number.{Got, got, bad, accepts, Wrote, unwritten}
 use Rattle.table.specs.Group.{GroupPairs}
 use Rattle.table.specs.TableBytes.{readTable}
-use Rattle.table.specs.declared.Event.{Event}
-use Rattle.table.specs.declared.Event.the-variants.{Activate, LoadAddress, StoreAddress, StoreData, Serve, Write, Take}
-use Rattle.table.specs.Event.{readHeader}
+use Rattle.trace.specs.declared.Event.{Event}
+use Rattle.trace.specs.declared.Event.the-variants.{Activate, LoadAddress, StoreAddress, StoreData, Serve, Write, Take}
+use Rattle.trace.specs.Event.{readHeader}
 use Rattle.queue.specs.declared.Counts.{Counts}
 use Rattle.queue.specs.declared.arguments.Argument.the-variants as Argument
 use Rattle.queue.specs.Counts.{share}
@@ -35,7 +35,7 @@ use Rattle.replay.specs.Playing.{Playing, playing, stepOf, played, log, playedA
 use Rattle.replay.specs.Replay.{Start, startOf, openTrace, prepare, replayed}
 use Rattle.replay.specs.Outcome.{placeIn}
 use Rattle.replay.proofs.EventLaws.{events-few-from}
-use Rattle.printed.specs.Text.{mostBytes, fileTooLong, tableFaultText, traceFaultText, noCounts, eventLines, wordLines, countsLine, playText}
+use Rattle.printed.specs.Text.{mostBytes, tableFaultText, traceFaultText, noCounts, eventLines, wordLines, countsLine, playText}
 use Rattle.printed.specs.Text.{startText, traceText, groupsText, text}
 use Rattle.replay.proofs.PrepareLaws.{events-place}
 use Rattle.printed.specs.Outcome.{mostText, TextFits, TextSome, printed}

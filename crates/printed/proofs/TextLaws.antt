@@ -7,13 +7,13 @@ use native.Mathlib.Nat.{zero-add}
 use lib.Dec.{leb}
 use lib.ListN.{length, take, drop, replicate, length-append, length-map, length-replicate}
 use borrow.Author.Tests.{lt-ltb, le-ltb, lt-leb, le-leb, leb-true}
-use Rattle.table.specs.Refusal.{tooShort}
-use Rattle.table.specs.Number.{Got, got, bad, accepts, unwritten}
+use Rattle.number.specs.Refusal.{tooShort, fileTooLong}
+use Rattle.number.specs.Number.{Got, got, bad, accepts, unwritten}
 use Rattle.table.specs.Group.{GroupPairs}
 use Rattle.table.specs.TableBytes.{readTable}
-use Rattle.table.specs.declared.Event.{Event}
-use Rattle.table.specs.declared.Header.{Header}
-use Rattle.table.proofs.SpliceLaws.{splice-front}
+use Rattle.trace.specs.declared.Event.{Event}
+use Rattle.trace.specs.declared.Header.{Header}
+use Rattle.number.proofs.SpliceLaws.{splice-front}
 use Rattle.queue.specs.Ruled.{refuse, accept}
 use Rattle.queue.specs.Contents.{Contents}
 use Rattle.queue.proofs.Lists.{and-right}
@@ -26,7 +26,7 @@ use Rattle.replay.specs.Outcome.{Replays, Replayed-as}
 use Rattle.replay.proofs.Named.{named, not-nought, events-named}
 use Rattle.replay.proofs.EventLaws.{events-few-from}
 use Rattle.replay.proofs.ReplayLaws.{replay-accepted, long-enough}
-use Rattle.printed.specs.Text.{mostBytes, fileTooLong, traceFaultText, tableFaultText, noCounts, runText, playText, startText, traceText, text}
+use Rattle.printed.specs.Text.{mostBytes, traceFaultText, tableFaultText, noCounts, runText, playText, startText, traceText, text}
 use Rattle.printed.specs.Outcome.{mostText, printed}
 use Rattle.printed.specs.Internal.{Puts, rows, Printable}
 use Rattle.printed.proofs.LineLaws.{rows-log}

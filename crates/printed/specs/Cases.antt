@@ -2,7 +2,7 @@
 use Prim.Native.Nat.{ℕ}
 use mathlib.Core.Path.{_≡_}
 use mathlib.Core.List.{List, [], _∷_, _++_, map}
-use Rattle.table.specs.Number.{Got, got, bad, readNumber, numberBytes}
+use Rattle.number.specs.Number.{Got, got, bad, readNumber, numberBytes}
 use Rattle.table.specs.Group.{GroupPairs, Access, load, store, order}
 use Rattle.table.specs.Table.{noneSeen}
 use Rattle.table.specs.TableBytes.{readGroup, readTable}

@@ -2,7 +2,7 @@
 use Prim.Native.Nat.{ℕ, zero, suc, _+_, _/_, _%_}
 use mathlib.Core.List.{List, [], _∷_, _++_}
 use lib.Dec.{ltb}
-use Rattle.table.specs.Basics.{pick}
+use Rattle.number.specs.Basics.{pick}
 
 -- one digit, and up to `more` before it
 unfoldable pub digitsUpTo : ℕ → ℕ → List ℕ

@@ -5,7 +5,7 @@ use mathlib.Core.List.{List, [], _∷_, _++_}
 use mathlib.Core.Option.{none, some}
 use lib.Dec.{eqb}
 use lib.ListN.{length, replicate}
-use Rattle.table.specs.Basics.{pick, splice}
+use Rattle.number.specs.Basics.{pick, splice}
 use Rattle.queue.specs.Contents.{Contents}
 use Rattle.replay.specs.Playing.{Logged}
 use Rattle.printed.specs.Decimal.{decimal}

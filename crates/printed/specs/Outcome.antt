@@ -3,9 +3,9 @@ use Prim.Native.Nat.{ℕ, _+_, _*_, _≤_, _<_}
 use mathlib.Core.List.{List, _++_}
 use lib.Dec.{leb}
 use lib.ListN.{length, drop}
-use Rattle.table.specs.Basics.{pick}
-use Rattle.table.specs.Refusal.{tooShort}
-use Rattle.table.specs.Number.{accepts, Wrote, unwritten}
+use Rattle.number.specs.Basics.{pick}
+use Rattle.number.specs.Refusal.{tooShort}
+use Rattle.number.specs.Number.{accepts, Wrote, unwritten}
 use Rattle.printed.specs.Text.{mostBytes, text}
 
 -- No text is longer (`TextFits`): an event's line takes at most 63 bytes and there are no more events than bytes, a word's line takes at

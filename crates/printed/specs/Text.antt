@@ -4,8 +4,8 @@ use mathlib.Core.List.{List, [], _∷_, _++_}
 use mathlib.Core.Option.{Option, none, some}
 use lib.Dec.{eqb, ltb}
 use lib.ListN.{length, replicate}
-use Rattle.table.specs.Basics.{pick}
-use Rattle.table.specs.Number.{Got, got, bad}
+use Rattle.number.specs.Basics.{pick}
+use Rattle.number.specs.Number.{Got, got, bad}
 use Rattle.table.specs.Group.{GroupPairs}
 use Rattle.table.specs.TableBytes.{readTable}
 use Rattle.queue.specs.declared.Counts.{Counts}
@@ -15,14 +15,11 @@ use Rattle.replay.specs.Playing.{Logged}
 use Rattle.replay.specs.Replay.{Start, prepare, Replay, replayed}
 use Rattle.printed.specs.Words.{bytes, line}
 use Rattle.printed.specs.Decimal.{decimal}
+use Rattle.number.specs.Refusal.{fileTooLong}
 
 -- "each at most 16,384 bytes (else 36, checked first for that file)"
 abbrev pub mostBytes : ℕ
 mostBytes = 16384
-
--- the refusal of a file above 16,384 bytes
-abbrev pub fileTooLong : ℕ
-fileTooLong = 36
 
 -- the value of an accepted serve or take, else `-`
 abbrev pub shown : Option ℕ → List ℕ

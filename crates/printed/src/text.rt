@@ -2,7 +2,7 @@
 ghost use mathlib.Core.Path.{_≡_};
 ghost use Prim.Native.Nat.{_≤_};
 ghost use lib.ListN.{length, replicate};
-ghost use Rattle.table.specs.Number.{HasWritten};
+ghost use Rattle.number.specs.Number.{HasWritten};
 ghost use Rattle.table.specs.Table.{groupsOf};
 ghost use Rattle.queue.specs.Contents.{contentsOf};
 ghost use Rattle.replay.specs.Events.{eventsFrom};
@@ -12,14 +12,14 @@ ghost use Rattle.printed.specs.Outcome.{mostText, printed};
 ghost use Rattle.printed.specs.Internal.{Puts, Printable};
 use crate::lines::put_run;
 use crate::put::put_item;
+use number::BytesWritten;
+use number::refusal::TOO_SHORT;
 use queue::Counts;
 use queue::Queue;
 use replay::preparing::open_trace;
 use replay::replaying::replay_from;
 use table::Table;
-use table::Written;
 use table::read::read_table;
-use table::refusal::TOO_SHORT;
 
 // A file is at most this long.
 pub const MOST_BYTES: usize = 16384;
@@ -110,11 +110,11 @@ fn put_text(out: &mut [u8], table: &[u8], trace: &[u8]) -> usize
 }
 
 // Writes the text of both files' bytes at the front of a buffer that has room for every text.
-pub fn print(table: &[u8], trace: &[u8], out: &mut [u8]) -> Written
+pub fn print(table: &[u8], trace: &[u8], out: &mut [u8]) -> BytesWritten
     ensures { λ r. ⌜ HasWritten (printed (now (table .entry)) (now (trace .entry)) (now (out .entry))) r (now (out .exit)) ⌝ }
 {
     if out.len() < MOST_TEXT {
-        return Written::Unwritten(TOO_SHORT);
+        return BytesWritten::Unwritten(TOO_SHORT);
     }
-    Written::Bytes(put_text(out, table, trace))
+    BytesWritten::Bytes(put_text(out, table, trace))
 }

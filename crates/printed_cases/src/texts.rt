@@ -1,7 +1,7 @@
 // The text of both files, in a buffer whose bytes are EE before.
 use crate::show;
+use number::BytesWritten;
 use printed::text::MOST_TEXT;
-use table::Written;
 
 fn text_buffer() -> [u8; MOST_TEXT] {
     [0xEE; MOST_TEXT]
@@ -25,13 +25,13 @@ fn show_kept(out: &[u8], from: usize) {
 }
 
 // What came back: the refusal, or the text's length and whether the rest of the buffer is kept, and then the text.
-fn show_text(out: &[u8], written: Written) {
+fn show_text(out: &[u8], written: BytesWritten) {
     match written {
-        Written::Unwritten(refusal) => {
+        BytesWritten::Unwritten(refusal) => {
             show::number(b": ", refusal as u64);
             show_kept(out, 0);
         }
-        Written::Bytes(n) => {
+        BytesWritten::Bytes(n) => {
             show::number(b": bytes ", n as u64);
             show_kept(out, n);
             show::words(b"\n");
@@ -88,7 +88,7 @@ fn show_end(out: &[u8], n: usize) {
 pub(crate) fn measure(table: &[u8], trace: &[u8]) {
     let mut out = text_buffer();
     let written = printed::text::print(table, trace, &mut out);
-    if let Written::Bytes(n) = written {
+    if let BytesWritten::Bytes(n) = written {
         show::number(b": bytes ", n as u64);
         show_end(&out, n);
     }

@@ -11,16 +11,15 @@ use borrow.Author.Tests.{leb-true}
 use Rattle.table.specs.declared.Pair.{Pair}
 use Rattle.table.specs.declared.Span.{Span}
 use Rattle.table.specs.declared.Group.{Group}
-use Rattle.table.specs.Group.{GroupPairs, blankPair, listOf, pairsOf, Inside, Access, load, store, order}
+use Rattle.table.specs.Group.{GroupPairs, blankPair, listOf, pairsOf, Inside, Access, load, store, order, loadPairs, storePairs}
 use Rattle.table.specs.Table.{groupAt, groupsOf}
 use Rattle.table.proofs.CheckLaws.{view-length, groups-size}
-use Rattle.table.specs.ProgramOrder.{loadPairs, storePairs}
 use Rattle.table.proofs.OrderOffsets.{GroupRight}
 use Rattle.queue.specs.declared.Queue.{Queue}
 use Rattle.queue.specs.Contents.{Contents, loadOf, storeOf, loadIn, storeIn, contentsOf}
 use Rattle.queue.specs.declared.Entry.{Entry}
 use Rattle.queue.specs.Entry.{entryOf}
-use Rattle.queue.specs.Refusal.{unsound, noGroup, noPlace}
+use Rattle.number.specs.Refusal.{unsound, noGroup, noPlace}
 use Rattle.queue.specs.Ruled.{refuse, accept, need}
 use Rattle.queue.specs.Sound.{sound}
 use Rattle.queue.specs.Activate.{newLoads, newStores, room, withGroup, activate}

@@ -8,7 +8,7 @@ use mathlib.Core.List.{List, [], _∷_}
 use lib.Dec.{ltb}
 use lib.ListN.{length, getD}
 use borrow.Author.Tests.{lt-ltb, le-ltb, ltb-true, ltb-false}
-use Rattle.table.specs.Basics.{pick, anyOf}
+use Rattle.number.specs.Basics.{pick, anyOf}
 use Rattle.table.specs.Table.{groupsOf}
 use Rattle.queue.specs.declared.Entry.{Entry}
 use Rattle.queue.specs.declared.Side.{Side}
@@ -17,7 +17,7 @@ use Rattle.queue.specs.declared.Queue.{Queue}
 use Rattle.queue.specs.declared.arguments.Argument.{Argument}
 use Rattle.queue.specs.declared.arguments.Argument.the-variants.{LoadAddress, StoreAddress, StoreData}
 use Rattle.queue.specs.Kind.{ofKind}
-use Rattle.queue.specs.Refusal.{unsound, noPort, badAddress, noneWaits}
+use Rattle.number.specs.Refusal.{unsound, noPort, badAddress, noneWaits}
 use Rattle.queue.specs.Ruled.{accept, need}
 use Rattle.queue.specs.Entry.{entryOf, numberOf, Small}
 use Rattle.queue.specs.Contents.{Load, Store, Contents, loadOf, storeOf, contentsOf, withLoads, withStores, updateAt, firstPlace}

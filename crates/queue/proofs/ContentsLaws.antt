@@ -7,7 +7,7 @@ use mathlib.Core.List.{List, [], _∷_, map}
 use mathlib.Core.Option.{none, some}
 use lib.ListN.{length, getD, take, drop, set, replicate, length-map, length-set, getD-replicate, List·getD-map, drop-of-length-le, getElem?}
 use lib.Seq.{take-set-lt, drop-cons}
-use Rattle.table.specs.Basics.{held}
+use Rattle.number.specs.Basics.{held}
 use Rattle.table.proofs.CheckLaws.{held-few, held-length}
 use Rattle.queue.specs.declared.Queue.{Queue}
 use Rattle.queue.specs.Contents.{Load, Store, loadIn, storeIn, contentsOf, withLoads, withStores, updateAt, age, oldest, loadPlace, storePlace}

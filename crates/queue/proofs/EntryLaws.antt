@@ -7,7 +7,7 @@ use mathlib.Core.List.{List, [], _∷_, map, map-map}
 use mathlib.Core.Option.{none, some}
 use lib.Dec.{eqb, ltb}
 use lib.ListN.{length}
-use Rattle.table.specs.Basics.{pick, held, allOf, frontWhile}
+use Rattle.number.specs.Basics.{pick, held, allOf, frontWhile}
 use Rattle.queue.specs.declared.Entry.{Entry}
 use Rattle.queue.specs.declared.entries.Mark.the-variants.{Addressed, Filled, Finished}
 use Rattle.queue.specs.Ruled.{isSome}

@@ -8,11 +8,11 @@ use mathlib.Core.List.{List, [], _∷_}
 use lib.Dec.{eqb, leb, ltb}
 use lib.ListN.{length}
 use borrow.Author.Tests.{eqb-true, eqb-false, lt-ltb, le-ltb, ltb-true, ltb-false, leb-true}
-use Rattle.table.specs.Basics.{pick, anyOf, allOf, keepWhere}
+use Rattle.number.specs.Basics.{pick, anyOf, allOf, keepWhere}
 use Rattle.table.specs.Table.{tableFault}
 use Rattle.queue.specs.declared.Kind.{Kind}
 use Rattle.queue.specs.declared.Kind.the-variants.{Load as load, Store as store}
-use Rattle.queue.specs.Refusal.{unsound}
+use Rattle.number.specs.Refusal.{unsound}
 use Rattle.queue.specs.Contents.{Contents, after, age}
 use Rattle.queue.specs.Sound.{depthRight, memoryRight, loadRight, storeRight, sound}
 use Rattle.queue.specs.Serve.{serve}

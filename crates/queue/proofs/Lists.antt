@@ -7,7 +7,7 @@ use mathlib.Core.Bool.{Bool, true, false, not, _&&_, _||_, false≢true}
 use mathlib.Core.List.{List, [], _∷_, _++_, map, head-eq-of-cons-eq, tail-eq-of-cons-eq}
 use mathlib.Core.Option.{Option, none, some}
 use lib.ListN.{length, take, getElem?}
-use Rattle.table.specs.Basics.{pick, anyOf, allOf, countWhere, frontWhile, afterWhile}
+use Rattle.number.specs.Basics.{pick, anyOf, allOf, countWhere, frontWhile, afterWhile}
 use Rattle.queue.specs.Ruled.{isSome}
 use Rattle.queue.specs.Contents.{updateAt, firstPlace}
 

@@ -10,7 +10,7 @@ use borrow.Author.Tests.{not-true, not-false, eqb-true, eq-eqb, ne-eqb}
 use Rattle.queue.specs.declared.Queue.{Queue}
 use Rattle.queue.specs.declared.Frame.{Frame}
 use Rattle.queue.specs.declared.opening.OpenedFrame.{OpenedFrame}
-use Rattle.queue.specs.Refusal.{unsound}
+use Rattle.number.specs.Refusal.{unsound}
 use Rattle.queue.specs.Ruled.{Ruled, refuse, accept, need}
 use Rattle.queue.specs.Contents.{Contents, contentsOf}
 use Rattle.queue.specs.Sound.{sound}

@@ -12,7 +12,7 @@ use lib.Dec.{eqb, leb}
 use lib.ListN.{length, getD, take, drop, set, length-append, length-drop, length-replicate, getElem?}
 use lib.Seq.{length-take-le, take-append-seam}
 use borrow.Author.Tests.{not-true}
-use Rattle.table.specs.Basics.{pick, allOf, keepWhere}
+use Rattle.number.specs.Basics.{pick, allOf, keepWhere}
 use Rattle.queue.specs.declared.Kind.{Kind}
 use Rattle.queue.specs.declared.Kind.the-variants.{Load as load, Store as store}
 use Rattle.queue.specs.declared.Side.{Side}
@@ -21,8 +21,7 @@ use Rattle.queue.specs.declared.ready.ReadyCount.{ReadyCount}
 use Rattle.queue.specs.declared.Entry.{Entry}
 use Rattle.queue.specs.declared.Queue.{Queue}
 use Rattle.queue.specs.declared.Readied.{Readied}
-use Rattle.table.specs.Refusal.{tooShort}
-use Rattle.queue.specs.Refusal.{unsound, noSerial}
+use Rattle.number.specs.Refusal.{tooShort, unsound, noSerial}
 use Rattle.queue.specs.Ruled.{Ruled, refuse, accept, need, have, andThen, accepted, isSome, number}
 use Rattle.queue.specs.Contents.{Load, Store, Contents, loadOf, loadIn, storeIn, contentsOf, after, age, oldest, loadPlace, storePlace}
 use Rattle.queue.specs.Entry.{entryOf}

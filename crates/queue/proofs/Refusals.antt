@@ -11,7 +11,7 @@ use borrow.Author.Tests.{not-true, ltb-true}
 use Rattle.queue.specs.declared.Kind.{Kind}
 use Rattle.queue.specs.Ruled.{Ruled, refuse, accept, number, accepted, need, have, andThen, isSome}
 use Rattle.queue.specs.Contents.{Load, Store, Contents, loadPlace, storePlace, firstPlace}
-use Rattle.table.specs.Basics.{anyOf, allOf}
+use Rattle.number.specs.Basics.{anyOf, allOf}
 use Rattle.queue.specs.Sound.{sound}
 use Rattle.queue.specs.Activate.{activate, room}
 use Rattle.queue.specs.Arguments.{kindOf, namesPort, inRange, waits, filled, give}

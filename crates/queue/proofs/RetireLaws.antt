@@ -8,7 +8,7 @@ use mathlib.Core.Bool.{Bool, true, false}
 use mathlib.Core.List.{List, [], _∷_, _++_, map, map-map}
 use lib.ListN.{length, getD, take, drop, set, length-map, length-append, length-drop}
 use lib.Seq.{getD-drop, getD-append-add, length-take-le, take-at, take-nil}
-use Rattle.table.specs.Basics.{pick, frontWhile, afterWhile}
+use Rattle.number.specs.Basics.{pick, frontWhile, afterWhile}
 use Rattle.queue.specs.declared.Frame.{Frame}
 use Rattle.queue.specs.declared.Entry.{Entry}
 use Rattle.queue.specs.Entry.{entryOf, numberOf, Small}

@@ -11,7 +11,7 @@ use Rattle.queue.specs.declared.Entry.{Entry}
 use Rattle.queue.specs.declared.Queue.{Queue}
 use Rattle.queue.specs.declared.Counts.{Counts}
 use Rattle.queue.specs.declared.serving.Service.{Service}
-use Rattle.queue.specs.Refusal.{unsound, wrongMemory, noSerial, alreadyDone, noAddress}
+use Rattle.number.specs.Refusal.{unsound, wrongMemory, noSerial, alreadyDone, noAddress}
 use Rattle.queue.specs.Ruled.{refuse, accept, have, andThen, isSome}
 use Rattle.queue.specs.Contents.{Load, Store, Contents, loadOf, loadIn, storeIn, contentsOf, age, oldest, loadPlace}
 use Rattle.queue.specs.Entry.{entryOf}

@@ -8,7 +8,7 @@ use mathlib.Core.Option.{none, some}
 use lib.Dec.{leb, eqb}
 use lib.ListN.{length, getD}
 use borrow.Author.Tests.{leb-true, ltb-true, eqb-true}
-use Rattle.table.specs.Basics.{pick, allOf, within}
+use Rattle.number.specs.Basics.{pick, allOf, within}
 use Rattle.table.specs.Table.{groupsOf, tableFault}
 use Rattle.queue.specs.declared.Queue.{Queue}
 use Rattle.queue.specs.Contents.{loadOf, storeOf, loadIn, storeIn, contentsOf}

@@ -6,7 +6,7 @@ use mathlib.Core.List.{List, [], _∷_, _++_, map, append-nil}
 use mathlib.Core.Option.{Option, none, some}
 use lib.ListN.{getD, drop}
 use borrow.Author.Tests.{not-true, not-false}
-use Rattle.table.specs.Basics.{pick, allOf}
+use Rattle.number.specs.Basics.{pick, allOf}
 use Rattle.queue.specs.declared.Entry.{Entry}
 use Rattle.queue.specs.Ruled.{accept}
 use Rattle.queue.specs.Contents.{Store, storeOf}

@@ -4,11 +4,11 @@ use mathlib.Core.Path.{_≡_, _∙_}
 use mathlib.Core.Bool.{true, false}
 use mathlib.Core.Option.{some}
 use lib.ListN.{getD, getElem?}
-use Rattle.table.specs.Basics.{anyOf}
+use Rattle.number.specs.Basics.{anyOf}
 use Rattle.table.specs.Table.{groupsOf}
 use Rattle.queue.specs.declared.Entry.{Entry}
 use Rattle.queue.specs.declared.Queue.{Queue}
-use Rattle.queue.specs.Refusal.{unsound, noPort, noneUntaken, notServed}
+use Rattle.number.specs.Refusal.{unsound, noPort, noneUntaken, notServed}
 use Rattle.queue.specs.Ruled.{refuse, accept}
 use Rattle.queue.specs.Contents.{loadOf, loadIn, contentsOf, withLoads, updateAt, firstPlace}
 use Rattle.queue.specs.Entry.{entryOf}

@@ -7,7 +7,7 @@ use mathlib.Core.Path.{_≡_, refl, sym, _∙_}
 use mathlib.Core.Bool.{Bool, true, false}
 use mathlib.Core.List.{List, [], _∷_}
 use lib.ListN.{drop}
-use Rattle.table.specs.Basics.{anyOf, allOf}
+use Rattle.number.specs.Basics.{anyOf, allOf}
 use Rattle.queue.specs.Contents.{firstPlace}
 use Rattle.queue.specs.Retire.{retiring}
 

@@ -8,10 +8,10 @@ use mathlib.Core.Option.{Option, some}
 use lib.Dec.{eqb}
 use lib.ListN.{length, getD, take, getElem?}
 use borrow.Author.Tests.{eq-eqb, ne-eqb}
-use Rattle.table.specs.Basics.{allOf}
+use Rattle.number.specs.Basics.{allOf}
 use Rattle.queue.specs.declared.Entry.{Entry}
 use Rattle.queue.specs.declared.Queue.{Queue}
-use Rattle.queue.specs.Refusal.{unsound, wrongMemory, noSerial, alreadyDone, noAddress, noData, earlierLoadInWay, earlierStoreInWay}
+use Rattle.number.specs.Refusal.{unsound, wrongMemory, noSerial, alreadyDone, noAddress, noData, earlierLoadInWay, earlierStoreInWay}
 use Rattle.queue.specs.Ruled.{Ruled, refuse, accept, have, andThen, number}
 use Rattle.queue.specs.Contents.{Load, Store, Contents, storeOf, loadIn, storeIn, contentsOf, age, oldest, storePlace}
 use Rattle.queue.specs.Entry.{entryOf}

@@ -7,7 +7,7 @@ use mathlib.Core.Option.{none}
 use lib.Dec.{leb}
 use lib.ListN.{length, getElem?}
 use Rattle.table.specs.Group.{GroupPairs, Access, load, store, order}
-use Rattle.queue.specs.Refusal.{unsound, noGroup, noPlace}
+use Rattle.number.specs.Refusal.{unsound, noGroup, noPlace}
 use Rattle.queue.specs.Ruled.{Ruled, accept, need, have}
 use Rattle.queue.specs.Contents.{Load, Store, Contents, after}
 use Rattle.queue.specs.Sound.{sound}

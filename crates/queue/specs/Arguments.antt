@@ -5,7 +5,7 @@ use mathlib.Core.Bool.{Bool, true, not, _&&_}
 use mathlib.Core.List.{List}
 use mathlib.Core.Option.{some}
 use lib.Dec.{eqb, ltb}
-use Rattle.table.specs.Basics.{anyOf}
+use Rattle.number.specs.Basics.{anyOf}
 use Rattle.table.specs.declared.Pair.{Pair}
 use Rattle.table.specs.Group.{GroupPairs}
 use Rattle.queue.specs.declared.Kind.{Kind}
@@ -13,7 +13,7 @@ use Rattle.queue.specs.declared.Kind.the-variants.{Load as load, Store a
 use Rattle.queue.specs.declared.arguments.Argument.{Argument}
 use Rattle.queue.specs.declared.arguments.Argument.the-variants.{LoadAddress, StoreAddress, StoreData}
 use Rattle.queue.specs.Kind.{ofKind}
-use Rattle.queue.specs.Refusal.{unsound, noPort, badAddress, noneWaits}
+use Rattle.number.specs.Refusal.{unsound, noPort, badAddress, noneWaits}
 use Rattle.queue.specs.Ruled.{Ruled, accept, need, isSome}
 use Rattle.queue.specs.Contents.{Load, Store, Contents, withLoads, withStores, updateAt, firstPlace}
 use Rattle.queue.specs.Sound.{sound}

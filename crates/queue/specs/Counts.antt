@@ -4,7 +4,7 @@
 use Prim.Native.Nat.{ℕ, _+_, _*_, _/_}
 use mathlib.Core.Bool.{Bool, _||_}
 use lib.Dec.{eqb}
-use Rattle.table.specs.Basics.{pick}
+use Rattle.number.specs.Basics.{pick}
 use Rattle.queue.specs.declared.Counts.{Counts}
 
 -- a count stands where it can go no further

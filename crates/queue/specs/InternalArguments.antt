@@ -4,13 +4,13 @@ use mathlib.Core.Path.{_≡_}
 use mathlib.Core.List.{List}
 use lib.Dec.{ltb}
 use lib.ListN.{getD, set}
-use Rattle.table.specs.Basics.{pick}
+use Rattle.number.specs.Basics.{pick}
 use Rattle.queue.specs.declared.Entry.{Entry}
 use Rattle.queue.specs.declared.entries.Mark.{Mark}
 use Rattle.queue.specs.declared.entries.Mark.the-variants.{Addressed, Filled}
 use Rattle.queue.specs.declared.arguments.Argument.{Argument}
 use Rattle.queue.specs.declared.arguments.Argument.the-variants.{LoadAddress, StoreAddress, StoreData}
-use Rattle.queue.specs.Refusal.{noneWaits}
+use Rattle.number.specs.Refusal.{noneWaits}
 use Rattle.queue.specs.Entry.{entryOf, numberOf}
 use Rattle.queue.specs.Contents.{firstPlace}
 use Rattle.queue.specs.Internal.{lacks, withAddress, withWord, entriesIn}

@@ -5,8 +5,8 @@ use mathlib.Core.Bool.{Bool}
 use mathlib.Core.List.{List, [], _∷_, _++_}
 use lib.Dec.{leb}
 use lib.ListN.{length, getD, take, drop}
-use Rattle.table.specs.Basics.{pick}
-use Rattle.table.specs.Refusal.{tooShort}
+use Rattle.number.specs.Basics.{pick}
+use Rattle.number.specs.Refusal.{tooShort}
 use Rattle.queue.specs.declared.Kind.{Kind}
 use Rattle.queue.specs.declared.Kind.the-variants.{Load as load, Store as store}
 use Rattle.queue.specs.declared.ready.Serials.{Serials}

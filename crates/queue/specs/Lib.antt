@@ -1,5 +1,4 @@
 -- What the calls of the queue mean, in the order of document 01.
-pub mod Refusal
 pub mod Ruled
 pub mod Kind
 pub mod Entry

@@ -6,14 +6,14 @@ use mathlib.Core.List.{List, []}
 use lib.Dec.{leb, eqb}
 use lib.ListN.{length, replicate}
 use Rattle.table.specs.declared.Table.{Table}
-use Rattle.table.specs.Basics.{allOf}
+use Rattle.number.specs.Basics.{allOf}
 use Rattle.table.specs.Group.{GroupPairs}
 use Rattle.table.specs.Table.{tableFault}
 use Rattle.table.specs.TableBytes.{pack}
 use Rattle.queue.specs.declared.Side.{Side}
 use Rattle.queue.specs.declared.Frame.{Frame}
 use Rattle.queue.specs.declared.Queue.{Queue}
-use Rattle.queue.specs.Refusal.{badLoadDepth, badStoreDepth, badMemoryLength, groupTooLarge}
+use Rattle.number.specs.Refusal.{badLoadDepth, badStoreDepth, badMemoryLength, groupTooLarge}
 use Rattle.queue.specs.Ruled.{Ruled, accept, need}
 use Rattle.queue.specs.Contents.{Contents}
 use Rattle.queue.specs.Sound.{depthRight, memoryRight}

@@ -6,13 +6,12 @@ use mathlib.Core.Bool.{Bool}
 use mathlib.Core.List.{List, [], _∷_, _++_}
 use lib.Dec.{eqb, leb}
 use lib.ListN.{length, drop, replicate}
-use Rattle.table.specs.Basics.{anyOf, keepWhere}
-use Rattle.table.specs.Refusal.{tooShort}
+use Rattle.number.specs.Basics.{anyOf, keepWhere}
+use Rattle.number.specs.Refusal.{tooShort, unsound}
 use Rattle.queue.specs.declared.Kind.{Kind}
 use Rattle.queue.specs.declared.Queue.{Queue}
 use Rattle.queue.specs.declared.Readied.{Readied}
 use Rattle.queue.specs.Kind.{ofKind}
-use Rattle.queue.specs.Refusal.{unsound}
 use Rattle.queue.specs.Ruled.{Ruled, refuse, accept, need, number}
 use Rattle.queue.specs.Contents.{Contents, after, oldest}
 use Rattle.queue.specs.Sound.{sound}

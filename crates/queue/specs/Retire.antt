@@ -5,7 +5,7 @@ use Prim.Native.Nat.{ℕ, _-_}
 use mathlib.Core.Bool.{Bool}
 use mathlib.Core.List.{List, map}
 use lib.ListN.{length}
-use Rattle.table.specs.Basics.{frontWhile, afterWhile}
+use Rattle.number.specs.Basics.{frontWhile, afterWhile}
 use Rattle.queue.specs.Contents.{Load, Store, Contents}
 
 -- finished entries

@@ -8,8 +8,8 @@ use mathlib.Core.List.{List, [], _∷_}
 use mathlib.Core.Option.{Option, none, some}
 use lib.Dec.{eqb}
 use lib.ListN.{length, take, getD, getElem?}
-use Rattle.table.specs.Basics.{pick}
-use Rattle.queue.specs.Refusal.{unsound, wrongMemory, noSerial, alreadyDone, noAddress, earlierStoreUnknown, noData}
+use Rattle.number.specs.Basics.{pick}
+use Rattle.number.specs.Refusal.{unsound, wrongMemory, noSerial, alreadyDone, noAddress, earlierStoreUnknown, noData}
 use Rattle.queue.specs.Ruled.{Ruled, refuse, accept, need, have, andThen, isSome}
 use Rattle.queue.specs.Contents.{Load, Store, Contents, withLoads, updateAt, loadPlace}
 use Rattle.queue.specs.Sound.{sound}

@@ -6,7 +6,7 @@ use mathlib.Core.Bool.{Bool, true, _&&_}
 use mathlib.Core.Option.{Option, none, some}
 use lib.Dec.{leb, ltb, eqb}
 use lib.ListN.{length}
-use Rattle.table.specs.Basics.{allOf, within}
+use Rattle.number.specs.Basics.{allOf, within}
 use Rattle.table.specs.Table.{tableFault}
 use Rattle.queue.specs.Contents.{Load, Store, Contents}
 

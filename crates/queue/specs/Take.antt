@@ -4,9 +4,9 @@ use Prim.Native.Nat.{ℕ}
 use mathlib.Core.Bool.{Bool, true, not, _&&_}
 use lib.Dec.{eqb}
 use lib.ListN.{getElem?}
-use Rattle.table.specs.Basics.{anyOf}
+use Rattle.number.specs.Basics.{anyOf}
 use Rattle.queue.specs.declared.Kind.the-variants.{Load as load}
-use Rattle.queue.specs.Refusal.{unsound, noPort, noneUntaken, notServed}
+use Rattle.number.specs.Refusal.{unsound, noPort, noneUntaken, notServed}
 use Rattle.queue.specs.Ruled.{Ruled, accept, need, have}
 use Rattle.queue.specs.Contents.{Load, Contents, withLoads, updateAt, firstPlace}
 use Rattle.queue.specs.Sound.{sound}

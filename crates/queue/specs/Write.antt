@@ -6,8 +6,8 @@ use mathlib.Core.List.{List}
 use mathlib.Core.Option.{Option, none, some}
 use lib.Dec.{eqb}
 use lib.ListN.{length, take, set, getElem?}
-use Rattle.table.specs.Basics.{allOf}
-use Rattle.queue.specs.Refusal.{unsound, wrongMemory, noSerial, alreadyDone, noAddress, noData, earlierLoadInWay, earlierStoreInWay}
+use Rattle.number.specs.Basics.{allOf}
+use Rattle.number.specs.Refusal.{unsound, wrongMemory, noSerial, alreadyDone, noAddress, noData, earlierLoadInWay, earlierStoreInWay}
 use Rattle.queue.specs.Ruled.{Ruled, accept, need, have, andThen, isSome}
 use Rattle.queue.specs.Contents.{Load, Store, Contents, withStores, updateAt, storePlace}
 use Rattle.queue.specs.Sound.{sound}

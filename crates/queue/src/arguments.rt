@@ -24,11 +24,11 @@ use crate::entries::unpack;
 use crate::entries::with_address;
 use crate::entries::with_word;
 use crate::ports::has_port;
-use crate::refusal::BAD_ADDRESS;
-use crate::refusal::NO_PORT;
-use crate::refusal::NONE_WAITS;
-use crate::refusal::UNSOUND;
 use crate::sound::sound_of;
+use number::refusal::BAD_ADDRESS;
+use number::refusal::NO_PORT;
+use number::refusal::NONE_WAITS;
+use number::refusal::UNSOUND;
 
 // The three kinds of argument.
 pub enum Argument {

@@ -11,7 +11,6 @@ pub mod entries;
 pub mod opening;
 pub mod ports;
 pub mod ready;
-pub mod refusal;
 pub mod retiring;
 pub mod serial;
 pub mod serving;

@@ -1,7 +1,7 @@
 // Which ports a table names: load ports and store ports are two separate series.
 ghost use mathlib.Core.Path.{_≡_};
 ghost use Prim.Native.Nat.{_≤_};
-ghost use Rattle.table.specs.Basics.{anyOf};
+ghost use Rattle.number.specs.Basics.{anyOf};
 ghost use Rattle.table.specs.Group.{listOf, pairsOf, Inside};
 ghost use Rattle.table.specs.Table.{groupsIn};
 ghost use Rattle.queue.specs.Arguments.{isPort, namesPort};

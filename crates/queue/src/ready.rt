@@ -21,13 +21,13 @@ use crate::ReadySerials;
 use crate::answering::outline_of;
 use crate::answering::side_of;
 use crate::entries::unpack;
-use crate::refusal::UNSOUND;
 use crate::serial::oldest_serial;
 use crate::serving::Source;
 use crate::serving::source_of;
 use crate::sound::sound_in;
 use crate::writing::write_fault;
-use table::refusal::TOO_SHORT;
+use number::refusal::TOO_SHORT;
+use number::refusal::UNSOUND;
 
 // Serials, as many as a side can hold. Places beyond the count mean nothing.
 pub(crate) struct Serials {

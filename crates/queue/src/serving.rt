@@ -22,15 +22,15 @@ use crate::counting::counted;
 use crate::entries::pack;
 use crate::entries::unpack;
 use crate::entries::with_word;
-use crate::refusal::ALREADY_DONE;
-use crate::refusal::EARLIER_STORE_UNKNOWN;
-use crate::refusal::NO_ADDRESS;
-use crate::refusal::NO_DATA;
-use crate::refusal::NO_SERIAL;
-use crate::refusal::UNSOUND;
-use crate::refusal::WRONG_MEMORY;
 use crate::serial::place_of;
 use crate::sound::sound_in;
+use number::refusal::ALREADY_DONE;
+use number::refusal::EARLIER_STORE_UNKNOWN;
+use number::refusal::NO_ADDRESS;
+use number::refusal::NO_DATA;
+use number::refusal::NO_SERIAL;
+use number::refusal::UNSOUND;
+use number::refusal::WRONG_MEMORY;
 
 // Where a load's word comes from.
 pub(crate) enum Source {

@@ -4,7 +4,7 @@ ghost use mathlib.Core.Bool.{_&&_};
 ghost use Prim.Native.Nat.{_≤_};
 ghost use lib.Dec.{leb};
 ghost use lib.ListN.{length};
-ghost use Rattle.table.specs.Basics.{allOf};
+ghost use Rattle.number.specs.Basics.{allOf};
 ghost use Rattle.queue.specs.Contents.{contentsOf};
 ghost use Rattle.queue.specs.Sound.{depthRight, memoryRight, sound};
 ghost use Rattle.queue.specs.Parts.{frameOf, queueOf, queueOfKind, whole};

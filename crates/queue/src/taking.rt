@@ -19,12 +19,12 @@ use crate::entries::oldest_without;
 use crate::entries::pack;
 use crate::entries::unpack;
 use crate::ports::has_port;
-use crate::refusal::NO_PORT;
-use crate::refusal::NONE_UNTAKEN;
-use crate::refusal::NOT_SERVED;
-use crate::refusal::UNSOUND;
 use crate::retiring::retire;
 use crate::sound::sound_in;
+use number::refusal::NO_PORT;
+use number::refusal::NONE_UNTAKEN;
+use number::refusal::NOT_SERVED;
+use number::refusal::UNSOUND;
 
 // Take on a queue's parts: 40, 22, 33, 34.
 pub fn take_in<'a>(

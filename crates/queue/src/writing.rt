@@ -2,7 +2,7 @@
 ghost use mathlib.Core.Path.{_≡_};
 ghost use Prim.Native.Nat.{_≤_, _<_};
 ghost use lib.ListN.{length, getD};
-ghost use Rattle.table.specs.Basics.{allOf};
+ghost use Rattle.number.specs.Basics.{allOf};
 ghost use Rattle.table.specs.declared.Table.{Table};
 ghost use Rattle.queue.specs.Entry.{entryOf};
 ghost use Rattle.queue.specs.Contents.{contentsOf};
@@ -26,17 +26,17 @@ use crate::entries::Mark;
 use crate::entries::has;
 use crate::entries::pack;
 use crate::entries::unpack;
-use crate::refusal::ALREADY_DONE;
-use crate::refusal::EARLIER_LOAD_IN_WAY;
-use crate::refusal::EARLIER_STORE_IN_WAY;
-use crate::refusal::NO_ADDRESS;
-use crate::refusal::NO_DATA;
-use crate::refusal::NO_SERIAL;
-use crate::refusal::UNSOUND;
-use crate::refusal::WRONG_MEMORY;
 use crate::retiring::retire;
 use crate::serial::place_of;
 use crate::sound::sound_in;
+use number::refusal::ALREADY_DONE;
+use number::refusal::EARLIER_LOAD_IN_WAY;
+use number::refusal::EARLIER_STORE_IN_WAY;
+use number::refusal::NO_ADDRESS;
+use number::refusal::NO_DATA;
+use number::refusal::NO_SERIAL;
+use number::refusal::UNSOUND;
+use number::refusal::WRONG_MEMORY;
 
 // An entry that is done with the memory (a served load, a written store), or is known to be of another word, gives way to a
 // write to the address. Writing past an unserved load of the word would spoil that load.

@@ -9,15 +9,13 @@ use lib.Dec.{leb}
 use lib.ListN.{length, drop, set, getD, length-append, length-drop, length-map}
 use borrow.Author.Tests.{eq-eqb, ne-eqb, le-leb, leb-true}
 use lib.Seq.{set-at, drop-cons, append-snoc}
-use Rattle.table.specs.Number.{Got, got, bad}
-use Rattle.table.specs.Refusal.{tooShort}
+use Rattle.number.specs.Number.{Got, got, bad, before}
+use Rattle.number.specs.Refusal.{tooShort, wrongMemory}
 use Rattle.table.specs.Group.{GroupPairs}
-use Rattle.table.specs.TableBytes.{before}
-use Rattle.table.specs.declared.Event.{Event}
+use Rattle.trace.specs.declared.Event.{Event}
 use Rattle.queue.specs.declared.Counts.{Counts}
 use Rattle.queue.specs.declared.Counted.{Counted}
 use Rattle.queue.specs.declared.Queue.{Queue}
-use Rattle.queue.specs.Refusal.{wrongMemory}
 use Rattle.queue.specs.Ruled.{Ruled, accept, andThen}
 use Rattle.queue.specs.Contents.{Contents, contentsOf}
 use Rattle.queue.specs.Outcome.{valueIn}
@@ -28,7 +26,7 @@ use Rattle.replay.specs.Playing.{Playing, playing, stepOf, Logged, logge
 use Rattle.replay.specs.Replay.{Start, prepare, replayed, Buffers, fits, replayStart, replayFrom, replay}
 use Rattle.replay.specs.Outcome.{over, logIn, Unplayed, Replays, Replayed-as}
 use Rattle.replay.specs.Internal.{Plays, Put, Playable, eventsIn, through}
-use Rattle.table.proofs.TraceSteps.{EventGot}
+use Rattle.trace.proofs.TraceSteps.{EventGot}
 
 abbrev pub buffers : List ℕ → List ℕ → List ℕ → Buffers
 buffers a g w = record { answers = a; given = g; words = w }

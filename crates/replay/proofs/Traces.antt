@@ -3,12 +3,12 @@ use Prim.Native.Nat.{ℕ}
 use mathlib.Core.Path.{_≡_, refl, sym, ap}
 use mathlib.Core.List.{List, []}
 use native.Mathlib.Omega.{arith}
-use Rattle.table.specs.Number.{Got, got, bad}
-use Rattle.table.specs.declared.Event.{Event}
-use Rattle.table.specs.declared.Header.{Header}
-use Rattle.table.specs.Event.{readHeader}
-use Rattle.table.specs.Trace.{Trace, readEvents, readTrace, traceBytes}
-use Rattle.table.proofs.Traces.{traceOf, trace-parts, trace-of-parts, read-events-spelled, traces-read-back}
+use Rattle.number.specs.Number.{Got, got, bad}
+use Rattle.trace.specs.declared.Event.{Event}
+use Rattle.trace.specs.declared.Header.{Header}
+use Rattle.trace.specs.Event.{readHeader}
+use Rattle.trace.specs.Trace.{Trace, readEvents, readTrace, traceBytes}
+use Rattle.trace.proofs.Traces.{traceOf, trace-parts, trace-of-parts, read-events-spelled, traces-read-back}
 use Rattle.queue.specs.Ruled.{Ruled, refuse, accept, andThen}
 use Rattle.queue.specs.Contents.{Contents}
 use Rattle.queue.specs.Open.{openQueue}

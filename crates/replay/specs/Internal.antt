@@ -4,8 +4,8 @@ use mathlib.Core.Path.{_≡_}
 use mathlib.Core.Bool.{true}
 use mathlib.Core.List.{List, []}
 use lib.ListN.{length, set}
-use Rattle.table.specs.Number.{Got, got, bad}
-use Rattle.table.specs.declared.Event.{Event}
+use Rattle.number.specs.Number.{Got, got, bad}
+use Rattle.trace.specs.declared.Event.{Event}
 use Rattle.queue.specs.declared.Value.{Value}
 use Rattle.queue.specs.declared.Queue.{Queue}
 use Rattle.queue.specs.declared.Frame.{Frame}

@@ -4,13 +4,11 @@ use mathlib.Core.Path.{_≡_}
 use mathlib.Core.List.{List, []}
 use lib.Dec.{eqb}
 use lib.ListN.{length}
-use Rattle.table.specs.Refusal.{tooShort}
-use Rattle.table.specs.Number.{got}
+use Rattle.number.specs.Refusal.{tooShort, wrongMemory}
+use Rattle.number.specs.Number.{got, Fit}
 use Rattle.table.specs.Group.{GroupPairs}
-use Rattle.table.specs.Trace.{Trace, readTrace, traceNumbers, traceBytes}
-use Rattle.table.specs.RoundTrip.{Fit}
+use Rattle.trace.specs.Trace.{Trace, readTrace, traceNumbers, traceBytes}
 use Rattle.queue.specs.declared.Counts.{Counts}
-use Rattle.queue.specs.Refusal.{wrongMemory}
 use Rattle.queue.specs.Ruled.{Ruled, accept, need, andThen}
 use Rattle.queue.specs.Contents.{Contents}
 use Rattle.queue.specs.Open.{openQueue}

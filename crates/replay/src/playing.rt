@@ -18,7 +18,7 @@ use queue::arguments::give_in;
 use queue::serving::serve_in;
 use queue::taking::take_in;
 use queue::writing::write_in;
-use table::Event;
+use trace::Event;
 
 // What an event gives: its answer and value, and both sides and the counts that follow.
 pub struct Played {

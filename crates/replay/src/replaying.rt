@@ -15,14 +15,14 @@ use crate::counting::count_events;
 use crate::playing::play_event;
 use crate::playing::put;
 use crate::preparing::open_trace;
+use number::refusal::TOO_SHORT;
+use number::refusal::WRONG_MEMORY;
 use queue::Counts;
 use queue::Queue;
 use queue::answering::outline_of;
-use queue::refusal::WRONG_MEMORY;
-use table::EventRead;
 use table::Table;
-use table::refusal::TOO_SHORT;
-use table::trace::read_event;
+use trace::EventRead;
+use trace::reading::read_event;
 
 // What an accepted replay hands back.
 fn played(events: usize, counts: Counts) -> Replayed

@@ -5,7 +5,7 @@ use mathlib.Core.Path.{_≡_, refl, sym, ap, _∙_}
 use mathlib.Core.Bool.{Bool, true, false}
 use mathlib.Core.List.{List, [], _∷_, _++_, map, map-append, append-nil}
 use lib.ListN.{length, length-map}
-use Rattle.table.specs.Basics.{pick, countWhere, afterWhile}
+use Rattle.number.specs.Basics.{pick, countWhere, afterWhile}
 use Rattle.table.specs.Group.{GroupPairs, Access}
 use Rattle.queue.specs.declared.arguments.Argument.{Argument}
 use Rattle.queue.specs.Contents.{Load, Store, Contents, withLoads, withStores, updateAt}

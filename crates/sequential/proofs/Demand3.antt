@@ -8,7 +8,7 @@ use mathlib.Core.Option.{some}
 use lib.Dec.{leb}
 use lib.ListN.{length, getElem?}
 use borrow.Author.Tests.{leb-true}
-use Rattle.table.specs.Basics.{pick, allOf, countWhere}
+use Rattle.number.specs.Basics.{pick, allOf, countWhere}
 use Rattle.table.specs.Group.{GroupPairs}
 use Rattle.queue.specs.Retire.{storeFinished}
 use Rattle.queue.proofs.Lists.{and-left, and-both}

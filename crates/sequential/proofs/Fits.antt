@@ -7,7 +7,7 @@ use mathlib.Core.List.{List, [], _∷_}
 use mathlib.Core.Option.{none, some}
 use lib.ListN.{length, getD, set, getElem?}
 use borrow.Author.Tests.{lt-ltb}
-use Rattle.table.specs.Basics.{pick, anyOf, allOf, afterWhile}
+use Rattle.number.specs.Basics.{pick, anyOf, allOf, afterWhile}
 use Rattle.table.specs.Group.{GroupPairs, blankPair}
 use Rattle.table.specs.Table.{tableFault}
 use Rattle.table.proofs.OrderOffsets.{GroupRight, table-group-right}

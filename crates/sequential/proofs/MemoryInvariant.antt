@@ -10,7 +10,7 @@ use lib.Dec.{eqb}
 use lib.ListN.{length, getD, set, length-set}
 use lib.Seq.{getD-set-same, getD-set-other, set-comm}
 use borrow.Author.Tests.{eqb-true, eqb-false, not-true}
-use Rattle.table.specs.Basics.{pick, allOf}
+use Rattle.number.specs.Basics.{pick, allOf}
 use Rattle.table.specs.Group.{Access, load, store}
 use Rattle.queue.specs.Ruled.{isSome}
 use Rattle.queue.specs.Contents.{Load, Store}

@@ -6,7 +6,7 @@ use mathlib.Core.List.{List, [], _∷_, map}
 use mathlib.Core.Option.{Option, none, some}
 use lib.Dec.{eqb}
 use lib.ListN.{getD, set, getElem?}
-use Rattle.table.specs.Basics.{pick, allOf}
+use Rattle.number.specs.Basics.{pick, allOf}
 use Rattle.table.specs.Group.{Access, load, store}
 use Rattle.queue.specs.Retire.{storeFinished}
 use Rattle.queue.specs.declared.arguments.Argument.the-variants.{LoadAddress, StoreAddress, StoreData}

@@ -6,7 +6,7 @@ use mathlib.Core.List.{List}
 use lib.Dec.{leb}
 use lib.ListN.{length}
 use borrow.Author.Tests.{le-leb}
-use Rattle.table.specs.Basics.{allOf}
+use Rattle.number.specs.Basics.{allOf}
 use Rattle.queue.specs.Contents.{Contents}
 use Rattle.queue.specs.Sound.{addressRight, loadRight, storeRight, sound}
 use Rattle.queue.proofs.Lists.{and-both, all-weaken, all-weaken₂}

@@ -8,7 +8,7 @@ use lib.Dec.{eqb}
 use lib.ListN.{length}
 use borrow.Author.Tests.{eqb-false}
 use Rattle.table.specs.declared.Table.{Table}
-use Rattle.table.specs.Basics.{allOf}
+use Rattle.number.specs.Basics.{allOf}
 use Rattle.table.specs.Group.{GroupPairs}
 use Rattle.table.specs.Table.{groupsOf, tableFault}
 use Rattle.queue.specs.declared.Queue.{Queue}

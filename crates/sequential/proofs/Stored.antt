@@ -11,7 +11,7 @@ use lib.ListN.{length, replicate, length-append, length-map, length-replicate}
 use lib.Seq.{take-at}
 use borrow.Author.Tests.{leb-true, ltb-true, lt-ltb}
 use Rattle.table.specs.declared.Table.{Table}
-use Rattle.table.specs.Basics.{pick, allOf, held}
+use Rattle.number.specs.Basics.{pick, allOf, held}
 use Rattle.table.specs.Table.{groupsOf, tableFault}
 use Rattle.table.proofs.CheckLaws.{held-few}
 use Rattle.queue.specs.declared.Entry.{Entry}

@@ -12,7 +12,7 @@ use lib.Dec.{leb}
 use lib.ListN.{length, take, length-append, length-map, getElem?}
 use lib.Seq.{take-at}
 use borrow.Author.Tests.{le-leb, leb-true}
-use Rattle.table.specs.Basics.{allOf, frontWhile, afterWhile}
+use Rattle.number.specs.Basics.{allOf, frontWhile, afterWhile}
 use Rattle.table.proofs.Order.{frontWhile-afterWhile}
 use Rattle.queue.specs.Ruled.{isSome}
 use Rattle.queue.specs.Contents.{updateAt}

@@ -13,7 +13,7 @@ use mathlib.Core.List.{List, [], _∷_, map}
 use mathlib.Core.Option.{Option, none, some}
 use lib.Dec.{eqb}
 use lib.ListN.{length, getElem?}
-use Rattle.table.specs.Basics.{pick, countWhere}
+use Rattle.number.specs.Basics.{pick, countWhere}
 use Rattle.table.specs.Group.{GroupPairs, Access, load, store}
 use Rattle.queue.specs.declared.arguments.Argument.{Argument}
 use Rattle.queue.specs.declared.arguments.Argument.the-variants.{LoadAddress, StoreAddress, StoreData}

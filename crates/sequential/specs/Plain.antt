@@ -6,7 +6,7 @@ use mathlib.Core.List.{List, [], _∷_, _++_, tail}
 use mathlib.Core.Option.{Option, none, some}
 use lib.Dec.{eqb}
 use lib.ListN.{getD, set, getElem?}
-use Rattle.table.specs.Basics.{pick}
+use Rattle.number.specs.Basics.{pick}
 use Rattle.table.specs.Group.{GroupPairs, Access, load, store, order}
 use Rattle.queue.specs.declared.arguments.Argument.{Argument}
 use Rattle.queue.specs.declared.arguments.Argument.the-variants.{LoadAddress, StoreAddress, StoreData}

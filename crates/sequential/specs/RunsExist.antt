@@ -8,7 +8,7 @@ use mathlib.Core.Option.{Option, none, some}
 use lib.Dec.{ltb}
 use lib.ListN.{length}
 use Rattle.table.specs.declared.Table.{Table}
-use Rattle.table.specs.Basics.{allOf}
+use Rattle.number.specs.Basics.{allOf}
 use Rattle.table.specs.Table.{groupsOf}
 use Rattle.queue.specs.declared.Side.{Side}
 use Rattle.queue.specs.declared.Queue.{Queue}

@@ -14,12 +14,14 @@ use Rattle.table.specs.declared.Pair.{Pair}
 use Rattle.table.specs.declared.Group.{Group}
 use Rattle.table.specs.declared.Span.{Span}
 use Rattle.table.specs.declared.Table.{Table}
-use Rattle.table.specs.Refusal.{badGroupCount, badCounts}
-use Rattle.table.specs.Basics.{pick, held, countWhere, within, check, firstFault}
+use Rattle.number.specs.Refusal.{badGroupCount, badCounts}
+use Rattle.number.specs.Basics.{pick, held, countWhere, within, check, firstFault}
 use Rattle.table.specs.Packed.{pairIn, groupIn}
 use Rattle.table.specs.Group.{GroupPairs, blankPair, listOf, Inside, pairsOf, beforeStore}
-use Rattle.table.specs.Table.{spanMeant, groupAt, meantIn, groupsOf, loadRule, storeRule, pairFault, pairsFault, seeing, countsRight, Seen, noneSeen, seenAfter, groupFault, groupsFault, tableFault}
+use Rattle.table.specs.Table.{spanMeant, groupAt, meantIn, groupsOf, loadRule, storeRule, pairFault, pairsFault, seeing, countsRight, Seen, noneSeen}
+use Rattle.table.specs.Table.{seenAfter, groupFault, groupsFault, tableFault}
 use Rattle.table.specs.Internal.{ruleOf, Rising, RuleRight, GroupInside}
+use Rattle.number.proofs.Both.{and-left, and-right}
 
 -- ---- what an array and a count hold, where the count is within the array
 module _ {A : Type 0} (blank : A) (n : ℕ) (l : List A) (h : n ≤ length l) where
@@ -152,14 +154,6 @@ module _ (places : List ℕ) (loads : Span) (n i : ℕ) (r : Rising 0 (listOf pl
       go false e = rw (e, le-ltb n _ (count-below 0 listed n i r (omega (arith, size)) (leb-false _ _ e)))
 
 -- ---- checking pairs one by one
-
-pub and-left : (a b : Bool) → (a && b) ≡ true → a ≡ true
-and-left true b e = refl
-and-left false b e = e
-
-pub and-right : (a b : Bool) → (a && b) ≡ true → b ≡ true
-and-right true b e = e
-and-right false b e = let z : _≡_ {A = ℕ} 0 1 = cc in absurd (omega arith)
 
 -- a pair with no fault has a right offset and a port of the marks
 pub fault-none : (right : Bool) (seen : List Bool) (port : ℕ) → pairFault right seen port ≡ 0 → (right ≡ true) × (port ≤ 31)

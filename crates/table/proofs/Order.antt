@@ -4,7 +4,7 @@ use mathlib.Core.Path.{_≡_, refl, sym, ap, _∙_}
 use mathlib.Core.Bool.{Bool, true, false}
 use mathlib.Core.List.{List, [], _∷_, _++_, map, map-append, append-nil}
 use Rattle.table.specs.declared.Pair.{Pair}
-use Rattle.table.specs.Basics.{pick, frontWhile, afterWhile}
+use Rattle.number.specs.Basics.{pick, frontWhile, afterWhile}
 use Rattle.table.specs.Group.{GroupPairs, portOf, Access, load, store, asLoad, beforeStore, orderFrom, order}
 
 -- the ports of the loads, of the stores, among accesses

@@ -10,12 +10,14 @@ use lib.Dec.{leb}
 use lib.ListN.{length, getD, set}
 use borrow.Author.Tests.{le-leb, lt-leb, leb-true, leb-false, eqb-true, ne-eqb}
 use Rattle.table.specs.declared.Pair.{Pair}
-use Rattle.table.specs.Refusal.{badGroupCount, badCounts}
-use Rattle.table.specs.Basics.{pick, countWhere, frontWhile, afterWhile, within, check, firstFault}
-use Rattle.table.specs.ProgramOrder.{loadPairs, storePairs, OffsetsCountOrder}
+use Rattle.number.specs.Refusal.{badGroupCount, badCounts}
+use Rattle.number.specs.Basics.{pick, countWhere, frontWhile, afterWhile, within, check, firstFault}
+use Rattle.table.specs.Group.{loadPairs, storePairs}
+use Rattle.table.specs.Table.{OffsetsCountOrder}
 use Rattle.table.specs.Group.{GroupPairs, blankPair, Access, store, asLoad, beforeStore, orderFrom, order}
 use Rattle.table.specs.Table.{loadRule, storeRule, pairFault, pairsFault, countsRight, Seen, noneSeen, seenAfter, groupFault, groupsFault, tableFault}
-use Rattle.table.proofs.CheckLaws.{and-left, and-right, fault-none, counts-few, count-most}
+use Rattle.number.proofs.Both.{and-left, and-right}
+use Rattle.table.proofs.CheckLaws.{fault-none, counts-few, count-most}
 use Rattle.table.proofs.Order.{frontWhile-afterWhile}
 
 -- ---- loads

@@ -13,8 +13,8 @@ use lib.Seq.{take-at, drop-at, set-at, append-snoc, drop-append-add, drop-drop}
 use Rattle.table.specs.declared.Pair.{Pair}
 use Rattle.table.specs.declared.read.NewGroup.{NewGroup}
 use Rattle.table.specs.declared.Table.{Table}
-use Rattle.table.specs.Basics.{pick, held, countWhere, flat, within, check}
-use Rattle.table.specs.Refusal.{badGroupCount, badCounts}
+use Rattle.number.specs.Basics.{pick, held, countWhere, flat, within, check}
+use Rattle.number.specs.Refusal.{badGroupCount, badCounts}
 use Rattle.table.specs.Packed.{pairIn, packedPair, groupIn, packedGroup, SmallPair, SmallSpan}
 use Rattle.table.specs.Group.{GroupPairs, listOf, beforeStore}
 use Rattle.table.specs.Table.{spanMeant, meantIn, groupsOf, loadRule, storeRule, pairFault, pairsFault, seeing, countsRight, Seen, noneSeen, seenAfter, groupFault, groupsFault, tableFault}
@@ -22,7 +22,8 @@ use Rattle.table.specs.TableBytes.{filled, placed, spans, loadsIn, store
 use Rattle.table.specs.RoundTrip.{AccessesFit}
 use Rattle.table.specs.Internal.{front, packPairs, packGroup, putIn, Grown}
 use Rattle.table.proofs.PackedLaws.{groups-read-back, AllSmall, all-read-back, map-append}
-use Rattle.table.proofs.CheckLaws.{held-few, count-most, fault-none, and-right, counts-few}
+use Rattle.table.proofs.CheckLaws.{held-few, count-most, fault-none, counts-few}
+use Rattle.number.proofs.Both.{and-right}
 use Rattle.table.proofs.WriteLaws.{or-else-both, check-both}
 
 -- the parts of a right group

@@ -6,26 +6,24 @@ use mathlib.Core.List.{List, [], _∷_, _++_, map, append-nil, append-assoc}
 use native.Mathlib.Omega.{arith}
 use native.Mathlib.Numerals.{add-one}
 use native.Mathlib.Nat.{sub-zero}
-use lib.Dec.{leb, ltb}
 use lib.ListN.{length, take, drop, set, replicate, length-set, length-map, length-append, take-append-drop}
 use lib.Seq.{length-take-le, take-suc-set, drop-set-lt, drop-drop}
 use borrow.Author.Tests.{ne-eqb}
 use Rattle.table.specs.declared.Pair.{Pair}
 use Rattle.table.specs.declared.read.Pairs.{Pairs}
-use Rattle.table.specs.declared.read.TwoRead.{TwoRead}
 use Rattle.table.specs.declared.Table.{Table}
 use Rattle.table.specs.declared.read.PairsRead.{PairsRead}
 use Rattle.table.specs.declared.read.GroupRead.{GroupRead}
 use Rattle.table.specs.declared.read.GroupsRead.{GroupsRead}
-use Rattle.table.specs.Basics.{pick}
-use Rattle.table.specs.Refusal.{tooLarge, badCounts}
-use Rattle.table.specs.Number.{Got, got, bad, andThen, require, above, numberUpTo, readNumber, placeOf, accepts, refuses, reading, readIn}
+use Rattle.number.specs.Refusal.{badCounts}
+use Rattle.number.specs.Number.{Got, got, bad, andThen, require, readNumber, placeOf, accepts, refuses, reading, readIn, before}
 use Rattle.table.specs.Packed.{pairIn, packedPair, SmallPair}
 use Rattle.table.specs.Group.{GroupPairs}
 use Rattle.table.specs.Table.{loadRule, storeRule, pairFault, pairsFault, seeing, countsRight, Seen, noneSeen, seenAfter, groupFault}
-use Rattle.table.specs.TableBytes.{unless, pair, before, readPairs, readGroup, readGroups, pack}
-use Rattle.table.specs.Internal.{Two, two, readTwo, pairsIn, packPairs, PairsFound, PairsResult, found, pairs-none, seenOf, groupMade, GroupFound, GroupResult, group-found, group-none, Growing, Grown, GroupsFound, GroupsResult, groups-found, groups-none}
-use Rattle.table.proofs.NumberLaws.{NumberGot, number-got}
+use Rattle.table.specs.TableBytes.{unless, pair, readPairs, readGroup, readGroups, pack}
+use Rattle.table.specs.Internal.{Two, two, readTwo, pairsIn, packPairs, PairsFound, PairsResult, found, pairs-none, seenOf, groupMade, GroupFound}
+use Rattle.table.specs.Internal.{GroupResult, group-found, group-none, Growing, Grown, GroupsFound, GroupsResult, groups-found, groups-none}
+use Rattle.number.proofs.NumberLaws.{NumberGot, number-got, number-refused}
 use Rattle.table.proofs.PackedLaws.{pairs-read-back, map-append}
 use Rattle.table.proofs.CheckLaws.{held-few}
 use Rattle.table.proofs.PackLaws.{Marks, marks-none, marks-room, marks-more, Packed, packed-none, packed-more}
@@ -82,22 +80,6 @@ two-bad s place {k} e = go (readTwo (drop place s)) e
     go : (g : Got Two) → refuses k ≡ readIn s g → g ≡ bad k
     go (got t rest) d = let z : _≡_ {A = ℕ} 0 1 = cc in absurd (omega arith)
     go (bad n) d = cc
-
--- a refusal of a number is not 0
-pub number-refused : (more top : ℕ) (s : List ℕ) {k : ℕ} → numberUpTo more top s ≡ bad k → k ≡ 0 → ⊥
-unfolding numberUpTo
-number-refused more top [] {k} e z = let q : 1 ≡ k = cc in omega arith
-number-refused zero top (b ∷ s) {k} e z = go (leb b top) e
-  where
-    go : (t : Bool) → pick t (got b s) (bad tooLarge) ≡ bad k → ⊥
-    go true d = let q : _≡_ {A = ℕ} 0 1 = cc in omega arith
-    go false d = let q : 2 ≡ k = cc in omega arith
-number-refused (suc more) top (b ∷ s) {k} e z = go (ltb b 128) (numberUpTo more top s) (λ n d. number-refused more top s d) e
-  where
-    go : (t : Bool) (g : Got ℕ) → ((n : ℕ) → g ≡ bad n → n ≡ 0 → ⊥) → pick t (got b s) (above (b - 128) g) ≡ bad k → ⊥
-    go true g ih d = let q : _≡_ {A = ℕ} 0 1 = cc in omega arith
-    go false (got n r) ih d = let q : _≡_ {A = ℕ} 0 1 = cc in omega arith
-    go false (bad n) ih d = let q : n ≡ k = cc in ih n refl (q ∙ z)
 
 pub two-refused : (s : List ℕ) {k : ℕ} → readTwo s ≡ bad k → k ≡ 0 → ⊥
 unfolding readTwo

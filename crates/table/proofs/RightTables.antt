@@ -11,15 +11,16 @@ use lib.ListN.{length, getD, set, length-set, getD-replicate}
 use lib.Seq.{getD-set-same, getD-set-other}
 use borrow.Author.Tests.{leb-true, le-leb, eqb-true, eqb-false, eq-eqb, ne-eqb, not-true}
 use Rattle.table.specs.declared.Pair.{Pair}
-use Rattle.table.specs.Refusal.{badGroupCount}
-use Rattle.table.specs.Basics.{anyOf, countWhere, within}
+use Rattle.number.specs.Refusal.{badGroupCount}
+use Rattle.number.specs.Basics.{anyOf, countWhere, within}
 use Rattle.table.specs.Group.{GroupPairs, blankPair, portOf, beforeStore}
 use Rattle.table.specs.Table.{loadRule, storeRule, pairFault, pairsFault, seeing, countsRight}
 use Rattle.table.specs.Table.{Seen, noneSeen, seenAfter, groupFault, groupsFault, tableFault}
 use Rattle.table.specs.TableBytes.{loadsIn, storesIn}
 use Rattle.table.specs.RightTables.{Each, Distinct, NeverFall, offsetOf, RightTable, RightTables}
 use Rattle.table.specs.RightTables.{CountsWithin, LoadsNeverFall, LoadsWithin, StoresAgree}
-use Rattle.table.proofs.CheckLaws.{and-left, and-right, fault-none, counts-few}
+use Rattle.number.proofs.Both.{and-left, and-right}
+use Rattle.table.proofs.CheckLaws.{fault-none, counts-few}
 use Rattle.table.proofs.WriteLaws.{or-else-both, check-both}
 use Rattle.table.proofs.PackLaws.{group-fault, fault-unseen}
 

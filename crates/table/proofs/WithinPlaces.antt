@@ -9,7 +9,7 @@ use lib.ListN.{length, getD, take}
 use lib.Seq.{getD-take}
 use Rattle.table.specs.declared.Span.{Span}
 use Rattle.table.specs.declared.Group.{Group}
-use Rattle.table.specs.Basics.{pick}
+use Rattle.number.specs.Basics.{pick}
 use Rattle.table.specs.Packed.{groupIn}
 use Rattle.table.specs.Group.{GroupPairs, listOf, pairsOf}
 use Rattle.table.specs.Table.{spanMeant, groupMeant, groupAt, groupsOf, spanWithin, GroupsWithinPlaces}

@@ -10,12 +10,12 @@ use lib.ListN.{length, getD, take, drop, length-append, take-append-drop}
 use lib.Seq.{take-suc, take-all}
 use Rattle.table.specs.declared.Pair.{Pair}
 use Rattle.table.specs.declared.Group.{Group}
-use Rattle.table.specs.Basics.{flat, check, firstFault, splice}
+use Rattle.number.specs.Basics.{flat, check, firstFault, splice}
 use Rattle.table.specs.Group.{GroupPairs, listOf, pairsOf}
 use Rattle.table.specs.TableBytes.{pairNumbers, groupNumbers, tableNumbers}
-use Rattle.table.specs.Number.{numberBytes, bytesOf}
+use Rattle.number.specs.Number.{numberBytes, bytesOf}
 use Rattle.table.proofs.CheckLaws.{view-length}
-use Rattle.table.proofs.SpliceLaws.{bytes-append, Put, put-more}
+use Rattle.number.proofs.SpliceLaws.{bytes-append, Put, put-more}
 
 -- ---- the numbers of elements, one after the other
 flat-append : {A : Type 0} (f : A → List ℕ) (xs ys : List A) → flat f (xs ++ ys) ≡ flat f xs ++ flat f ys

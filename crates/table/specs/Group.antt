@@ -8,7 +8,7 @@ use Rattle.table.specs.declared.Pair.{Pair}
 use Rattle.table.specs.declared.Span.{Span}
 use Rattle.table.specs.declared.Group.{Group}
 use Rattle.table.specs.Packed.{pairIn}
-use Rattle.table.specs.Basics.{held, frontWhile, afterWhile}
+use Rattle.number.specs.Basics.{held, frontWhile, afterWhile}
 
 -- A group as it is meant: its loads and its stores.
 pub record GroupPairs : Type 0 where
@@ -53,3 +53,14 @@ orderFrom j loads (s ∷ ss) = map asLoad (frontWhile (beforeStore j) loads) ++ 
 -- The program order of a group's accesses: "the load offsets fix the order".
 abbrev pub order : GroupPairs → List Access
 order g = orderFrom 0 (g .loads) (g .stores)
+
+-- the loads along accesses, each with the number of stores before it; the stores, each with the number of loads before it
+abbrev pub loadPairs : ℕ → List Access → List Pair
+loadPairs stores [] = []
+loadPairs stores (load p ∷ rest) = record { offset = stores; port = p } ∷ loadPairs stores rest
+loadPairs stores (store p ∷ rest) = loadPairs (suc stores) rest
+
+abbrev pub storePairs : ℕ → List Access → List Pair
+storePairs loads [] = []
+storePairs loads (load p ∷ rest) = storePairs (suc loads) rest
+storePairs loads (store p ∷ rest) = record { offset = loads; port = p } ∷ storePairs loads rest

@@ -15,17 +15,12 @@ use Rattle.table.specs.declared.read.NewGroup.{NewGroup}
 use Rattle.table.specs.declared.read.PairsRead.{PairsRead}
 use Rattle.table.specs.declared.read.GroupRead.{GroupRead}
 use Rattle.table.specs.declared.read.GroupsRead.{GroupsRead}
-use Rattle.table.specs.Number.{Got, got, bad, andThen, readNumber, Reply, accepts, refuses, replyNumber, Reading, reading}
+use Rattle.number.specs.Number.{Got, got, bad, andThen, readNumber, Reply, accepts, refuses, replyNumber, Reading, reading}
 use Rattle.table.specs.TableBytes.{filled, pack}
 use Rattle.table.specs.Packed.{packedGroup}
-use Rattle.table.specs.Basics.{pick}
+use Rattle.number.specs.Basics.{pick}
 use Rattle.table.specs.Group.{GroupPairs, listOf, Inside}
 use Rattle.table.specs.Table.{loadRule, storeRule, pairsFault, seeing, Seen, seenAfter, groupFault}
-use Rattle.table.specs.declared.trace.Numbers.{Numbers}
-
--- the numbers that are written together
-abbrev pub listed : Numbers → List ℕ
-listed ns = take (ns .count) (ns .values)
 
 -- ---- checking and reading a group's pairs
 

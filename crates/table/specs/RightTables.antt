@@ -6,7 +6,7 @@ use mathlib.Core.Logic.{_↔_, _≢_}
 use mathlib.Core.List.{List, [], _∷_, map}
 use lib.ListN.{length, getD}
 use Rattle.table.specs.declared.Pair.{Pair}
-use Rattle.table.specs.Basics.{countWhere}
+use Rattle.number.specs.Basics.{countWhere}
 use Rattle.table.specs.Group.{GroupPairs, blankPair, portOf, beforeStore}
 use Rattle.table.specs.Table.{tableFault}
 use Rattle.table.specs.TableBytes.{loadsIn, storesIn}

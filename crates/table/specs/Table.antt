@@ -9,10 +9,10 @@ use Rattle.table.specs.declared.Pair.{Pair}
 use Rattle.table.specs.declared.Group.{Group}
 use Rattle.table.specs.declared.Span.{Span}
 use Rattle.table.specs.declared.Table.{Table}
-use Rattle.table.specs.Basics.{pick, held, countWhere, within, check, firstFault}
-use Rattle.table.specs.Refusal.{badGroupCount, badCounts, badOffset, badPort, portSeen}
+use Rattle.number.specs.Basics.{pick, held, countWhere, within, check, firstFault}
+use Rattle.number.specs.Refusal.{badGroupCount, badCounts, badOffset, badPort, portSeen}
 use Rattle.table.specs.Packed.{groupIn}
-use Rattle.table.specs.Group.{GroupPairs, pairsOf, beforeStore}
+use Rattle.table.specs.Group.{GroupPairs, pairsOf, beforeStore, order, loadPairs, storePairs}
 
 -- `count` accesses from the place `first` on. A span that runs past the 32 places stands for 17, more than a group may have: a
 -- record with such a group is never right, since it meets 5 (`GroupsWithinPlaces`). No access is none, wherever it stands.
@@ -109,3 +109,11 @@ abbrev pub GroupsWithinPlaces : Type 0
 GroupsWithinPlaces =
     (t : Table) → length (t .groups) ≡ 16 → length (t .loads) ≡ 32 → length (t .stores) ≡ 32 → tableFault (groupsOf t) ≡ 0
     → (i : ℕ) → i < t .count → groupWithin (groupIn (getD (t .groups) i 0)) ≡ true
+
+-- What the program order of a right table's groups is: "a load's offset counts the group's stores before it; a store's counts the
+-- loads before it". Along the order of each group of a right table stand just its loads and its stores, at their
+-- offsets. The proof is proofs/OrderOffsets.antt.
+abbrev pub OffsetsCountOrder : Type 0
+OffsetsCountOrder =
+    (gs : List GroupPairs) → tableFault gs ≡ 0 → (i : ℕ) (d : GroupPairs) → i < length gs →
+    (loadPairs 0 (order (getD gs i d)) ≡ getD gs i d .loads) × (storePairs 0 (order (getD gs i d)) ≡ getD gs i d .stores)

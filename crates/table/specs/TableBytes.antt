@@ -9,9 +9,9 @@ use Rattle.table.specs.declared.Pair.{Pair}
 use Rattle.table.specs.declared.Group.{Group}
 use Rattle.table.specs.declared.Table.{Table}
 use Rattle.table.specs.declared.TableRead.{TableRead}
-use Rattle.table.specs.Basics.{pick, flat, within}
-use Rattle.table.specs.Refusal.{badFields, badGroupCount, badCounts, leftOver}
-use Rattle.table.specs.Number.{Got, got, bad, andThen, require, readNumber, bytesOf, Wrote, wrote, unwritten}
+use Rattle.number.specs.Basics.{pick, flat, within}
+use Rattle.number.specs.Refusal.{badFields, badGroupCount, badCounts, leftOver}
+use Rattle.number.specs.Number.{Got, got, bad, andThen, require, readNumber, bytesOf, Wrote, wrote, unwritten, before}
 use Rattle.table.specs.Packed.{packedPair, packedGroup}
 use Rattle.table.specs.Group.{GroupPairs}
 use Rattle.table.specs.Table.{loadRule, storeRule, pairFault, countsRight, Seen, noneSeen, seenAfter, tableFault}
@@ -22,11 +22,6 @@ unless fault rest = pick (eqb fault 0) rest (bad fault)
 
 abbrev pub pair : ℕ → ℕ → Pair
 pair offset port = record { offset = offset; port = port }
-
--- a pair before the pairs that reading goes on to give; a group before groups
-abbrev pub before : {A : Type 0} → A → Got (List A) → Got (List A)
-before a (got rest s) = got (a ∷ rest) s
-before a (bad n) = bad n
 
 -- n pairs of one kind, from the ith on: each is read whole, and then 8, 6, 7
 unfoldable pub readPairs : (ℕ → ℕ → ℕ → Bool) → ℕ → ℕ → ℕ → List Bool → List ℕ → Got (List Pair)

@@ -1,7 +1,7 @@
 // When a table is right: 4, 5, 8, 6, 7 in the order of checking.
 ghost use mathlib.Core.Path.{_≡_};
 ghost use lib.Dec.{ltb};
-ghost use Rattle.table.specs.Basics.{countWhere};
+ghost use Rattle.number.specs.Basics.{countWhere};
 ghost use Rattle.table.specs.Group.{listOf, pairsOf, beforeStore, Inside};
 ghost use Rattle.table.specs.Table.{countsRight, pairFault, tableFault, groupsIn, groupsOf};
 ghost use Rattle.table.specs.Internal.{ruleOf, Rising, RuleRight, PairsChecked, seenIn, GroupChecked, GroupInside};
@@ -10,11 +10,11 @@ use crate::Span;
 use crate::Table;
 use crate::parts::group_at;
 use crate::parts::unpack_pair;
-use crate::refusal::BAD_COUNTS;
-use crate::refusal::BAD_GROUP_COUNT;
-use crate::refusal::BAD_OFFSET;
-use crate::refusal::BAD_PORT;
-use crate::refusal::PORT_SEEN;
+use number::refusal::BAD_COUNTS;
+use number::refusal::BAD_GROUP_COUNT;
+use number::refusal::BAD_OFFSET;
+use number::refusal::BAD_PORT;
+use number::refusal::PORT_SEEN;
 
 // Do more than n loads come before store i? Their offsets never fall, so it is enough to look at load n.
 fn more_before(places: &[u16; 32], loads: Span, n: u32, i: u32) -> bool

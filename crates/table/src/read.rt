@@ -7,9 +7,8 @@ ghost use Rattle.table.specs.Internal.{readTwo, twoReply, twoRefusal, ru
 ghost use Rattle.table.specs.Internal.{seenOf, groupMade, GroupResult, putIn, Growing, Grown, GroupsResult};
 ghost use mathlib.Core.List.{[]};
 ghost use Rattle.table.specs.Table.{noneSeen};
-ghost use Rattle.table.specs.Number.{readIn, bad};
+ghost use Rattle.number.specs.Number.{readIn, bad};
 use crate::Group;
-use crate::NumberRead;
 use crate::Pair;
 use crate::Span;
 use crate::Table;
@@ -17,14 +16,15 @@ use crate::TableRead;
 use crate::check::counts_right;
 use crate::check::offset_right;
 use crate::check::pair_fault;
-use crate::number::number_refusal;
-use crate::number::read_number;
 use crate::parts::pack_group;
 use crate::parts::pack_pair;
-use crate::refusal::BAD_COUNTS;
-use crate::refusal::BAD_FIELDS;
-use crate::refusal::BAD_GROUP_COUNT;
-use crate::refusal::LEFT_OVER;
+use number::NumberRead;
+use number::reading::number_refusal;
+use number::reading::read_number;
+use number::refusal::BAD_COUNTS;
+use number::refusal::BAD_FIELDS;
+use number::refusal::BAD_GROUP_COUNT;
+use number::refusal::LEFT_OVER;
 
 // Two numbers, one after the other, and the place after them; or the refusal number.
 pub(crate) enum TwoRead {

@@ -2,8 +2,8 @@
 ghost use mathlib.Core.Path.{_≡_};
 ghost use Prim.Native.Nat.{_+_, _≤_};
 ghost use lib.ListN.{length};
-ghost use Rattle.table.specs.Basics.{flat, splice};
-ghost use Rattle.table.specs.Number.{bytesOf, HasWritten, PutAt};
+ghost use Rattle.number.specs.Basics.{flat, splice};
+ghost use Rattle.number.specs.Number.{bytesOf, HasWritten, PutAt};
 ghost use Rattle.table.specs.Group.{listOf, pairsOf, Inside};
 ghost use Rattle.table.specs.Table.{groupsIn, groupsOf};
 ghost use Rattle.table.specs.TableBytes.{pairNumbers, groupNumbers, tableNumbers, wroteTable};
@@ -11,13 +11,13 @@ ghost use Rattle.table.specs.Internal.{GroupInside};
 use crate::Group;
 use crate::Span;
 use crate::Table;
-use crate::Written;
 use crate::check::table_fault;
-use crate::number::number_length;
-use crate::number::put_number;
 use crate::parts::group_at;
 use crate::parts::unpack_pair;
-use crate::refusal::TOO_SHORT;
+use number::BytesWritten;
+use number::refusal::TOO_SHORT;
+use number::writing::number_length;
+use number::writing::put_number;
 
 // How many bytes a group's pairs of one kind take.
 fn pairs_length(places: &[u16; 32], pairs: Span) -> usize
@@ -129,17 +129,17 @@ fn put_table<'a>(
 }
 
 // Writes a table at the front of a buffer: 4, 5, 8, 6, 7, then 10.
-pub fn write_table(table: Table, out: &mut [u8]) -> Written
+pub fn write_table(table: Table, out: &mut [u8]) -> BytesWritten
     ensures { λ r. ⌜ HasWritten (wroteTable (groupsOf table) (now (out .entry))) r (now (out .exit)) ⌝ }
 {
     let fault = table_fault(table);
     if fault != 0 {
-        return Written::Unwritten(fault);
+        return BytesWritten::Unwritten(fault);
     }
     let length = table_length(table.count, &table.groups, &table.loads, &table.stores);
     if out.len() < length {
-        return Written::Unwritten(TOO_SHORT);
+        return BytesWritten::Unwritten(TOO_SHORT);
     }
     put_table(table.count, &table.groups, &table.loads, &table.stores, out);
-    Written::Bytes(length)
+    BytesWritten::Bytes(length)
 }

@@ -15,7 +15,7 @@ fn obey(run: Run, command: usize, numbers: [u64; 8]) -> Run {
     if command == command::LENGTH {
         show::number(
             b": ",
-            table::number::number_length((numbers[0] % 4294967296) as u32) as u64,
+            number::writing::number_length((numbers[0] % 4294967296) as u32) as u64,
         );
         return run;
     }

@@ -36,8 +36,8 @@ pub(crate) fn set_bytes(mut run: Run, bytes: Bytes) -> Run {
 
 // The event at a place, and one step of a reader that stands there.
 fn event_at(bytes: &[u8], at: usize) {
-    show::event_read(table::trace::read_event(bytes, at));
-    let stepped = table::trace::step_at(bytes, at);
+    show::event_read(trace::reading::read_event(bytes, at));
+    let stepped = trace::reading::step_at(bytes, at);
     let read = stepped.read;
     show::words(b", step");
     show::event_read(read);
@@ -46,9 +46,9 @@ fn event_at(bytes: &[u8], at: usize) {
 
 fn read_at(bytes: &[u8], command: usize, at: usize) {
     match command {
-        command::READ_NUMBER => show::number_read(table::number::read_number(bytes, at)),
+        command::READ_NUMBER => show::number_read(number::reading::read_number(bytes, at)),
         command::READ_EVENT => event_at(bytes, at),
-        _ => show::header_read(table::trace::read_header(bytes)),
+        _ => show::header_read(trace::reading::read_header(bytes)),
     }
 }
 

@@ -1,16 +1,16 @@
 // Printing: words, numbers, bytes in hexadecimal, and what the calls answer.
 ghost use Prim.Native.Nat.{_<_};
 use libc::STDOUT_FILENO;
-use table::Event;
-use table::EventRead;
-use table::HeaderRead;
-use table::NumberRead;
+use number::BytesWritten;
+use number::NumberRead;
 use table::Pair;
 use table::Span;
 use table::Table;
-use table::Written;
 use table::parts::group_at;
 use table::parts::unpack_pair;
+use trace::Event;
+use trace::EventRead;
+use trace::HeaderRead;
 
 pub(crate) fn words(text: &[u8]) {
     io::write_all(STDOUT_FILENO, text);
@@ -63,10 +63,10 @@ pub(crate) fn number_read(read: NumberRead) {
 }
 
 // What writing answers.
-pub(crate) fn written(answer: Written) {
+pub(crate) fn written(answer: BytesWritten) {
     match answer {
-        Written::Bytes(count) => number(b": 0 wrote ", count as u64),
-        Written::Unwritten(refusal) => number(b": ", refusal as u64),
+        BytesWritten::Bytes(count) => number(b": 0 wrote ", count as u64),
+        BytesWritten::Unwritten(refusal) => number(b": ", refusal as u64),
     }
 }
 

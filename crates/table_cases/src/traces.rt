@@ -2,10 +2,10 @@
 use crate::command;
 use crate::run::Run;
 use crate::show;
-use table::Event;
-use table::Header;
+use number::BytesWritten;
 use table::Table;
-use table::Written;
+use trace::Event;
+use trace::Header;
 
 fn word(value: u64) -> u32 {
     (value % 4294967296) as u32
@@ -42,12 +42,12 @@ fn header_of(numbers: [u64; 8]) -> Header {
     }
 }
 
-fn put(table: Table, command: usize, numbers: [u64; 8], out: &mut [u8]) -> Written {
+fn put(table: Table, command: usize, numbers: [u64; 8], out: &mut [u8]) -> BytesWritten {
     match command {
-        command::WRITE_NUMBER => table::number::write_number(word(numbers[1]), out),
-        command::WRITE_HEADER => table::trace::write_header(header_of(numbers), out),
+        command::WRITE_NUMBER => number::writing::write_number(word(numbers[1]), out),
+        command::WRITE_HEADER => trace::writing::write_header(header_of(numbers), out),
         command::WRITE_TABLE => table::write::write_table(table, out),
-        _ => table::trace::write_event(
+        _ => trace::writing::write_event(
             event_of(numbers[1], word(numbers[2]), word(numbers[3])),
             out,
         ),
@@ -61,7 +61,7 @@ fn put_in(
     numbers: [u64; 8],
     buffer: &mut [u8],
     room: usize,
-) -> Written {
+) -> BytesWritten {
     if room < buffer.len() {
         return put(table, command, numbers, &mut buffer[..room]);
     }

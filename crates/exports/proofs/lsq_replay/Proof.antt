@@ -2,7 +2,7 @@
 use Prim.Native.Nat.{ℕ}
 use mathlib.Core.Path.{_≡_}
 use mathlib.Core.List.{List, []}
-use Rattle.table.specs.Number.{got}
+use Rattle.number.specs.Number.{got}
 use Rattle.table.specs.Table.{groupsOf}
 use Rattle.table.specs.TableBytes.{readTable}
 use Rattle.replay.proofs.TableLaws.{table-refused, table-got}

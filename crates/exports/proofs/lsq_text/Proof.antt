@@ -1,6 +1,6 @@
 use mathlib.Core.Path.{sym, ap, _∙_}
 use borrow.Author.Needs.{needs}
-use Rattle.table.specs.Number.{writtenReply}
+use Rattle.number.specs.Number.{writtenReply}
 use Rattle.exports.specs.Text.{textLength}
 use Rattle.exports.proofs.lsq_text.Statement.{statement}
 use Rattle.exports.proofs.lsq_text.Tie as tie

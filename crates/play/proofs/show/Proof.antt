@@ -4,7 +4,7 @@ use native.Mathlib.Omega.{arith}
 use lib.ListN.{length}
 use lib.Seq.{length-take-le}
 use borrow.Author.Needs.{needs}
-use Rattle.table.specs.Number.{writtenReply}
+use Rattle.number.specs.Number.{writtenReply}
 use Rattle.printed.proofs.TextFits.{bytes-few}
 use Rattle.play.proofs.show.Statement.{statement}
 use Rattle.play.proofs.show.Tie as tie

@@ -8,7 +8,7 @@ use mathlib.Core.Option.{none, some}
 use lib.Dec.{leb, eqb}
 use lib.ListN.{length, length-append, length-map, getElem?}
 use borrow.Author.Tests.{leb-true}
-use Rattle.table.specs.Basics.{allOf, countWhere}
+use Rattle.number.specs.Basics.{allOf, countWhere}
 use Rattle.table.specs.Group.{portOf, GroupPairs, Access, load, store, order}
 use Rattle.table.proofs.Order.{loadPorts, storePorts, order-loads, order-stores}
 use Rattle.queue.specs.declared.arguments.Argument.{Argument}

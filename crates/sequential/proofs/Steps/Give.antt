@@ -9,7 +9,7 @@ use mathlib.Core.Option.{Option, none, some}
 use lib.Dec.{eqb, ltb}
 use borrow.Author.Tests.{eqb-true}
 use lib.ListN.{getElem?}
-use Rattle.table.specs.Basics.{pick, anyOf, allOf, countWhere}
+use Rattle.number.specs.Basics.{pick, anyOf, allOf, countWhere}
 use Rattle.table.specs.Group.{GroupPairs}
 use Rattle.queue.specs.declared.arguments.Argument.{Argument}
 use Rattle.queue.specs.declared.arguments.Argument.the-variants.{LoadAddress, StoreAddress, StoreData}

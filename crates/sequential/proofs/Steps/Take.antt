@@ -8,7 +8,7 @@ use mathlib.Core.Option.{Option, none, some}
 use lib.Dec.{eqb}
 use borrow.Author.Tests.{not-true, eqb-true}
 use lib.ListN.{getElem?}
-use Rattle.table.specs.Basics.{pick, anyOf, allOf, countWhere}
+use Rattle.number.specs.Basics.{pick, anyOf, allOf, countWhere}
 use Rattle.table.specs.Group.{GroupPairs}
 use Rattle.queue.specs.declared.Kind.the-variants.{Load as load}
 use Rattle.queue.specs.declared.arguments.Argument.{Argument}

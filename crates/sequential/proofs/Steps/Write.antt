@@ -6,7 +6,7 @@ use mathlib.Core.List.{List, [], _∷_, _++_}
 use mathlib.Core.Option.{none, some}
 use lib.ListN.{set, length-set, getElem?}
 use borrow.Author.Tests.{not-true}
-use Rattle.table.specs.Basics.{allOf}
+use Rattle.number.specs.Basics.{allOf}
 use Rattle.table.specs.Group.{GroupPairs}
 use Rattle.queue.specs.declared.arguments.Argument.{Argument}
 use Rattle.queue.specs.declared.arguments.Argument.the-variants.{LoadAddress, StoreAddress, StoreData}

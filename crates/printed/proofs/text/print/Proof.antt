@@ -1,5 +1,5 @@
 use mathlib.Core.Path.{refl, ap}
-use Rattle.table.specs.Number.{accepts}
+use Rattle.number.specs.Number.{accepts}
 use Rattle.printed.proofs.TextLaws.{printed-short, printed-fits, puts-front}
 use borrow.Author.Needs.{needs}
 use Rattle.printed.proofs.text.print.Statement.{statement}

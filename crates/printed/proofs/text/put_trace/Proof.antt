@@ -4,7 +4,7 @@ use native.Mathlib.Omega.{arith}
 use lib.ListN.{length}
 use lib.Seq.{length-take-le}
 use Rattle.table.specs.Table.{groupsOf}
-use Rattle.table.specs.Event.{readHeader}
+use Rattle.trace.specs.Event.{readHeader}
 use Rattle.queue.proofs.ContentsLaws.{words-held}
 use Rattle.replay.proofs.PrepareLaws.{prepare-refused, trace-opened, prepare-opened}
 use Rattle.printed.specs.Text.{startText}

@@ -15,7 +15,7 @@ use Rattle.queue.specs.declared.Queue.{Queue}
 use mathlib.Core.Option.{none}
 use Rattle.queue.specs.declared.answering.Step.{Step}
 use Rattle.queue.specs.Contents.{contentsOf}
-use Rattle.queue.specs.Refusal.{noPlace}
+use Rattle.number.specs.Refusal.{noPlace}
 use Rattle.queue.specs.Ruled.{accept, need}
 use Rattle.queue.specs.Activate.{room, withGroup, activate}
 use Rattle.queue.specs.InternalActivate.{PairsFit}

@@ -5,7 +5,7 @@ use mathlib.Core.Path.{_≡_, sym, _∙_}
 use mathlib.Core.Bool.{true, _&&_}
 use lib.Dec.{leb}
 use borrow.Author.Tests.{not-true, not-false}
-use Rattle.table.specs.Basics.{allOf}
+use Rattle.number.specs.Basics.{allOf}
 use Rattle.queue.specs.declared.Queue.{Queue}
 use Rattle.queue.specs.Sound.{depthRight, memoryRight}
 use Rattle.queue.specs.Parts.{frameOf, queueOf, whole}

@@ -1,7 +1,7 @@
 use mathlib.Core.Path.{sym, ap, _∙_}
 use borrow.Author.Needs.{needs}
-use Rattle.table.specs.Event.{headerReply}
-use Rattle.table.proofs.TraceSteps.{header-got, header-bad}
+use Rattle.trace.specs.Event.{headerReply}
+use Rattle.trace.proofs.TraceSteps.{header-got, header-bad}
 use Rattle.replay.proofs.preparing.open_trace.Statement.{statement}
 use Rattle.replay.proofs.preparing.open_trace.Tie as tie
 

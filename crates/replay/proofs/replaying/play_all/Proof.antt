@@ -8,18 +8,18 @@ use borrow.Author.Needs.{needs}
 use lib.ListN.{length}
 use types.Run.{OneOf}
 use denote.Enum.Declared.{tagOf}
-use Rattle.table.specs.declared.EventRead.{EventRead}
-use Rattle.table.specs.declared.EventRead.the-variants.{Found, End, NoEvent}
-use Rattle.table.proofs.EventRead.{the-type}
-use Rattle.table.specs.Event.{eventReply}
-use Rattle.table.specs.Number.{got}
+use Rattle.trace.specs.declared.EventRead.{EventRead}
+use Rattle.trace.specs.declared.EventRead.the-variants.{Found, End, NoEvent}
+use Rattle.trace.proofs.EventRead.{the-type}
+use Rattle.trace.specs.Event.{eventReply}
+use Rattle.number.specs.Number.{got}
 use Rattle.queue.specs.Contents.{contentsOf}
 use Rattle.queue.specs.Parts.{frameOf, queueOf}
 use Rattle.queue.proofs.PartsLaws.{both-whole}
 use Rattle.replay.specs.Events.{eventsFrom}
 use Rattle.replay.specs.Playing.{playing}
 use Rattle.replay.specs.Internal.{playedOf}
-use Rattle.table.proofs.TraceSteps.{EventGot, event-got, event-end, event-fault}
+use Rattle.trace.proofs.TraceSteps.{EventGot, event-got, event-end, event-fault}
 use Rattle.replay.proofs.ReplayLaws.{buffers, Walk, walk-none, Room, walk-room, walk-lengths, walk-more, walk-end, walk-no-fault}
 use Rattle.replay.proofs.replaying.play_all.Statement.{statement}
 use Rattle.replay.proofs.replaying.play_all.Tie as tie

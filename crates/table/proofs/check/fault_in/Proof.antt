@@ -7,7 +7,7 @@ use lib.ListN.{getD}
 use borrow.Author.Needs.{needs}
 use borrow.Author.Tests.{le-leb, lt-leb}
 use Rattle.table.specs.declared.Table.{Table}
-use Rattle.table.specs.Basics.{within}
+use Rattle.number.specs.Basics.{within}
 use Rattle.table.specs.Group.{GroupPairs, pairsOf}
 use Rattle.table.specs.Table.{groupsIn, groupsOf, noneSeen}
 use Rattle.table.specs.Internal.{seenIn}

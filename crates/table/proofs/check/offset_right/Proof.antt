@@ -1,6 +1,6 @@
 use mathlib.Core.Path.{sym, _∙_}
 use borrow.Author.Tests.{le-leb, lt-leb}
-use Rattle.table.specs.Basics.{countWhere}
+use Rattle.number.specs.Basics.{countWhere}
 use Rattle.table.specs.Group.{listOf, beforeStore}
 use Rattle.table.proofs.CheckLaws.{agrees-more, agrees-none, agrees-some}
 use borrow.Author.Needs.{needs}

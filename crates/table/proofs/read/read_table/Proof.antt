@@ -6,10 +6,10 @@ use lib.ListN.{length, drop, length-drop}
 use borrow.Author.Tests.{le-leb, lt-leb, eq-eqb, ne-eqb}
 use Rattle.table.specs.declared.Table.{Table}
 use Rattle.table.specs.declared.TableRead.{TableRead}
-use Rattle.table.specs.Number.{got, bad, readNumber, numberReply, numberRefusal}
+use Rattle.number.specs.Number.{got, bad, readNumber, numberReply, numberRefusal}
 use Rattle.table.specs.Table.{noneSeen}
 use Rattle.table.specs.TableBytes.{readGroups, readTable}
-use Rattle.table.proofs.NumberLaws.{NumberGot, number-got, number-bad}
+use Rattle.number.proofs.NumberLaws.{NumberGot, number-got, number-bad}
 use Rattle.table.proofs.ReadLaws.{groups-bad, GroupsGot, groups-got}
 use borrow.Author.Needs.{needs}
 use Rattle.table.proofs.read.read_table.Statement.{statement}

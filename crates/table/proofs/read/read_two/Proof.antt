@@ -1,7 +1,7 @@
 use mathlib.Core.Path.{sym, ap, _∙_}
-use Rattle.table.specs.Number.{numberReply, numberRefusal}
+use Rattle.number.specs.Number.{numberReply, numberRefusal}
 use Rattle.table.specs.Internal.{readTwo}
-use Rattle.table.proofs.NumberLaws.{place-drop, NumberGot, number-got, number-bad}
+use Rattle.number.proofs.NumberLaws.{place-drop, NumberGot, number-got, number-bad}
 use borrow.Author.Needs.{needs}
 use Rattle.table.proofs.read.read_two.Statement.{statement}
 use Rattle.table.proofs.read.read_two.Tie as tie

@@ -1,6 +1,6 @@
 use Prim.Native.Nat.{_≤_}
 use native.Mathlib.Omega.{arith}
-use Rattle.table.proofs.SpliceLaws.{bytes-most}
+use Rattle.number.proofs.SpliceLaws.{bytes-most}
 use Rattle.table.proofs.WriteLaws.{group-bytes}
 use borrow.Author.Needs.{needs}
 use Rattle.table.proofs.write.group_length.Statement.{statement}

@@ -6,7 +6,7 @@ use borrow.Author.Needs.{needs}
 use Rattle.table.specs.Group.{listOf, blankPair}
 use Rattle.table.specs.TableBytes.{pairNumbers}
 use Rattle.table.proofs.CheckLaws.{view-length, view-at}
-use Rattle.table.proofs.SpliceLaws.{bytes-most}
+use Rattle.number.proofs.SpliceLaws.{bytes-most}
 use Rattle.table.proofs.WriteLaws.{Tallied, tallied-none, tallied-more, tallied-end, pair-length}
 use Rattle.table.proofs.write.pairs_length.Statement.{statement}
 use Rattle.table.proofs.write.pairs_length.Tie as tie

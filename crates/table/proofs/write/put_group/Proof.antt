@@ -3,11 +3,11 @@ use mathlib.Core.Path.{_≡_}
 use mathlib.Core.List.{_∷_, []}
 use native.Mathlib.Omega.{arith}
 use lib.ListN.{length}
-use Rattle.table.specs.Basics.{flat}
-use Rattle.table.specs.Number.{bytesOf, numberBytes, PutAt}
+use Rattle.number.specs.Basics.{flat}
+use Rattle.number.specs.Number.{bytesOf, numberBytes, PutAt}
 use Rattle.table.specs.Group.{listOf}
 use Rattle.table.specs.TableBytes.{pairNumbers}
-use Rattle.table.proofs.SpliceLaws.{put-at, Put, put-none, put-two}
+use Rattle.number.proofs.SpliceLaws.{put-at, Put, put-none, put-two}
 use Rattle.table.proofs.WriteLaws.{group-bytes, put-group}
 use borrow.Author.Needs.{needs}
 use Rattle.table.proofs.write.put_group.Statement.{statement}

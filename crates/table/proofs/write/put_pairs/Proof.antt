@@ -6,12 +6,12 @@ use lib.ListN.{length, getD, take}
 use lib.Seq.{take-all}
 use borrow.Author.Needs.{needs}
 use Rattle.table.specs.declared.Pair.{Pair}
-use Rattle.table.specs.Basics.{flat}
-use Rattle.table.specs.Number.{bytesOf, numberBytes, PutAt}
+use Rattle.number.specs.Basics.{flat}
+use Rattle.number.specs.Number.{bytesOf, numberBytes, PutAt}
 use Rattle.table.specs.Group.{listOf, blankPair}
 use Rattle.table.specs.TableBytes.{pairNumbers}
 use Rattle.table.proofs.CheckLaws.{view-length, view-at}
-use Rattle.table.proofs.SpliceLaws.{put-at, Put, put-none, put-length, put-two}
+use Rattle.number.proofs.SpliceLaws.{put-at, Put, put-none, put-length, put-two}
 use Rattle.table.proofs.WriteLaws.{flat-next, flat-room, pair-length}
 use Rattle.table.proofs.write.put_pairs.Statement.{statement}
 use Rattle.table.proofs.write.put_pairs.Tie as tie

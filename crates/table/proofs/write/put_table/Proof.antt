@@ -6,13 +6,13 @@ use lib.ListN.{length, getD, take}
 use lib.Seq.{take-all}
 use borrow.Author.Needs.{needs}
 use Rattle.table.specs.declared.Table.{Table}
-use Rattle.table.specs.Basics.{flat}
-use Rattle.table.specs.Number.{numberBytes, bytesOf, PutAt}
+use Rattle.number.specs.Basics.{flat}
+use Rattle.number.specs.Number.{numberBytes, bytesOf, PutAt}
 use Rattle.table.specs.Group.{GroupPairs, pairsOf}
 use Rattle.table.specs.Table.{groupsIn, groupsOf}
 use Rattle.table.specs.TableBytes.{groupNumbers}
 use Rattle.table.proofs.CheckLaws.{groups-size, group-inside, group-at}
-use Rattle.table.proofs.SpliceLaws.{put-at, Put, put-none, put-two, put-more, put-length}
+use Rattle.number.proofs.SpliceLaws.{put-at, Put, put-none, put-two, put-more, put-length}
 use Rattle.table.proofs.WriteLaws.{flat-next, flat-room, table-size, put-table}
 use Rattle.table.proofs.write.put_table.Statement.{statement}
 use Rattle.table.proofs.write.put_table.Tie as tie

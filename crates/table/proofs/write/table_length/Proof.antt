@@ -8,7 +8,7 @@ use Rattle.table.specs.Group.{pairsOf}
 use Rattle.table.specs.Table.{groupsIn, groupsOf}
 use Rattle.table.specs.TableBytes.{groupNumbers}
 use Rattle.table.proofs.CheckLaws.{groups-size, group-inside, group-at}
-use Rattle.table.proofs.SpliceLaws.{bytes-most}
+use Rattle.number.proofs.SpliceLaws.{bytes-most}
 use Rattle.table.proofs.WriteLaws.{Tallied, tallied-none, tallied-more, tallied-end, table-bytes}
 use Rattle.table.proofs.write.table_length.Statement.{statement}
 use Rattle.table.proofs.write.table_length.Tie as tie

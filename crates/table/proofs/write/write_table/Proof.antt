@@ -3,11 +3,11 @@ use Prim.Native.Nat.{_≤_}
 use mathlib.Core.Path.{_≡_, refl, sym, ap, _∙_}
 use native.Mathlib.Omega.{arith}
 use borrow.Author.Tests.{eq-eqb, ne-eqb}
-use Rattle.table.specs.Number.{accepts}
+use Rattle.number.specs.Number.{accepts}
 use Rattle.table.specs.Table.{groupsOf, tableFault}
 use Rattle.table.specs.TableBytes.{tableBytes, wroteTable}
 use Rattle.table.proofs.CheckLaws.{groups-size}
-use Rattle.table.proofs.SpliceLaws.{wrote-short, wrote-fits}
+use Rattle.number.proofs.SpliceLaws.{wrote-short, wrote-fits}
 use Rattle.table.proofs.OrderOffsets.{table-groups-few}
 use borrow.Author.Needs.{needs}
 use Rattle.table.proofs.write.write_table.Statement.{statement}

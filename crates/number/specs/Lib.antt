@@ -1,0 +1,4 @@
+-- What the crate's contracts mean, in the order of document 01.
+pub mod Basics
+pub mod Refusal
+pub mod Number

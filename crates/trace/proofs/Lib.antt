@@ -1,0 +1,5 @@
+-- Laws that the functions' proofs cite, one file a topic.
+pub mod TraceLaws
+pub mod RoundTrip
+pub mod Traces
+pub mod TraceSteps

@@ -110,9 +110,8 @@ GroupsWithinPlaces =
     (t : Table) → length (t .groups) ≡ 16 → length (t .loads) ≡ 32 → length (t .stores) ≡ 32 → tableFault (groupsOf t) ≡ 0
     → (i : ℕ) → i < t .count → groupWithin (groupIn (getD (t .groups) i 0)) ≡ true
 
--- What the program order of a right table's groups is: "a load's offset counts the group's stores before it; a store's counts the
--- loads before it". Along the order of each group of a right table stand just its loads and its stores, at their
--- offsets. The proof is proofs/OrderOffsets.antt.
+-- "A load's offset counts the group's stores before it; a store's counts the loads before it": along the program order of each
+-- group of a right table stand just its loads and its stores, at their offsets. The proof is proofs/OrderOffsets.antt.
 abbrev pub OffsetsCountOrder : Type 0
 OffsetsCountOrder =
     (gs : List GroupPairs) → tableFault gs ≡ 0 → (i : ℕ) (d : GroupPairs) → i < length gs →

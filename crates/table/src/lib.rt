@@ -1,5 +1,6 @@
 // Group tables: their records, and the calls that read, check and write them.
-// Firms take this crate by itself; what lies above rests on its contracts, its definitions and the laws about them that its proofs publish.
+// Firms take this crate with `number` beneath it; what lies above rests on its contracts, its definitions and the laws about them that
+// its proofs publish.
 
 pub mod check;
 pub mod parts;

@@ -1,5 +1,5 @@
-// Cases of the crate `table`, as a script on standard input: a command to a line, echoed with what came back. The script's own
-// first lines say what each command does.
+// Cases of the crates `number`, `trace` and `table`, as a script on standard input: a command to a line, echoed with what came
+// back. The script's own first lines say what each command does.
 mod command;
 mod run;
 mod show;

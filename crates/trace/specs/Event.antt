@@ -95,8 +95,8 @@ pub record Steps (s : List ℕ) (place : ℕ) (r : Stepped) : Type 0 where
   pub read : eventReply (r .read) ≡ eventAt s place
   pub next : r .next ≡ placeAfter place (eventAt s place)
 
--- "A reader stays attached to the lent trace and yields one event per step": a reader is a byte slice and a position. Here it is the
--- same slice, at another position.
+-- "A reader stays attached to the lent trace and yields one event per step": it is a byte slice and a position. The same slice, at
+-- another position:
 abbrev pub movedTo : Reader → ℕ → Reader
 movedTo r n = record { bytes = r .bytes; at = n }
 

@@ -12,7 +12,7 @@ const RECORDS: [(&str, &str, &str); 11] = [
     ("crates/queue/src/lib.rt", "Counts", "lsq_counts"),
     ("crates/queue/src/lib.rt", "Queue", "lsq_queue"),
     ("crates/live/src/bytes.rt", "TableFound", "lsq_table_read"),
-    ("crates/live/src/bytes.rt", "BytesWritten", "lsq_written"),
+    ("crates/live/src/bytes.rt", "LiveWritten", "lsq_written"),
     ("crates/live/src/calls.rt", "LiveOpened", "lsq_opened"),
     ("crates/live/src/calls.rt", "LiveStep", "lsq_step"),
     ("crates/live/src/calls.rt", "LiveService", "lsq_service"),

@@ -14,7 +14,7 @@ use source::Sources;
 
 const TEXT_SPECS: &str = "crates/printed/specs/Outcome.antt";
 const LENGTHS: [(&str, &str); 2] = [
-    ("crates/table/src/number.rt", "const LENGTHS: [u8; "),
+    ("crates/number/src/writing.rt", "const LENGTHS: [u8; "),
     ("reference/src/number.rs", "const BYTE_COUNT: [usize; "),
 ];
 const VERSIONS: [(&str, &str); 2] = [

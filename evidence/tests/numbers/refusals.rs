@@ -6,14 +6,12 @@ use std::collections::BTreeMap;
 use crate::check::Check;
 use crate::source::{Source, Sources};
 
-pub const PATHS: [&str; 8] = [
+pub const PATHS: [&str; 6] = [
     "bindings/c/lsq.h",
     "bindings/rust/src/refusal.rs",
     "reference/src/refusal.rs",
-    "crates/table/src/refusal.rt",
-    "crates/queue/src/refusal.rt",
-    "crates/table/specs/Refusal.antt",
-    "crates/queue/specs/Refusal.antt",
+    "crates/number/src/refusal.rt",
+    "crates/number/specs/Refusal.antt",
     "docs/FORMATS.md",
 ];
 
@@ -37,15 +35,12 @@ const CRATES_NAMES: [(&str, &str); 16] = [
     ("BAD_KIND", "KIND"),
 ];
 
-/// Names that a kind of source need not have: 0 is no refusal, and the crates
-/// below `printed` have no files.
-const ABSENT: [(&str, &str); 6] = [
+/// Names that a kind of source need not have: 0 is no refusal.
+const ABSENT: [(&str, &str); 4] = [
     ("ACCEPTED", "bindings/rust"),
     ("ACCEPTED", "src/refusal.rt"),
     ("ACCEPTED", "specs/Refusal.antt"),
     ("ACCEPTED", "docs/FORMATS.md"),
-    ("FILE_TOO_LONG", "src/refusal.rt"),
-    ("FILE_TOO_LONG", "specs/Refusal.antt"),
 ];
 const KINDS: [&str; 6] = [
     "bindings/c",

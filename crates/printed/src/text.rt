@@ -13,6 +13,7 @@ ghost use Rattle.printed.specs.Internal.{Puts, Printable};
 use crate::lines::put_run;
 use crate::put::put_item;
 use number::BytesWritten;
+use number::refusal::FILE_TOO_LONG;
 use number::refusal::TOO_SHORT;
 use queue::Counts;
 use queue::Queue;
@@ -24,8 +25,6 @@ use table::read::read_table;
 // A file is at most this long.
 pub const MOST_BYTES: usize = 16384;
 
-// the refusal of a longer file
-const FILE_TOO_LONG: u64 = 36;
 // no text is longer
 pub const MOST_TEXT: usize = 1224789;
 
@@ -80,7 +79,7 @@ fn put_trace(out: &mut [u8], table: Table, trace: &[u8]) -> usize
     ensures { λ r. ⌜ Puts (now (out .entry)) 0 (traceText (groupsOf table) (now (trace .entry))) r (now (out .exit)) ⌝ }
 {
     if MOST_BYTES < trace.len() {
-        return put_item(out, 0, b"trace ", FILE_TOO_LONG, 10);
+        return put_item(out, 0, b"trace ", FILE_TOO_LONG as u64, 10);
     }
     let opened = open_trace(table, trace);
     if opened.answer != 0 {
@@ -99,7 +98,7 @@ fn put_text(out: &mut [u8], table: &[u8], trace: &[u8]) -> usize
     ensures { λ r. ⌜ Puts (now (out .entry)) 0 (text (now (table .entry)) (now (trace .entry))) r (now (out .exit)) ⌝ }
 {
     if MOST_BYTES < table.len() {
-        return put_item(out, 0, b"table ", FILE_TOO_LONG, 10);
+        return put_item(out, 0, b"table ", FILE_TOO_LONG as u64, 10);
     }
     let read = read_table(table);
     if read.answer != 0 {

@@ -441,10 +441,10 @@ impl<const CHECKED: bool> LoadStoreQueue<CHECKED> {
         let clashes = |other: Option<u32>| other.is_none_or(|other| other == address);
         let mut loads = self.loads.entries.range(..store.loads_before);
         let load_waits = loads.any(|load| !load.served && clashes(load.address));
-        require(!load_waits, refusal::EARLIER_LOAD)?;
+        require(!load_waits, refusal::LOAD_CONFLICT)?;
         let mut stores = self.stores.entries.range(..index);
         let store_waits = stores.any(|older| !older.written && clashes(older.address));
-        require(!store_waits, refusal::EARLIER_STORE)?;
+        require(!store_waits, refusal::STORE_CONFLICT)?;
         Ok((address, data))
     }
 

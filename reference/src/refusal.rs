@@ -54,9 +54,9 @@ pub const NO_DATA: u8 = 29;
 /// "Lent memory has another length than at opening."
 pub const OTHER_MEMORY: u8 = 30;
 /// "An earlier unserved load has no address or the same one."
-pub const EARLIER_LOAD: u8 = 31;
+pub const LOAD_CONFLICT: u8 = 31;
 /// "An earlier unwritten store has no address or the same one."
-pub const EARLIER_STORE: u8 = 32;
+pub const STORE_CONFLICT: u8 = 32;
 /// "No untaken load of the port is queued."
 pub const NONE_UNTAKEN: u8 = 33;
 /// "The oldest is not served."

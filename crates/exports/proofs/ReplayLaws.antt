@@ -13,8 +13,8 @@ use Rattle.queue.specs.declared.Counts.{Counts}
 use Rattle.queue.specs.Ruled.{Ruled, refuse, accept}
 use Rattle.replay.specs.declared.Replayed.{Replayed}
 use Rattle.replay.specs.Replay.{Replay, Buffers, replay}
-use Rattle.replay.specs.Outcome.{Replayed-as}
-use Rattle.exports.specs.Replay.{Lent, countsOf, countsIn, replayLent, Answered, answered}
+use Rattle.replay.specs.Outcome.{Replays}
+use Rattle.exports.specs.Replay.{Lent, countsOf, countsIn, replayLent, LentAfter, lentAfter}
 
 -- what `replay` gives on what was lent
 abbrev replayOf : List GroupPairs → List ℕ → Lent → Ruled Replay
@@ -36,10 +36,10 @@ module _ (table trace : List ℕ) (l : Lent) where
     lent-replays h = rw (is, le-leb _ _ h)
 
 -- ---- what is answered and left
-abbrev tell : ℕ → Lent → Answered
+abbrev tell : ℕ → Lent → LentAfter
 tell n l = record { answer = n; left = l }
 
-pub answered-refused : (l : Lent) {rule : Ruled Replay} {n : ℕ} → rule ≡ refuse n → tell n l ≡ answered l rule
+pub answered-refused : (l : Lent) {rule : Ruled Replay} {n : ℕ} → rule ≡ refuse n → tell n l ≡ lentAfter l rule
 answered-refused l e = rw e
 
 -- both counts stored at the front of a run that has room for them
@@ -58,13 +58,13 @@ stored-same (x ∷ []) h = absurd (omega arith)
 stored-same (x ∷ y ∷ rest) h = refl
 
 -- the answer of a replay, and what it leaves
-abbrev leaving : Lent → Replayed → List ℕ → Buffers → Answered
-leaving l r memory b = tell (r .answer) (record { memory = memory; counts = storedIn (r .counts) (l .counts); buffers = b })
+abbrev replay-leaving : Lent → Replayed → List ℕ → Buffers → LentAfter
+replay-leaving l r memory b = tell (r .answer) (record { memory = memory; counts = storedIn (r .counts) (l .counts); buffers = b })
 
-answered-replay : (l : Lent) (rule : Ruled Replay) (r : Replayed) {memory : List ℕ} {b : Buffers} → 2 ≤ length (l .counts) → Replayed-as (l .memory) (countsOf (l .counts)) (l .buffers) rule r memory b → leaving l r memory b ≡ answered l rule
+answered-replay : (l : Lent) (rule : Ruled Replay) (r : Replayed) {memory : List ℕ} {b : Buffers} → 2 ≤ length (l .counts) → Replays (l .memory) (countsOf (l .counts)) (l .buffers) rule r memory b → replay-leaving l r memory b ≡ lentAfter l rule
 answered-replay l (refuse n) r h w = rw (w .outcome, w .memory-is, w .buffers-are, stored-same (l .counts) h)
 answered-replay l (accept p) r h w = rw (w .outcome, w .memory-is, w .buffers-are, stored-front (p .left .counts) (l .counts) h)
 
 -- the counts that a replay hands back are stored whether it is refused or not
-pub answered-lent : (table trace : List ℕ) (l : Lent) {gs : List GroupPairs} → readTable table ≡ got gs [] → 2 ≤ length (l .counts) → (r : Replayed) {memory : List ℕ} {b : Buffers} → Replayed-as (l .memory) (countsOf (l .counts)) (l .buffers) (replayOf gs trace l) r memory b → leaving l r memory b ≡ answered l (replayLent table trace l)
+pub answered-lent : (table trace : List ℕ) (l : Lent) {gs : List GroupPairs} → readTable table ≡ got gs [] → 2 ≤ length (l .counts) → (r : Replayed) {memory : List ℕ} {b : Buffers} → Replays (l .memory) (countsOf (l .counts)) (l .buffers) (replayOf gs trace l) r memory b → replay-leaving l r memory b ≡ lentAfter l (replayLent table trace l)
 answered-lent table trace l {gs} is h r w = rw (lent-replays table trace l is h) (answered-replay l (replayOf gs trace l) r h w)

@@ -7,7 +7,7 @@ use Rattle.number.specs.Refusal.{tooShort}
 use Rattle.queue.specs.declared.Counts.{Counts}
 use Rattle.queue.specs.Ruled.{Ruled, refuse, accept, need, andThen}
 use Rattle.replay.specs.Replay.{Replay, Buffers, tableIn, replay}
-use Rattle.replay.specs.Outcome.{over, logIn}
+use Rattle.replay.specs.Outcome.{atFront, logIn}
 
 -- all that is lent: the memory, the counts as a run of numbers, and the buffers for answers and values
 pub record Lent : Type 0 where
@@ -24,7 +24,7 @@ countsOf run = record { loads = getD run 0 0; forwarded = getD run 1 0 }
 
 -- a lent run with these counts at its front; it keeps the rest
 abbrev pub countsIn : Counts → List ℕ → List ℕ
-countsIn c run = over (c .loads ∷ c .forwarded ∷ []) run
+countsIn c run = atFront (c .loads ∷ c .forwarded ∷ []) run
 
 -- In the order of checking: the table's refusal; 10 the run of counts is shorter than 2; what `replay` refuses, which is the
 -- trace's refusal, 30 or 10.
@@ -35,16 +35,16 @@ replayLent table trace l =
     (replay gs trace (l .memory) (countsOf (l .counts)) (l .buffers))
 
 -- an answer, and what was lent as it is left
-pub record Answered : Type 0 where
+pub record LentAfter : Type 0 where
   pub answer : ℕ
   pub left : Lent
 
 -- A refusal leaves all that was lent as it was. Else the answer is 0, and what was lent holds the memory and the counts that
 -- the events leave, and for each event, at the front of the buffers, its answer, 1 or 0 as it gave a value or none, and the
 -- value or 0.
-abbrev pub answered : Lent → Ruled Replay → Answered
-answered l (refuse n) = record { answer = n; left = l }
-answered l (accept p) = record {
+abbrev pub lentAfter : Lent → Ruled Replay → LentAfter
+lentAfter l (refuse n) = record { answer = n; left = l }
+lentAfter l (accept p) = record {
   answer = 0;
   left = record {
     memory = p .left .machine .memory;

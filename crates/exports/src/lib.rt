@@ -7,8 +7,8 @@ ghost use Rattle.queue.specs.Ruled.{number};
 ghost use Rattle.printed.specs.Outcome.{printed};
 ghost use Rattle.exports.specs.Text.{textLength};
 ghost use Rattle.exports.specs.Prepared.{prepared, eventCount, memoryLength};
-ghost use Rattle.exports.specs.Replay.{lent, replayLent, answered};
-ghost use Rattle.exports.specs.Internal.{Tells};
+ghost use Rattle.exports.specs.Replay.{lent, replayLent, lentAfter};
+ghost use Rattle.exports.specs.Internal.{TellsPrepared};
 use number::BytesWritten;
 use number::refusal::TOO_SHORT;
 use printed::text::print;
@@ -22,7 +22,7 @@ use table::read::read_table;
 
 // Reads the table and makes the trace ready.
 fn make_ready(table: &[u8], trace: &[u8]) -> Prepared
-    ensures { λ r. ⌜ Tells (prepared (now (table .entry)) (now (trace .entry))) r ⌝ }
+    ensures { λ r. ⌜ TellsPrepared (prepared (now (table .entry)) (now (trace .entry))) r ⌝ }
 {
     let read = read_table(table);
     if read.answer != 0 {
@@ -83,7 +83,7 @@ pub extern "C" fn lsq_replay(
     values: &mut [u32],
 ) -> u32
     ensures { λ r. ⌜ record { answer = r; left = lent (now (memory .exit)) (now (counts .exit)) (now (answers .exit)) (now (given .exit)) (now (values .exit)) }
-        ≡ answered (lent (now (memory .entry)) (now (counts .entry)) (now (answers .entry)) (now (given .entry)) (now (values .entry)))
+        ≡ lentAfter (lent (now (memory .entry)) (now (counts .entry)) (now (answers .entry)) (now (given .entry)) (now (values .entry)))
         (replayLent (now (table .entry)) (now (trace .entry))
         (lent (now (memory .entry)) (now (counts .entry)) (now (answers .entry)) (now (given .entry)) (now (values .entry)))) ⌝ }
 {

@@ -24,9 +24,9 @@ use Rattle.queue.specs.Outcome.{Handed, HandedCounts, Accepted, Moves, Takes, W
 use Rattle.replay.specs.Playing.{givenIn, wordIn, afterServe}
 use Rattle.live.specs.Internal.{toldOf, toldServed}
 use Rattle.live.specs.Calls as Live
-use Rattle.live.specs.Calls.{Tells, moved, took, written, served, memoryAfter}
+use Rattle.live.specs.Calls.{LiveTells, moveGives, takeGives, writeGives, serveGives, memoryAfter}
 
-accepted-tells : {v : Option ℕ} {q : Contents} {o : Outcome} → Accepted v q o → Live.Accepted (record { value = v; queue = q }) (toldOf o)
+accepted-tells : {v : Option ℕ} {q : Contents} {o : Outcome} → Accepted v q o → Live.LiveAccepted (record { value = v; queue = q }) (toldOf o)
 accepted-tells a = record {
   answer = a .answer;
   given = ap givenIn (a .gives);
@@ -35,25 +35,25 @@ accepted-tells a = record {
 }
 
 -- what was handed back, as a live call tells it
-abbrev toldHanded : Handed → Live.Told
+abbrev toldHanded : Handed → Live.LiveTold
 toldHanded h = record { answer = h .answer; given = givenIn (h .value); value = wordIn (h .value); queue = h .queue }
 
 module _ (q : Queue) (o : Outcome) where
-  pub moves-tell : (rule : Ruled Contents) → Moves q rule o → Tells q (andThen rule moved) (toldOf o)
+  pub moves-tell : (rule : Ruled Contents) → Moves q rule o → LiveTells q (andThen rule moveGives) (toldOf o)
   moves-tell (refuse n) e = ap toldHanded e
   moves-tell (accept c) a = accepted-tells a
 
-  pub takes-tell : (rule : Ruled Taken) → Takes q rule o → Tells q (andThen rule took) (toldOf o)
+  pub takes-tell : (rule : Ruled Taken) → Takes q rule o → LiveTells q (andThen rule takeGives) (toldOf o)
   takes-tell (refuse n) e = ap toldHanded e
   takes-tell (accept t) a = accepted-tells a
 
   pub writes-tell : (lent left : List ℕ) (rule : Ruled Written) → Writes q lent rule o left
-      → Tells q (andThen rule written) (toldOf o) × (left ≡ memoryAfter lent rule)
+      → LiveTells q (andThen rule writeGives) (toldOf o) × (left ≡ memoryAfter lent rule)
   writes-tell lent left (refuse n) u = (ap toldHanded (u .outcome), u .memory-is)
   writes-tell lent left (accept w) a = (accepted-tells (a .outcome), a .memory-is)
 
 pub serves-tell : (q : Queue) (c : Counts) (o : Counted) (rule : Ruled Served) → Serves q c rule o
-    → Tells q (andThen rule served) (toldServed o) × (o .counts ≡ afterServe c rule)
+    → LiveTells q (andThen rule serveGives) (toldServed o) × (o .counts ≡ afterServe c rule)
 serves-tell q c o (refuse n) e = (ap (λ (x : HandedCounts). toldHanded (x .outcome)) e, ap (λ (x : HandedCounts). x .counts) e)
 serves-tell q c o (accept s) a = (
   record { answer = a .answer; given = ap givenIn (a .gives); value = ap wordIn (a .gives); holds = a .holds },

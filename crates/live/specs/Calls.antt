@@ -40,13 +40,13 @@ LiveOpens table loadDepth storeDepth first words r =
     (record { answer = r .answer; frame = r .frame })
 
 -- What a live call tells: its answer, 1 or 0 as it gave a value or none, the value or 0, and the queue that its parts are left as.
-pub record Told : Type 0 where
+pub record LiveTold : Type 0 where
   pub answer : ℕ
   pub given : ℕ
   pub value : ℕ
   pub queue : Queue
 
-abbrev pub toldStep : Frame → LiveStep → List ℕ → List ℕ → Told
+abbrev pub toldStep : Frame → LiveStep → List ℕ → List ℕ → LiveTold
 toldStep frame r loads stores = record {
   answer = r .answer;
   given = r .given;
@@ -54,7 +54,7 @@ toldStep frame r loads stores = record {
   queue = queueOf (record { table = frame .table; words = frame .words; loads = r .loads; stores = r .stores }) loads stores;
 }
 
-abbrev pub toldService : LiveService → Queue → Told
+abbrev pub toldService : LiveService → Queue → LiveTold
 toldService r q = record { answer = r .answer; given = r .given; value = r .value; queue = q }
 
 -- what an accepted call gives: a value or none, and what the queue then holds
@@ -62,33 +62,33 @@ pub record Gives : Type 0 where
   pub value : Option ℕ
   pub queue : Contents
 
-abbrev pub moved : Contents → Ruled Gives
-moved q = accept (record { value = none; queue = q })
+abbrev pub moveGives : Contents → Ruled Gives
+moveGives q = accept (record { value = none; queue = q })
 
-abbrev pub took : Taken → Ruled Gives
-took t = accept (record { value = some (t .value); queue = t .queue })
+abbrev pub takeGives : Taken → Ruled Gives
+takeGives t = accept (record { value = some (t .value); queue = t .queue })
 
-abbrev pub served : Served → Ruled Gives
-served s = accept (record { value = some (s .value); queue = s .queue })
+abbrev pub serveGives : Served → Ruled Gives
+serveGives s = accept (record { value = some (s .value); queue = s .queue })
 
-abbrev pub written : Written → Ruled Gives
-written w = accept (record { value = none; queue = w .queue })
+abbrev pub writeGives : Written → Ruled Gives
+writeGives w = accept (record { value = none; queue = w .queue })
 
-pub record Accepted (g : Gives) (t : Told) : Type 0 where
+pub record LiveAccepted (g : Gives) (t : LiveTold) : Type 0 where
   pub answer : t .answer ≡ 0
   pub given : t .given ≡ givenIn (g .value)
   pub value : t .value ≡ wordIn (g .value)
   pub holds : contentsOf (t .queue) ≡ g .queue
 
 -- a refusal tells its number and no value, and leaves the very queue
-abbrev pub Tells : Queue → Ruled Gives → Told → Type 0
-Tells q (refuse n) t = t ≡ record { answer = n; given = 0; value = 0; queue = q }
-Tells q (accept g) t = Accepted g t
+abbrev pub LiveTells : Queue → Ruled Gives → LiveTold → Type 0
+LiveTells q (refuse n) t = t ≡ record { answer = n; given = 0; value = 0; queue = q }
+LiveTells q (accept g) t = LiveAccepted g t
 
 -- the memory that a write leaves
 abbrev pub memoryAfter : List ℕ → Ruled Written → List ℕ
 memoryAfter lent (refuse n) = lent
 memoryAfter lent (accept w) = w .memory
 
-abbrev pub readiedOf : LiveReady → Queue → Readied
-readiedOf r q = record { answer = r .answer; count = r .count; queue = q }
+abbrev pub liveReadied : LiveReady → Queue → Readied
+liveReadied r q = record { answer = r .answer; count = r .count; queue = q }

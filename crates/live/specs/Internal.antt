@@ -8,7 +8,7 @@ use Rattle.queue.specs.Outcome.{valueIn}
 use Rattle.replay.specs.Playing.{givenIn, wordIn}
 use Rattle.live.specs.declared.calls.LiveStep.{LiveStep}
 use Rattle.live.specs.declared.calls.LiveService.{LiveService}
-use Rattle.live.specs.Calls.{Told}
+use Rattle.live.specs.Calls.{LiveTold}
 
 abbrev pub liveStep : Step → LiveStep
 liveStep s = record { answer = s .answer; given = givenIn (valueIn (s .value)); value = wordIn (valueIn (s .value)); loads = s .loads; stores = s .stores }
@@ -16,8 +16,8 @@ liveStep s = record { answer = s .answer; given = givenIn (valueIn (s .value)); 
 abbrev pub liveService : Service → LiveService
 liveService s = record { answer = s .answer; given = givenIn (valueIn (s .value)); value = wordIn (valueIn (s .value)); counts = s .counts }
 
-abbrev pub toldOf : Outcome → Told
+abbrev pub toldOf : Outcome → LiveTold
 toldOf o = record { answer = o .answer; given = givenIn (valueIn (o .value)); value = wordIn (valueIn (o .value)); queue = o .queue }
 
-abbrev pub toldServed : Counted → Told
+abbrev pub toldServed : Counted → LiveTold
 toldServed o = record { answer = o .answer; given = givenIn (valueIn (o .value)); value = wordIn (valueIn (o .value)); queue = o .queue }

@@ -17,7 +17,7 @@ ghost use Rattle.queue.specs.Outcome.{Moves};
 ghost use Rattle.queue.specs.Parts.{whole, onParts, queueOf, answered};
 ghost use Rattle.queue.specs.Ruled.{andThen};
 ghost use Rattle.replay.specs.Playing.{afterServe};
-ghost use Rattle.live.specs.Calls.{LiveOpens, toldStep, toldService, Tells, moved, took, served, written, memoryAfter, readiedOf};
+ghost use Rattle.live.specs.Calls.{LiveOpens, toldStep, toldService, LiveTells, moveGives, takeGives, serveGives, writeGives, memoryAfter, liveReadied};
 ghost use Rattle.live.specs.Internal.{liveStep, liveService};
 use queue::Counts;
 use queue::Frame;
@@ -158,7 +158,7 @@ pub extern "C" fn lsq_activate_in(
 ) -> LiveStep
     ensures { λ r. ⌜ (let q = queueOf frame (now (loads .entry)) (now (stores .entry)) in
         let rule = onParts (now (loads .entry)) (now (stores .entry)) (activate (contentsOf q) group) in
-        Tells q (andThen rule moved) (toldStep frame r (now (loads .exit)) (now (stores .exit)))) ⌝ }
+        LiveTells q (andThen rule moveGives) (toldStep frame r (now (loads .exit)) (now (stores .exit)))) ⌝ }
 {
     let outline = outline_of(frame);
     let step = activate_in(
@@ -269,7 +269,7 @@ pub extern "C" fn lsq_serve_in(
 ) -> LiveService
     ensures { λ r. ⌜ (let q = queueOf frame (now (loads .entry)) (now (stores .entry)) in
         let rule = onParts (now (loads .entry)) (now (stores .entry)) (serve (contentsOf q) (now (memory .entry)) serial) in
-        Tells q (andThen rule served) (toldService r (queueOf frame (now (loads .exit)) (now (stores .entry))))
+        LiveTells q (andThen rule serveGives) (toldService r (queueOf frame (now (loads .exit)) (now (stores .entry))))
         × (r .counts ≡ afterServe counts rule)) ⌝ }
 {
     let outline = outline_of(frame);
@@ -298,7 +298,7 @@ pub extern "C" fn lsq_write_in(
 ) -> LiveStep
     ensures { λ r. ⌜ (let q = queueOf frame (now (loads .entry)) (now (stores .entry)) in
         let rule = onParts (now (loads .entry)) (now (stores .entry)) (write (contentsOf q) (now (memory .entry)) serial) in
-        Tells q (andThen rule written) (toldStep frame r (now (loads .exit)) (now (stores .exit)))
+        LiveTells q (andThen rule writeGives) (toldStep frame r (now (loads .exit)) (now (stores .exit)))
         × (now (memory .exit) ≡ memoryAfter (now (memory .entry)) rule)) ⌝ }
 {
     let outline = outline_of(frame);
@@ -325,7 +325,7 @@ pub extern "C" fn lsq_take_in(
 ) -> LiveStep
     ensures { λ r. ⌜ (let q = queueOf frame (now (loads .entry)) (now (stores .entry)) in
         let rule = onParts (now (loads .entry)) (now (stores .entry)) (takeRule (contentsOf q) port) in
-        Tells q (andThen rule took) (toldStep frame r (now (loads .exit)) (now (stores .exit)))) ⌝ }
+        LiveTells q (andThen rule takeGives) (toldStep frame r (now (loads .exit)) (now (stores .exit)))) ⌝ }
 {
     let outline = outline_of(frame);
     let step = take_in(
@@ -350,7 +350,7 @@ pub extern "C" fn lsq_ready_loads_in(
 ) -> LiveReady
     ensures { λ r. ⌜ (let q = queueOf frame (now (loads .entry)) (now (stores .entry)) in
         let rule = onParts (now (loads .entry)) (now (stores .entry)) (ready load (contentsOf q) (now (out .entry))) in
-        Readies q (now (out .entry)) rule (readiedOf r q) (now (out .exit))) ⌝ }
+        Readies q (now (out .entry)) rule (liveReadied r q) (now (out .exit))) ⌝ }
 {
     let outline = outline_of(frame);
     let ready = ready_in(
@@ -379,7 +379,7 @@ pub extern "C" fn lsq_ready_stores_in(
 ) -> LiveReady
     ensures { λ r. ⌜ (let q = queueOf frame (now (loads .entry)) (now (stores .entry)) in
         let rule = onParts (now (loads .entry)) (now (stores .entry)) (ready store (contentsOf q) (now (out .entry))) in
-        Readies q (now (out .entry)) rule (readiedOf r q) (now (out .exit))) ⌝ }
+        Readies q (now (out .entry)) rule (liveReadied r q) (now (out .exit))) ⌝ }
 {
     let outline = outline_of(frame);
     let ready = ready_in(

@@ -10,7 +10,7 @@ use borrow.Author.Tests.{le-ltb, le-leb, ltb-true, ltb-false}
 use Rattle.number.specs.Basics.{pick, allOf}
 use Rattle.number.specs.Refusal.{tooLarge}
 use Rattle.number.specs.Number.{Got, got, bad, above, numberUpTo, bytesUpTo, numberBytes, spells, isEmpty, valueOf, isByte, NumbersAreSpelled}
-use Rattle.number.specs.Number.{OnlySpelledNumbers, NumbersReadBack, NumberLength, FewestBytes, readNumber, bytesOf, Spelled, nothing, next, Fit}
+use Rattle.number.specs.Number.{OnlySpelledNumbers, NumbersReadBack, NumberLength, FewestBytes, readNumber, bytesOf, Spelled, spells-none, spells-one, Fit}
 use Rattle.number.specs.Number.{fit-none, fit-one}
 use Rattle.number.proofs.Both.{and-left, and-right}
 use Rattle.number.proofs.NumberLaws.{numberBound, number-length-law}
@@ -134,28 +134,28 @@ fewest-bytes s rest n b e = go (only-up-to 4 15 s n rest e)
         rw (w .whole, length-append) (omega arith)
 
 -- ---- numbers that are spelled are read one by one
-pub record Taken (s : List ℕ) (n : ℕ) (ns : List ℕ) : Type 0 where
+pub record NumberTaken (s : List ℕ) (n : ℕ) (ns : List ℕ) : Type 0 where
   pub rest : List ℕ
   pub is : readNumber s ≡ got n rest
   pub others : Spelled rest ns
 
-pub take-one : {s : List ℕ} {n : ℕ} {ns : List ℕ} → Spelled s (n ∷ ns) → Taken s n ns
-take-one (next bytes {rest} e w) = record { rest = rest; is = spelled-up-to 4 15 bytes rest e; others = w }
+pub take-one : {s : List ℕ} {n : ℕ} {ns : List ℕ} → Spelled s (n ∷ ns) → NumberTaken s n ns
+take-one (spells-one bytes {rest} e w) = record { rest = rest; is = spelled-up-to 4 15 bytes rest e; others = w }
 
 -- and a number that was read was spelled
 pub put-back : (s : List ℕ) (n : ℕ) (rest ns : List ℕ) → readNumber s ≡ got n rest → Spelled rest ns → Spelled s (n ∷ ns)
 put-back s n rest ns e w = go (only-up-to 4 15 s n rest e)
   where
     go : Spelling 4 15 s n rest → Spelled s (n ∷ ns)
-    go k = rw (k .whole, ← k .value) (next (k .bytes) (k .spell) w)
+    go k = rw (k .whole, ← k .value) (spells-one (k .bytes) (k .spell) w)
 
 pub spelled-none : {s : List ℕ} → Spelled s [] → s ≡ []
-spelled-none nothing = refl
+spelled-none spells-none = refl
 
 -- the writer spells
 pub written : {ns : List ℕ} → Fit ns → Spelled (bytesOf ns) ns
-written fit-none = nothing
+written fit-none = spells-none
 written (fit-one {n} {ns} h f) =
     let w = written-up-to 4 n h in
-    let k = next (numberBytes n) (w .0) (written f) in
+    let k = spells-one (numberBytes n) (w .0) (written f) in
     rw (w .1) at k

@@ -151,42 +151,42 @@ bytes-front ns i =
     rw (e, length-append) (omega arith)
 
 -- `out` is `d` with the bytes of these numbers at a place, and `end` is where they end
-pub record Put (d : List ℕ) (place : ℕ) (ns : List ℕ) (out : List ℕ) (end : ℕ) : Type 0 where
+pub record NumbersPut (d : List ℕ) (place : ℕ) (ns : List ℕ) (out : List ℕ) (end : ℕ) : Type 0 where
   pub is : out ≡ splice d place (bytesOf ns)
   pub ends : end ≡ place + length (bytesOf ns)
 
-pub put-none : {d : List ℕ} {place : ℕ} → Put d place [] d place
+pub put-none : {d : List ℕ} {place : ℕ} → NumbersPut d place [] d place
 put-none {d} {place} = record { is = sym (splice-none d place); ends = sym (add-zero place) }
 
-module _ {d : List ℕ} {place : ℕ} {ns out : List ℕ} {end : ℕ} (w : Put d place ns out end) where
+module _ {d : List ℕ} {place : ℕ} {ns out : List ℕ} {end : ℕ} (w : NumbersPut d place ns out end) where
   pub put-length : place + length (bytesOf ns) ≤ length d → length out ≡ length d
   put-length h = rw (w .is) (length-splice d place (bytesOf ns) h)
 
   -- what more numbers put behind them make
-  pub put-more : (ms : List ℕ) {out₂ : List ℕ} {end₂ : ℕ} → place + length (bytesOf ns) ≤ length d → out₂ ≡ splice out end (bytesOf ms) → end₂ ≡ end + length (bytesOf ms) → Put d place (ns ++ ms) out₂ end₂
+  pub put-more : (ms : List ℕ) {out₂ : List ℕ} {end₂ : ℕ} → place + length (bytesOf ns) ≤ length d → out₂ ≡ splice out end (bytesOf ms) → end₂ ≡ end + length (bytesOf ms) → NumbersPut d place (ns ++ ms) out₂ end₂
   put-more ms h e f = record {
     is = e ∙ rw (w .is, w .ends, splice-splice d place (bytesOf ns) (bytesOf ms) h, bytes-append ns ms);
     ends = f ∙ rw (w .ends, bytes-append ns ms, length-append, add-assoc);
   }
 
-  pub put-one : (n : ℕ) {out₂ : List ℕ} {end₂ : ℕ} → place + length (bytesOf ns) ≤ length d → out₂ ≡ splice out end (numberBytes n) → end₂ ≡ end + length (numberBytes n) → Put d place (ns ++ n ∷ []) out₂ end₂
+  pub put-one : (n : ℕ) {out₂ : List ℕ} {end₂ : ℕ} → place + length (bytesOf ns) ≤ length d → out₂ ≡ splice out end (numberBytes n) → end₂ ≡ end + length (numberBytes n) → NumbersPut d place (ns ++ n ∷ []) out₂ end₂
   put-one n h e f = put-more (n ∷ []) h (e ∙ rw append-nil) (f ∙ rw append-nil)
 
 -- ---- how many bytes the first i of some numbers take
-pub record Counted (ns : List ℕ) (i total : ℕ) : Type 0 where
+pub record BytesCounted (ns : List ℕ) (i total : ℕ) : Type 0 where
   pub is : total ≡ length (bytesOf (take i ns))
 
-pub counted-none : {ns : List ℕ} → Counted ns 0 0
+pub counted-none : {ns : List ℕ} → BytesCounted ns 0 0
 counted-none = record { is = refl }
 
 -- the bytes of one number more
 pub bytes-next : (ns : List ℕ) (i : ℕ) → i < length ns → bytesOf (take (i + 1) ns) ≡ bytesOf (take i ns) ++ numberBytes (getD ns i 0)
 bytes-next ns i h = rw (add-one, take-suc ns i 0 h, bytes-append, append-nil)
 
-pub counted-more : {ns : List ℕ} {i total n : ℕ} → Counted ns i total → i < length ns → n ≡ length (numberBytes (getD ns i 0)) → Counted ns (i + 1) (total + n)
+pub counted-more : {ns : List ℕ} {i total n : ℕ} → BytesCounted ns i total → i < length ns → n ≡ length (numberBytes (getD ns i 0)) → BytesCounted ns (i + 1) (total + n)
 counted-more {ns} {i} w h e = record { is = rw (bytes-next ns i h, length-append, w .is, e) }
 
-pub counted-end : {ns : List ℕ} {i total count : ℕ} → Counted ns i total → i ≡ count → total ≡ length (bytesOf (take count ns))
+pub counted-end : {ns : List ℕ} {i total count : ℕ} → BytesCounted ns i total → i ≡ count → total ≡ length (bytesOf (take count ns))
 counted-end {ns} w e = rw (← e) (w .is)
 
 -- the bytes of the first i numbers and of the next one are among those of the first `count`
@@ -197,7 +197,7 @@ bytes-room ns count i h k =
     f
 
 -- two numbers put one after the other
-pub put-two : {d : List ℕ} {place : ℕ} {ns out : List ℕ} {end : ℕ} {out₁ out₂ : List ℕ} {end₁ end₂ : ℕ} → Put d place ns out end → (x y : ℕ) → place + length (bytesOf ns) + length (numberBytes x) ≤ length d → out₁ ≡ splice out end (numberBytes x) → end₁ ≡ end + length (numberBytes x) → out₂ ≡ splice out₁ end₁ (numberBytes y) → end₂ ≡ end₁ + length (numberBytes y) → Put d place (ns ++ x ∷ y ∷ []) out₂ end₂
+pub put-two : {d : List ℕ} {place : ℕ} {ns out : List ℕ} {end : ℕ} {out₁ out₂ : List ℕ} {end₁ end₂ : ℕ} → NumbersPut d place ns out end → (x y : ℕ) → place + length (bytesOf ns) + length (numberBytes x) ≤ length d → out₁ ≡ splice out end (numberBytes x) → end₁ ≡ end + length (numberBytes x) → out₂ ≡ splice out₁ end₁ (numberBytes y) → end₂ ≡ end₁ + length (numberBytes y) → NumbersPut d place (ns ++ x ∷ y ∷ []) out₂ end₂
 put-two {d} {place} {ns} w x y h e f e₂ f₂ =
     let k : place + length (bytesOf (ns ++ x ∷ [])) ≤ length d = rw (bytes-append ns (x ∷ []), length-append, append-nil) (omega arith) in
     rw append-assoc at (put-one (put-one w x (omega arith) e f) y k e₂ f₂)

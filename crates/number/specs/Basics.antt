@@ -39,9 +39,9 @@ afterWhile p [] = []
 afterWhile p (x ∷ xs) = pick (p x) (afterWhile p xs) (x ∷ xs)
 
 -- what f gives of each element, one after the other
-abbrev pub flat : {A B : Type 0} → (A → List B) → List A → List B
-flat f [] = []
-flat f (x ∷ xs) = f x ++ flat f xs
+abbrev pub flatMap : {A B : Type 0} → (A → List B) → List A → List B
+flatMap f [] = []
+flatMap f (x ∷ xs) = f x ++ flatMap f xs
 
 -- is the number from lo to hi
 abbrev pub within : ℕ → ℕ → ℕ → Bool

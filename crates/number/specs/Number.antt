@@ -20,9 +20,9 @@ pub data Got (A : Type 0) : Type 0 where
   bad : ℕ → Got A
 
 -- reading on with what was read, or the same refusal
-abbrev pub andThen : {A B : Type 0} → Got A → (A → List ℕ → Got B) → Got B
-andThen (got a s) rest = rest a s
-andThen (bad n) rest = bad n
+abbrev pub thenRead : {A B : Type 0} → Got A → (A → List ℕ → Got B) → Got B
+thenRead (got a s) rest = rest a s
+thenRead (bad n) rest = bad n
 
 -- the refusal where the test fails, else what follows
 abbrev pub require : {A : Type 0} → Bool → ℕ → Got A → Got A
@@ -74,7 +74,7 @@ readIn s (bad k) = refuses k
 
 -- the number and the values of each case of `NumberRead`
 abbrev pub numberReply : NumberRead → Reply (Reading ℕ)
-numberReply (Number n next) = accepts (reading n next)
+numberReply (Number n spells-one) = accepts (reading n spells-one)
 numberReply (Refused k) = refuses k
 
 -- its number: 0 where a number was read
@@ -157,8 +157,8 @@ valueOf (b ∷ bs) = pick (isEmpty bs) b (b - 128 + 128 * valueOf bs)
 
 -- Bytes that spell numbers, one after the other, padded or not.
 pub data Spelled : List ℕ → List ℕ → Type 0 where
-  nothing : Spelled [] []
-  next : (bytes : List ℕ) {rest ns : List ℕ} → spells 4 15 bytes ≡ true → Spelled rest ns → Spelled (bytes ++ rest) (valueOf bytes ∷ ns)
+  spells-none : Spelled [] []
+  spells-one : (bytes : List ℕ) {rest ns : List ℕ} → spells 4 15 bytes ≡ true → Spelled rest ns → Spelled (bytes ++ rest) (valueOf bytes ∷ ns)
 
 -- every number is one of 32 bits
 pub data Fit : List ℕ → Type 0 where

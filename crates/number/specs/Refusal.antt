@@ -102,12 +102,12 @@ abbrev pub wrongMemory : ℕ
 wrongMemory = 30
 
 -- an earlier unserved load has no address or the same one
-abbrev pub earlierLoadInWay : ℕ
-earlierLoadInWay = 31
+abbrev pub loadConflict : ℕ
+loadConflict = 31
 
 -- an earlier unwritten store has no address or the same one
-abbrev pub earlierStoreInWay : ℕ
-earlierStoreInWay = 32
+abbrev pub storeConflict : ℕ
+storeConflict = 32
 
 -- no untaken load of the port is queued
 abbrev pub noneUntaken : ℕ

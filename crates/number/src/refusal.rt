@@ -51,9 +51,9 @@ pub const NO_DATA: u8 = 29;
 // the lent memory has another length than at opening
 pub const WRONG_MEMORY: u8 = 30;
 // an earlier unserved load has no address or the same one
-pub const EARLIER_LOAD_IN_WAY: u8 = 31;
+pub const LOAD_CONFLICT: u8 = 31;
 // an earlier unwritten store has no address or the same one
-pub const EARLIER_STORE_IN_WAY: u8 = 32;
+pub const STORE_CONFLICT: u8 = 32;
 // no untaken load of the port is queued
 pub const NONE_UNTAKEN: u8 = 33;
 // the port's oldest untaken load is not served

@@ -28,8 +28,7 @@ use Rattle.queue.specs.Take.{Taken}
 use Rattle.queue.specs.Take as Takes
 use Rattle.queue.proofs.Refusals.{andThen-accepts}
 use Rattle.queue.proofs.WriteLaws.{write-accepts}
-use Rattle.sequential.specs.Call.{Machine, moved, served, written, taken}
-use Rattle.sequential.specs.Calls.{Argument}
+use Rattle.sequential.specs.Answers.{Machine, moveResponse, serveResponse, writeResponse, takeResponse}
 use Rattle.replay.specs.Events.{eventsFrom}
 use Rattle.replay.specs.Playing.{Playing, playing, stepOf, played, log, playedAll}
 use Rattle.replay.specs.Replay.{Start, startOf, openTrace, prepare, replayed}
@@ -45,20 +44,20 @@ use Rattle.printed.proofs.LineLaws.{events-text-few, words-few, loadsSp
 use Rattle.printed.proofs.TextLaws.{log-many, opened-words}
 
 -- ---- a memory keeps its length
-moved-long : (m : Machine) (rule : Ruled Contents) → length (moved m rule .machine .memory) ≡ length (m .memory)
+moved-long : (m : Machine) (rule : Ruled Contents) → length (moveResponse m rule .machine .memory) ≡ length (m .memory)
 moved-long m (refuse n) = refl
 moved-long m (accept q) = refl
 
-served-long : (m : Machine) (rule : Ruled Served) → length (served m rule .machine .memory) ≡ length (m .memory)
+served-long : (m : Machine) (rule : Ruled Served) → length (serveResponse m rule .machine .memory) ≡ length (m .memory)
 served-long m (refuse n) = refl
 served-long m (accept s) = refl
 
-taken-long : (m : Machine) (rule : Ruled Taken) → length (taken m rule .machine .memory) ≡ length (m .memory)
+taken-long : (m : Machine) (rule : Ruled Taken) → length (takeResponse m rule .machine .memory) ≡ length (m .memory)
 taken-long m (refuse n) = refl
 taken-long m (accept t) = refl
 
 written-long : (m : Machine) (serial : ℕ) (rule : Ruled Written) → write (m .queue) (m .memory) serial ≡ rule
-    → length (written m rule .machine .memory) ≡ length (m .memory)
+    → length (writeResponse m rule .machine .memory) ≡ length (m .memory)
 written-long m serial (refuse n) h = refl
 written-long m serial (accept r) h =
     let (s, at, w) = write-accepts (m .queue) (m .memory) serial r h in
@@ -78,21 +77,21 @@ played-long p [] = refl
 played-long p (e ∷ es) = played-long (played p e) es ∙ step-long p e
 
 -- ---- what a trace that can be played is like
-record Small (s : Start) : Type 0 where
+record SmallText (s : Start) : Type 0 where
   pub events : length (s .events) ≤ mostBytes
   pub words : s .queue .memoryLength ≤ 4096
 
 start-small : (q : Contents) (trace : List ℕ) (at : ℕ) {s : Start} → q .memoryLength ≤ 4096 → length trace ≤ mostBytes
-    → startOf q (eventsFrom trace at) ≡ accept s → Small s
+    → startOf q (eventsFrom trace at) ≡ accept s → SmallText s
 start-small q trace at {s} h k e = go (eventsFrom trace at) refl e
   where
-    go : (g : Got (List Event)) → eventsFrom trace at ≡ g → startOf q g ≡ accept s → Small s
+    go : (g : Got (List Event)) → eventsFrom trace at ≡ g → startOf q g ≡ accept s → SmallText s
     go (bad n) d f = let z : _≡_ {A = ℕ} 0 1 = cc in absurd (omega arith)
     go (got es left) d f =
         let y : s ≡ record { queue = q; events = es } = cc in
         rw y (record { events = omega (arith, events-few-from trace at d); words = h })
 
-prepare-small : (gs : List GroupPairs) (trace : List ℕ) {s : Start} → length trace ≤ mostBytes → prepare gs trace ≡ accept s → Small s
+prepare-small : (gs : List GroupPairs) (trace : List ℕ) {s : Start} → length trace ≤ mostBytes → prepare gs trace ≡ accept s → SmallText s
 unfolding prepare
 prepare-small gs trace k e =
     let (q, opens, starts) = andThen-accepts (openTrace gs (readHeader trace)) _ e in
@@ -113,7 +112,7 @@ table-fault-few n = omega (arith, ap length (table-line n), item-few (116 ∷ 97
 trace-fault-few : (n : ℕ) → length (traceFaultText n) ≤ mostText
 trace-fault-few n = omega (arith, ap length (trace-line n), item-few (116 ∷ 114 ∷ 97 ∷ 99 ∷ 101 ∷ 32 ∷ []) n 10)
 
-play-few : (s : Start) → Small s → length (playText (replayed s (replicate (s .queue .memoryLength) 0) noCounts)) ≤ mostText
+play-few : (s : Start) → SmallText s → length (playText (replayed s (replicate (s .queue .memoryLength) 0) noCounts)) ≤ mostText
 play-few s w =
     let p = playing (s .queue) (replicate (s .queue .memoryLength) 0) noCounts in
     let l = log p (s .events) in
@@ -121,7 +120,7 @@ play-few s w =
     let m : length (q .machine .memory) ≡ s .queue .memoryLength = played-long p (s .events) ∙ length-replicate (s .queue .memoryLength) 0 in
     omega (arith, w .events, w .words, log-many p (s .events), events-text-few 1 l, words-few 0 (q .machine .memory), counts-few (q .counts), length-append (eventLines 1 l ++ wordLines 0 (q .machine .memory)) (countsLine (q .counts)), length-append (eventLines 1 l) (wordLines 0 (q .machine .memory)))
 
-start-few : (rule : Ruled Start) → ((s : Start) → rule ≡ accept s → Small s) → length (startText rule) ≤ mostText
+start-few : (rule : Ruled Start) → ((s : Start) → rule ≡ accept s → SmallText s) → length (startText rule) ≤ mostText
 start-few (refuse n) h = trace-fault-few n
 start-few (accept s) h = play-few s (h s refl)
 

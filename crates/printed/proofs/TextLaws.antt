@@ -16,13 +16,13 @@ use Rattle.trace.specs.declared.Header.{Header}
 use Rattle.number.proofs.SpliceLaws.{splice-front}
 use Rattle.queue.specs.Ruled.{refuse, accept}
 use Rattle.queue.specs.Contents.{Contents}
-use Rattle.queue.proofs.Lists.{and-right}
+use Rattle.number.proofs.Both.{and-right}
 use Rattle.sequential.proofs.Run.{limits-opened}
 use Rattle.replay.specs.declared.Replayed.{Replayed}
 use Rattle.replay.specs.Playing.{Playing, playing, played, log, answerOf, givenOf, wordOf}
 use Rattle.replay.specs.Events.{eventsFrom}
 use Rattle.replay.specs.Replay.{startOf, openTrace, prepare, Replay, replayed, Buffers, replayFrom}
-use Rattle.replay.specs.Outcome.{Replays, Replayed-as}
+use Rattle.replay.specs.Outcome.{ReplayedWell, Replays}
 use Rattle.replay.proofs.Named.{named, not-nought, events-named}
 use Rattle.replay.proofs.EventLaws.{events-few-from}
 use Rattle.replay.proofs.ReplayLaws.{replay-accepted, long-enough}
@@ -51,7 +51,7 @@ pub record PlaysAs (q : Contents) (trace : List ℕ) (at : ℕ) (r : Replayed) (
 
 module _ (q : Contents) {trace memory out : List ℕ} (at : ℕ) (b : Buffers) (r : Replayed) (memory₂ : List ℕ) (b₂ : Buffers)
     (printable : Printable q trace memory out) where
-  replays-well : (p : Replay) → Replays p b r memory₂ b₂ → length (p .log) ≤ mostBytes
+  replays-well : (p : Replay) → ReplayedWell p b r memory₂ b₂ → length (p .log) ≤ mostBytes
       → playText p ≡ startText (startOf q (eventsFrom trace at)) → PlaysWell q trace at r memory₂ b₂
   replays-well p w few is = rw (w .outcome, w .buffers-are) (record {
     few = few;
@@ -62,7 +62,7 @@ module _ (q : Contents) {trace memory out : List ℕ} (at : ℕ) (b : Buffers) (
   })
 
   abbrev Plays : Got (List Event) → Type 0
-  Plays g = Replayed-as memory noCounts b (replayFrom q g memory noCounts b) r memory₂ b₂
+  Plays g = Replays memory noCounts b (replayFrom q g memory noCounts b) r memory₂ b₂
 
   pub plays : length (b .answers) ≡ 16384 → length (b .given) ≡ 16384 → length (b .words) ≡ 16384
       → Plays (eventsFrom trace at) → PlaysAs q trace at r memory₂ b₂
@@ -78,7 +78,7 @@ module _ (q : Contents) {trace memory out : List ℕ} (at : ℕ) (b : Buffers) (
           let long : length memory ≡ q .memoryLength = ap length (printable .zeros) ∙ length-replicate (q .memoryLength) 0 in
           let fit = long-enough (length es) b (omega (arith, few, ha)) (omega (arith, few, hg)) (omega (arith, few, hw)) in
           let p = replayed (record { queue = q; events = es }) memory noCounts in
-          let u : Replays p b r memory₂ b₂ = rw (replay-accepted q (got es rest) memory noCounts b refl long fit) at v in
+          let u : ReplayedWell p b r memory₂ b₂ = rw (replay-accepted q (got es rest) memory noCounts b refl long fit) at v in
           let many = log-many (playing q memory noCounts) es in
           record {
             fault = λ apart. absurd (apart (ap (λ (x : Replayed). x .answer) (u .outcome)));

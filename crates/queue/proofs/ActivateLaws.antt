@@ -24,9 +24,10 @@ use Rattle.queue.specs.Ruled.{refuse, accept, need}
 use Rattle.queue.specs.Sound.{sound}
 use Rattle.queue.specs.Activate.{newLoads, newStores, room, withGroup, activate}
 use Rattle.queue.specs.Parts.{queueOf}
-use Rattle.queue.specs.Internal.{sideOf, entriesIn}
-use Rattle.queue.specs.InternalActivate.{loadAfter, storeAfter, entryAfter, PairsFit, Appended, longer, withPairs}
-use Rattle.queue.proofs.Lists.{and-left, and-right, map-same}
+use Rattle.queue.specs.Internal.{sideOf, entriesHeld}
+use Rattle.queue.specs.Internal.{loadAfter, storeAfter, entryAfter, PairsFit, Appended, longer, withPairs}
+use Rattle.number.proofs.Both.{and-left, and-right}
+use Rattle.queue.proofs.Lists.{map-same}
 use Rattle.queue.proofs.ContentsLaws.{getElem?-past, side-length}
 use Rattle.queue.proofs.EntryLaws.{side-holds}
 use Rattle.queue.proofs.SoundLaws.{load-depth-most, store-depth-most, table-right}
@@ -60,8 +61,8 @@ side-longer : {B : Type 0} (f : Entry → B) (new : Pair → B) {held others : �
     → sideOf (λ (x : ℕ). f (entryOf x)) 0 (held + ps .count) left ≡ sideOf (λ (x : ℕ). f (entryOf x)) 0 held l ++ map new (listOf places ps)
 side-longer {B} f new {held} {others} {places} {ps} {l} {left} same a =
     side-holds f (held + ps .count) left
-    ∙ rw (a .holds, map-append f (entriesIn held l) (map (entryAfter others) (listOf places ps)), side-holds f held l, map-map f (entryAfter others) (listOf places ps))
-    (ap (λ (t : List B). map f (entriesIn held l) ++ t) (map-same (λ (p : Pair). f (entryAfter others p)) new same (listOf places ps)))
+    ∙ rw (a .holds, map-append f (entriesHeld held l) (map (entryAfter others) (listOf places ps)), side-holds f held l, map-map f (entryAfter others) (listOf places ps))
+    (ap (λ (t : List B). map f (entriesHeld held l) ++ t) (map-same (λ (p : Pair). f (entryAfter others p)) new same (listOf places ps)))
 
 module _ (q : Queue) (g : Group) where
   abbrev chosen : GroupPairs

@@ -16,21 +16,21 @@ use Rattle.queue.specs.declared.Frame.{Frame}
 use Rattle.queue.specs.declared.Queue.{Queue}
 use Rattle.queue.specs.declared.arguments.Argument.{Argument}
 use Rattle.queue.specs.declared.arguments.Argument.the-variants.{LoadAddress, StoreAddress, StoreData}
-use Rattle.queue.specs.Kind.{ofKind}
+use Rattle.queue.specs.Contents.{ofKind}
 use Rattle.number.specs.Refusal.{unsound, noPort, badAddress, noneWaits}
 use Rattle.queue.specs.Ruled.{accept, need}
 use Rattle.queue.specs.Entry.{entryOf, numberOf, Small}
 use Rattle.queue.specs.Contents.{Load, Store, Contents, loadOf, storeOf, contentsOf, withLoads, withStores, updateAt, firstPlace}
 use Rattle.queue.specs.Sound.{sound}
-use Rattle.queue.specs.Arguments.{kindOf, namesPort, inRange, waits, updateFirst, filled, give}
+use Rattle.queue.specs.Arguments.{kindOf, namesPort, inRange, waits, updateFirst, argumentGiven, give}
 use Rattle.queue.specs.Arguments.{loadLacksAddress, storeLacksAddress, storeLacksWord, loadWithAddress, storeWithAddress, storeWithWord}
 use Rattle.queue.specs.Outcome.{Moves}
 use Rattle.queue.specs.Parts.{queueOf, queueOfKind, answered}
 use Rattle.queue.specs.Internal.{lacks}
-use Rattle.queue.specs.InternalArguments.{markOf, withArgument, waitingAt, givenAt, Given}
+use Rattle.queue.specs.Internal.{markOf, withArgument, waitingAt, givenAt, Given}
 use Rattle.queue.proofs.ContentsLaws.{loads-held, stores-held, loads-count, stores-count, load-anew, store-anew}
 use Rattle.queue.proofs.EntryLaws.{entry-small, entry-number, load-lacks-address, store-lacks-address, store-lacks-word, side-place-same}
-use Rattle.queue.proofs.PartsLaws.{Fit}
+use Rattle.queue.proofs.PartsLaws.{PartsFit}
 
 -- some element passes where the first that does is a place of the list
 pub any-place : {A : Type 0} (p : A → Bool) (l : List A) → anyOf p l ≡ ltb (firstPlace p l) (length l)
@@ -117,7 +117,7 @@ pub give-record : (argument : Argument) (q : Queue) (port x : ℕ) → give argu
     (need (anyOf (namesPort (kindOf argument) port) (groupsOf (q .frame .table))) noPort
     (need (inRange argument (q .frame .words) x) badAddress
     (need (waits argument port (contentsOf q)) noneWaits
-    (accept (filled argument port x (contentsOf q))))))
+    (accept (argumentGiven argument port x (contentsOf q))))))
 unfolding give contentsOf
 give-record argument q port x = refl
 
@@ -128,7 +128,7 @@ queueFor argument frame own others = queueOfKind (kindOf argument) frame own oth
 abbrev pub sideFor : Argument → Frame → Side
 sideFor argument frame = ofKind (kindOf argument) (frame .loads) (frame .stores)
 
-pub own-room : (argument : Argument) (frame : Frame) (own others : List ℕ) → Fit (queueFor argument frame own others)
+pub own-room : (argument : Argument) (frame : Frame) (own others : List ℕ) → PartsFit (queueFor argument frame own others)
     → sideFor argument frame .count ≤ length own
 own-room LoadAddress frame own others f = f .loads-room
 own-room StoreAddress frame own others f = f .stores-room
@@ -139,7 +139,7 @@ pub gives : (argument : Argument) (frame : Frame) (own others : List ℕ) {port 
     → x < 4294967296 → inRange argument 65536 x ≡ true → sideFor argument frame .count ≤ length own
     → Given (sideFor argument frame .count) port argument x own answer left
     → let q = queueFor argument frame own others in
-    Moves q (need (waits argument port (contentsOf q)) noneWaits (accept (filled argument port x (contentsOf q))))
+    Moves q (need (waits argument port (contentsOf q)) noneWaits (accept (argumentGiven argument port x (contentsOf q))))
     (answered answer (queueFor argument frame left others))
 gives LoadAddress frame own others {port} {x} k h =
     load-given LoadAddress k h (queueOf frame own others) (loadLacksAddress port) (loadWithAddress x) (λ e. load-lacks-address e port) (λ e. refl)

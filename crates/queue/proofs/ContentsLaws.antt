@@ -12,7 +12,7 @@ use Rattle.table.proofs.CheckLaws.{held-few, held-length}
 use Rattle.queue.specs.declared.Queue.{Queue}
 use Rattle.queue.specs.Contents.{Load, Store, loadIn, storeIn, contentsOf, withLoads, withStores, updateAt, age, oldest, loadPlace, storePlace}
 use Rattle.queue.specs.Parts.{queueOf}
-use Rattle.queue.specs.Internal.{sideOf, loadsIn, storesIn}
+use Rattle.queue.specs.Internal.{sideOf, loadsHeld, storesHeld}
 use Rattle.queue.proofs.Lists.{take-map}
 
 -- ---- a list's places
@@ -100,11 +100,11 @@ module _ {A B : Type 0} (f : A → B) (blank : A) (n : ℕ) (l : List A) where
 
 -- ---- both sides of a queue
 module _ (q : Queue) where
-  pub loads-held : contentsOf q .loads ≡ loadsIn (q .frame .loads .count) (q .«load_entries»)
+  pub loads-held : contentsOf q .loads ≡ loadsHeld (q .frame .loads .count) (q .«load_entries»)
   unfolding contentsOf
   loads-held = refl
 
-  pub stores-held : contentsOf q .stores ≡ storesIn (q .frame .stores .count) (q .«store_entries»)
+  pub stores-held : contentsOf q .stores ≡ storesHeld (q .frame .stores .count) (q .«store_entries»)
   unfolding contentsOf
   stores-held = refl
 

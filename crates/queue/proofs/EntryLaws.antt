@@ -16,10 +16,10 @@ use Rattle.queue.specs.Contents.{loadOf, storeOf, firstPlace}
 use Rattle.queue.specs.Sound.{addressRight, loadRight, storeRight}
 use Rattle.queue.specs.Arguments.{loadLacksAddress, storeLacksAddress, storeLacksWord}
 use Rattle.queue.specs.Take.{untaken}
-use Rattle.queue.specs.Write.{addressApart, loadGivesWay, storeGivesWay}
+use Rattle.queue.specs.Write.{addressApart, noLoadConflict, noStoreConflict}
 use Rattle.queue.specs.Retire.{retiring}
-use Rattle.queue.specs.Internal.{lacks, finished, entryRight, sideOf, entriesIn}
-use Rattle.queue.specs.InternalWrite.{givesWay}
+use Rattle.queue.specs.Internal.{lacks, finished, entryRight, sideOf, entriesHeld}
+use Rattle.queue.specs.Internal.{noConflict}
 
 -- ---- packing
 pub entry-small : (n : ℕ) → Small (entryOf n)
@@ -216,11 +216,11 @@ module _ (e : Entry) where
   pub store-right : (words others : ℕ) → storeRight words others (storeOf e) ≡ entryRight words others e
   store-right words others = rw (right-address words (e .address) (e .addressed))
 
-  pub load-gives-way : (a : ℕ) → loadGivesWay a (loadOf e) ≡ givesWay Filled a e
-  load-gives-way a = rw (marked (e .filled) (e .word), apart-address a (e .address) (e .addressed))
+  pub load-no-conflict : (a : ℕ) → noLoadConflict a (loadOf e) ≡ noConflict Filled a e
+  load-no-conflict a = rw (marked (e .filled) (e .word), apart-address a (e .address) (e .addressed))
 
-  pub store-gives-way : (a : ℕ) → storeGivesWay a (storeOf e) ≡ givesWay Finished a e
-  store-gives-way a = rw (apart-address a (e .address) (e .addressed))
+  pub store-no-conflict : (a : ℕ) → noStoreConflict a (storeOf e) ≡ noConflict Finished a e
+  store-no-conflict a = rw (apart-address a (e .address) (e .addressed))
 
 -- ---- and so over a whole side: `f` says what an entry holds, `p` tests that, and `q` tests the entry
 module _ {B : Type 0} (f : Entry → B) (p : B → Bool) (q : Entry → Bool) (same : (e : Entry) → p (f e) ≡ q e) where
@@ -241,15 +241,15 @@ module _ {B : Type 0} (f : Entry → B) (p : B → Bool) (q : Entry → Bool) (s
       go true e = ap suc e
       go false e = refl
 
-  pub side-all-same : (n : ℕ) (l : List ℕ) → allOf p (sideOf (λ (x : ℕ). f (entryOf x)) 0 n l) ≡ allOf q (entriesIn n l)
+  pub side-all-same : (n : ℕ) (l : List ℕ) → allOf p (sideOf (λ (x : ℕ). f (entryOf x)) 0 n l) ≡ allOf q (entriesHeld n l)
   side-all-same n l = all-through (held 0 n l)
 
-  pub side-place-same : (n : ℕ) (l : List ℕ) → firstPlace p (sideOf (λ (x : ℕ). f (entryOf x)) 0 n l) ≡ firstPlace q (entriesIn n l)
+  pub side-place-same : (n : ℕ) (l : List ℕ) → firstPlace p (sideOf (λ (x : ℕ). f (entryOf x)) 0 n l) ≡ firstPlace q (entriesHeld n l)
   side-place-same n l = place-through (held 0 n l)
 
-  pub side-retiring-same : (n : ℕ) (l : List ℕ) → retiring p (sideOf (λ (x : ℕ). f (entryOf x)) 0 n l) ≡ retiring q (entriesIn n l)
+  pub side-retiring-same : (n : ℕ) (l : List ℕ) → retiring p (sideOf (λ (x : ℕ). f (entryOf x)) 0 n l) ≡ retiring q (entriesHeld n l)
   side-retiring-same n l = retiring-through (held 0 n l)
 
 -- what a side's numbers hold is what its entries hold
-pub side-holds : {B : Type 0} (f : Entry → B) (n : ℕ) (l : List ℕ) → sideOf (λ (x : ℕ). f (entryOf x)) 0 n l ≡ map f (entriesIn n l)
+pub side-holds : {B : Type 0} (f : Entry → B) (n : ℕ) (l : List ℕ) → sideOf (λ (x : ℕ). f (entryOf x)) 0 n l ≡ map f (entriesHeld n l)
 side-holds f n l = sym (map-map f entryOf (held 0 n l))

@@ -18,7 +18,7 @@ use Rattle.queue.specs.Sound.{depthRight, memoryRight, loadRight, storeR
 use Rattle.queue.specs.Serve.{serve}
 use Rattle.queue.specs.Write.{write}
 use Rattle.queue.specs.Ready.{serials, countOf, oldestOf, answerTo, anyMemory, would, readySerials, ReadyExactly}
-use Rattle.queue.proofs.Lists.{and-right}
+use Rattle.number.proofs.Both.{and-right}
 use Rattle.queue.proofs.ContentsLaws.{getElem?-past}
 use Rattle.queue.proofs.SoundLaws.{Parts, parts}
 use Rattle.queue.proofs.Serials.{oldest-small}

@@ -7,6 +7,7 @@ use mathlib.Core.Bool.{Bool, true, false, not, _&&_, _||_, false≢true}
 use mathlib.Core.List.{List, [], _∷_, _++_, map, head-eq-of-cons-eq, tail-eq-of-cons-eq}
 use mathlib.Core.Option.{Option, none, some}
 use lib.ListN.{length, take, getElem?}
+use Rattle.number.proofs.Both.{and-left, and-right}
 use Rattle.number.specs.Basics.{pick, anyOf, allOf, countWhere, frontWhile, afterWhile}
 use Rattle.queue.specs.Ruled.{isSome}
 use Rattle.queue.specs.Contents.{updateAt, firstPlace}
@@ -15,14 +16,6 @@ use Rattle.queue.specs.Contents.{updateAt, firstPlace}
 
 pub false-true : {A : Type 0} → false ≡ true → A
 false-true e = absurd (false≢true e)
-
-pub and-left : (a b : Bool) → a && b ≡ true → a ≡ true
-and-left true b h = refl
-and-left false b h = h
-
-pub and-right : (a b : Bool) → a && b ≡ true → b ≡ true
-and-right true b h = h
-and-right false b h = false-true h
 
 pub and-both : {a b : Bool} → a ≡ true → b ≡ true → a && b ≡ true
 and-both {a} {b} h k = rw (h, k)

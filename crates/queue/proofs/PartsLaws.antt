@@ -17,7 +17,7 @@ use Rattle.queue.specs.Sound.{sound}
 use Rattle.queue.specs.Open.{freshQueue, noQueue}
 use Rattle.queue.specs.Outcome.{Opens}
 use Rattle.queue.specs.Parts.{whole, onParts, OnWholeRuns, OpensFrame}
-use Rattle.queue.proofs.Lists.{and-left, and-right}
+use Rattle.number.proofs.Both.{and-left, and-right}
 use Rattle.queue.proofs.SoundLaws.{loads-few, stores-few}
 
 -- ---- the lengths of two runs
@@ -40,7 +40,7 @@ on-whole-runs A l s rule a b = rw (both-whole l s a b)
 
 -- ---- the check of a queue's parts
 -- both runs are whole and the queue is sound, so each run has room for what its side holds
-pub record Fit (q : Queue) : Type 0 where
+pub record PartsFit (q : Queue) : Type 0 where
   pub full : whole (q .«load_entries») (q .«store_entries») ≡ true
   pub right : sound (contentsOf q) ≡ true
   pub loads-whole : length (q .«load_entries») ≡ 64
@@ -58,7 +58,7 @@ module _ (q : Queue) where
   whole-stores h = eqb-true _ 64 (and-right (eqb (length (q .«load_entries»)) 64) (eqb (length (q .«store_entries»)) 64) h)
 
   -- the check answered b, and the test of it was left behind
-  pub fit : {b : Bool} → b ≡ (whole (q .«load_entries») (q .«store_entries») && sound (contentsOf q)) → not b ≡ false → Fit q
+  pub fit : {b : Bool} → b ≡ (whole (q .«load_entries») (q .«store_entries») && sound (contentsOf q)) → not b ≡ false → PartsFit q
   fit {b} e left =
       let both : (whole (q .«load_entries») (q .«store_entries») && sound (contentsOf q)) ≡ true = sym e ∙ not-false b left in
       let full : whole (q .«load_entries») (q .«store_entries») ≡ true = and-left (whole (q .«load_entries») (q .«store_entries»)) (sound (contentsOf q)) both in

@@ -28,12 +28,12 @@ use Rattle.queue.specs.Entry.{entryOf}
 use Rattle.queue.specs.Sound.{sound}
 use Rattle.queue.specs.Serve.{Source, unknown, fromStore, fromMemory, source, loadedFrom, mayServe, servedWith, storesBefore, serveAt, serve}
 use Rattle.queue.specs.Write.{mayWrite, writtenWith, writeAt, write}
-use Rattle.queue.specs.Kind.{ofKind}
+use Rattle.queue.specs.Contents.{ofKind}
 use Rattle.queue.specs.Ready.{serials, countOf, oldestOf, answerTo, anyMemory, would, readySerials, ready, Readies, Fronts}
 use Rattle.queue.specs.Parts.{readiedOf}
-use Rattle.queue.specs.Internal.{loadsIn, storesIn}
-use Rattle.queue.specs.InternalWrite.{mayWriteAt}
-use Rattle.queue.specs.InternalReady.{loadReady, readyAt, InReach, listed, Noted, Lists, HandedOut}
+use Rattle.queue.specs.Internal.{loadsHeld, storesHeld}
+use Rattle.queue.specs.Internal.{mayWriteAt}
+use Rattle.queue.specs.Internal.{loadReady, readyAt, InReach, serialsListed, Noted, Lists, HandedOut}
 use Rattle.queue.proofs.ContentsLaws.{side-getElem?, side-take, loads-held, stores-held, loads-count, stores-count}
 use Rattle.queue.proofs.Refusals.{proper, need-same, have-same, may-write-proper, serve-proper, write-proper}
 use Rattle.queue.proofs.Serials.{place-of-serial, oldest-small}
@@ -61,8 +61,8 @@ module _ (m m′ : List ℕ) where
   may-any : (ss : List Store) (l : Load) → accepted (mayServe m ss l) ≡ accepted (mayServe m′ ss l)
   may-any ss l = need-same (not (isSome (l .value))) _ _ _ (have-same (l .address) _ _ _ λ a. loaded-any a (source a fromMemory ss))
 
-serve-accepts : (q : Contents) (memory : List ℕ) (place : ℕ) → accepted (serveAt q memory place) ≡ readyIn q (getElem? (q .loads) place)
-serve-accepts q memory place = go (getElem? (q .loads) place)
+serve-accepts-ready : (q : Contents) (memory : List ℕ) (place : ℕ) → accepted (serveAt q memory place) ≡ readyIn q (getElem? (q .loads) place)
+serve-accepts-ready q memory place = go (getElem? (q .loads) place)
   where
     go : (o : Option Load)
         → accepted (have o noSerial λ l. andThen (mayServe memory (storesBefore q l) l) λ v. accept (servedWith q place v)) ≡ readyIn q o
@@ -74,8 +74,8 @@ abbrev pub writableIn : Contents → ℕ → Option Store → Bool
 writableIn q place none = false
 writableIn q place (some s) = accepted (mayWrite (take (s .before) (q .loads)) (take place (q .stores)) s)
 
-write-accepts : (q : Contents) (memory : List ℕ) (place : ℕ) → accepted (writeAt q memory place) ≡ writableIn q place (getElem? (q .stores) place)
-write-accepts q memory place = go (getElem? (q .stores) place)
+write-accepts-ready : (q : Contents) (memory : List ℕ) (place : ℕ) → accepted (writeAt q memory place) ≡ writableIn q place (getElem? (q .stores) place)
+write-accepts-ready q memory place = go (getElem? (q .stores) place)
   where
     go : (o : Option Store)
         → accepted (have o noSerial λ s.
@@ -93,7 +93,7 @@ accepted-number (accept a) h = refl
 pub write-fault-ready : (loads stores : List ℕ) (i : ℕ) → eqb (number (mayWriteAt loads stores i)) 0 ≡ accepted (mayWriteAt loads stores i)
 write-fault-ready loads stores i =
     accepted-number (mayWriteAt loads stores i)
-    (may-write-proper (loadsIn (entryOf (getD stores i 0) .before) loads) (storesIn i stores) (storeIn (getD stores i 0)))
+    (may-write-proper (loadsHeld (entryOf (getD stores i 0) .before) loads) (storesHeld i stores) (storeIn (getD stores i 0)))
 
 abbrev pub standsReady : Kind → Contents → ℕ → Bool
 standsReady load q place = readyIn q (getElem? (q .loads) place)
@@ -105,11 +105,11 @@ module _ (q : Contents) (right : sound q ≡ true) (serial : ℕ) where
   answer-ready load memory e =
       accepted-number (serve q memory serial) (serve-proper q memory serial)
       ∙ ap accepted (serve-by-place q memory serial right e)
-      ∙ serve-accepts q memory (loadPlace q serial)
+      ∙ serve-accepts-ready q memory (loadPlace q serial)
   answer-ready store memory e =
       accepted-number (write q memory serial) (write-proper q memory serial)
       ∙ ap accepted (write-by-place q memory serial right e)
-      ∙ write-accepts q memory (storePlace q serial)
+      ∙ write-accepts-ready q memory (storePlace q serial)
 
   pub would-ready : (kind : Kind) → would kind q serial ≡ standsReady kind q (age (oldestOf kind q) serial)
   would-ready kind = answer-ready kind (anyMemory q) (length-replicate (q .memoryLength) 0)
@@ -154,27 +154,27 @@ module _ (q : Queue) (right : sound (contentsOf q) ≡ true) where
           ap (readyIn (contentsOf q)) here ∙ ap (λ (l : List Store). loadReady l (loadOf e)) before
       here store k =
           let m : List ℕ = anyMemory (contentsOf q) in
-          sym (write-accepts (contentsOf q) m i)
+          sym (write-accepts-ready (contentsOf q) m i)
           ∙ ap accepted (write-held q m i k (store-before q right i k))
           ∙ then-accepts (mayWriteAt (q .«load_entries») (q .«store_entries») i) (writtenWith (contentsOf q) m i)
 
 -- ---- the serials that pass: i of n places have been looked at, `serial` is the next, and `s` has those that are ready. What
 -- passes is any test that says of a serial what `ready` says of its place.
-pub record Gathering (ready : ℕ → Bool) (from n i serial : ℕ) (s : Serials) : Type 0 where
+pub record ReadyGathering (ready : ℕ → Bool) (from n i serial : ℕ) (s : Serials) : Type 0 where
   pub few : s .count ≤ i
   pub long : length (s .numbers) ≡ 64
   pub next : serial ≡ after from i
-  pub are : (p : ℕ → Bool) → ((j : ℕ) → j < n → p (after from j) ≡ ready j) → keepWhere p (serials from n) ≡ listed s ++ keepWhere p (serials serial (n - i))
+  pub are : (p : ℕ → Bool) → ((j : ℕ) → j < n → p (after from j) ≡ ready j) → keepWhere p (serials from n) ≡ serialsListed s ++ keepWhere p (serials serial (n - i))
 
-pub gathering-none : {ready : ℕ → Bool} {from n : ℕ} (numbers : List ℕ) → length numbers ≡ 64 → from < 2 ^ 32 → Gathering ready from n 0 from (record { count = 0; numbers = numbers })
+pub gathering-none : {ready : ℕ → Bool} {from n : ℕ} (numbers : List ℕ) → length numbers ≡ 64 → from < 2 ^ 32 → ReadyGathering ready from n 0 from (record { count = 0; numbers = numbers })
 gathering-none {ready} {from} {n} numbers e h = record { few = omega arith; long = e; next = omega arith; are = λ p e. rw (sub-zero n) (front p numbers) }
   where
     front : (p : ℕ → Bool) (l : List ℕ) → keepWhere p (serials from n) ≡ take 0 l ++ keepWhere p (serials from n)
     front p [] = refl
     front p (x ∷ l) = refl
 
-module _ {ready : ℕ → Bool} {from n i serial : ℕ} {s : Serials} (w : Gathering ready from n i serial s) where
-  pub gathering-more : i < n → {now : Bool} → now ≡ ready i → {r : Serials} → Noted s serial now r → {next : ℕ} → next ≡ after serial 1 → Gathering ready from n (i + 1) next r
+module _ {ready : ℕ → Bool} {from n i serial : ℕ} {s : Serials} (w : ReadyGathering ready from n i serial s) where
+  pub gathering-more : i < n → {now : Bool} → now ≡ ready i → {r : Serials} → Noted s serial now r → {next : ℕ} → next ≡ after serial 1 → ReadyGathering ready from n (i + 1) next r
   gathering-more h {now} e {r} c {next} d =
       let few = w .few in
       let more = c .few in
@@ -186,14 +186,14 @@ module _ {ready : ℕ → Bool} {from n i serial : ℕ} {s : Serials} (w : Gathe
       pass p true = refl
       pass p false = refl
 
-      are : (p : ℕ → Bool) → ((j : ℕ) → j < n → p (after from j) ≡ ready j) → keepWhere p (serials from n) ≡ listed r ++ keepWhere p (serials next (n - (i + 1)))
+      are : (p : ℕ → Bool) → ((j : ℕ) → j < n → p (after from j) ≡ ready j) → keepWhere p (serials from n) ≡ serialsListed r ++ keepWhere p (serials next (n - (i + 1)))
       are p agrees =
           let m : n - i ≡ suc (n - (i + 1)) = omega arith in
           let k : p serial ≡ now = ap p (w .next) ∙ agrees i h ∙ sym e in
           let split : keepWhere p (serials serial (n - i)) ≡ pick now (serial ∷ []) [] ++ keepWhere p (serials next (n - (i + 1))) = rw (m, d, ← k) (pass p (p serial)) in
-          w .are p agrees ∙ rw (split, c .are) (sym (append-assoc (listed s) (pick now (serial ∷ []) []) (keepWhere p (serials next (n - (i + 1))))))
+          w .are p agrees ∙ rw (split, c .are) (sym (append-assoc (serialsListed s) (pick now (serial ∷ []) []) (keepWhere p (serials next (n - (i + 1))))))
 
-  pub gathering-end : n ≤ i → (p : ℕ → Bool) → ((j : ℕ) → j < n → p (after from j) ≡ ready j) → listed s ≡ keepWhere p (serials from n)
+  pub gathering-end : n ≤ i → (p : ℕ → Bool) → ((j : ℕ) → j < n → p (after from j) ≡ ready j) → serialsListed s ≡ keepWhere p (serials from n)
   gathering-end h p agrees =
       let m : n - i ≡ 0 = omega arith in
       sym (w .are p agrees ∙ rw (m, append-nil))
@@ -227,13 +227,13 @@ module _ {source old : List ℕ} {j : ℕ} {l : List ℕ} (w : Copied source old
 
 -- ---- the serials of a record, once all of a kind's places have been looked at
 module _ (kind : Kind) (q : Queue) (right : sound (contentsOf q) ≡ true) where
-  pub gathered : {from n i serial : ℕ} {s : Serials} → Gathering (readyAt kind (q .«load_entries») (q .«store_entries»)) from n i serial s
+  pub gathered : {from n i serial : ℕ} {s : Serials} → ReadyGathering (readyAt kind (q .«load_entries») (q .«store_entries»)) from n i serial s
       → from ≡ oldestOf kind (contentsOf q) → n ≡ sideIn kind q .count → i ≤ n → n ≤ i → Lists (readySerials kind (contentsOf q)) s
   unfolding readySerials
   gathered {from} {n} {i} {serial} {s} w e d most end =
       let few : s .count ≤ 64 = omega (arith, w .few, side-most q right kind) in
       let passed = gathering-end w end (would kind (contentsOf q)) (λ j k. rw e (would-at q right kind j (rw d at k))) in
-      let are : listed s ≡ keepWhere (would kind (contentsOf q)) (serials (oldestOf kind (contentsOf q)) (countOf kind (contentsOf q))) =
+      let are : serialsListed s ≡ keepWhere (would kind (contentsOf q)) (serials (oldestOf kind (contentsOf q)) (countOf kind (contentsOf q))) =
       passed ∙ ap₂ (λ (x y : ℕ). keepWhere (would kind (contentsOf q)) (serials x y)) e (d ∙ sym (count-in kind q)) in
       record { few = few; size = sym (length-take-le (s .count) (s .numbers) (omega (arith, w .long))) ∙ ap length are; are = are }
 
@@ -253,7 +253,7 @@ pub handed : (q : Queue) {found lent run : List ℕ} {s : Serials} {r : ReadyCou
 handed q {found} {lent} {run} {s} {r} l h = rw (← l .size) (go (leb (s .count) (length lent)) (h .gives) (h .leaves))
   where
     go : (room : Bool) → r ≡ pick room (record { answer = 0; count = s .count }) (record { answer = tooShort; count = 0 })
-        → run ≡ pick room (listed s ++ drop (s .count) lent) lent
+        → run ≡ pick room (serialsListed s ++ drop (s .count) lent) lent
         → Readies q lent (need room tooShort (accept found)) (readiedOf r q) run
     go true e d = record { outcome = rw (e, l .size); run-is = d ∙ rw (l .are, l .size) }
     go false e d = record { outcome = rw e; run-is = d }

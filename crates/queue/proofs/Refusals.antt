@@ -14,14 +14,15 @@ use Rattle.queue.specs.Contents.{Load, Store, Contents, loadPlace, store
 use Rattle.number.specs.Basics.{anyOf, allOf}
 use Rattle.queue.specs.Sound.{sound}
 use Rattle.queue.specs.Activate.{activate, room}
-use Rattle.queue.specs.Arguments.{kindOf, namesPort, inRange, waits, filled, give}
+use Rattle.queue.specs.Arguments.{kindOf, namesPort, inRange, waits, argumentGiven, give}
 use Rattle.queue.specs.Serve.{Source, unknown, fromStore, fromMemory, source, loadedFrom, mayServe, storesBefore, serve}
-use Rattle.queue.specs.Write.{loadGivesWay, storeGivesWay, mayWrite, loadsBefore, write}
+use Rattle.queue.specs.Write.{noLoadConflict, noStoreConflict, mayWrite, loadsBefore, write}
 use Rattle.queue.specs.declared.Kind.the-variants.{Load as load}
 use Rattle.queue.specs.declared.arguments.Argument.{Argument}
 use Rattle.queue.specs.Take.{untaken, takeRule}
 use Rattle.queue.specs.Ready.{readySerials, ready}
-use Rattle.queue.proofs.Lists.{false-true, and-left, and-right}
+use Rattle.number.proofs.Both.{and-left, and-right}
+use Rattle.queue.proofs.Lists.{false-true}
 
 module _ {A : Type 0} where
   pub need-accepts : (b : Bool) (n : ℕ) (rest : Ruled A) {a : A} → need b n rest ≡ accept a → (b ≡ true) × (rest ≡ accept a)
@@ -124,7 +125,7 @@ may-write-small ls ss s =
     need-small (not (s .written)) _ _ refl
     (have-small (s .address) _ _ refl λ a.
     have-small (s .word) _ _ refl λ w.
-    need-small (allOf (loadGivesWay a) ls) _ _ refl (need-small (allOf (storeGivesWay a) ss) _ _ refl refl))
+    need-small (allOf (noLoadConflict a) ls) _ _ refl (need-small (allOf (noStoreConflict a) ss) _ _ refl refl))
 
 pub write-small : (q : Contents) (m : List ℕ) (serial : ℕ) → small (write q m serial) ≡ true
 unfolding write
@@ -169,7 +170,7 @@ take-proper q port = small-proper (takeRule q port) (take-small q port)
 pub record Gave (argument : Argument) (q : Contents) (port x : ℕ) (next : Contents) : Type 0 where
   pub ranged : inRange argument (q .memoryLength) x ≡ true
   pub waited : waits argument port q ≡ true
-  pub is : filled argument port x q ≡ next
+  pub is : argumentGiven argument port x q ≡ next
 
 pub give-accepts : (argument : Argument) (q : Contents) (port x : ℕ) {next : Contents} → give argument q port x ≡ accept next → Gave argument q port x next
 unfolding give

@@ -19,8 +19,8 @@ use Rattle.queue.specs.Sound.{sound}
 use Rattle.queue.specs.Serve.{Served, Source, fromMemory, source, Loaded, loadedFrom, mayServe, loadWithValue, servedWith, storesBefore, serveAt, serve}
 use Rattle.queue.specs.Outcome.{valueIn, ServedWell}
 use Rattle.queue.specs.Parts.{queueOf, countedOf}
-use Rattle.queue.specs.Internal.{storesIn, Whole}
-use Rattle.queue.specs.InternalServe.{mayServeAt, servedAs, Filled}
+use Rattle.queue.specs.Internal.{storesHeld, Has64}
+use Rattle.queue.specs.Internal.{mayServeAt, servedAs, LoadFilled}
 use Rattle.queue.proofs.ContentsLaws.{getElem?-past, side-getElem?, side-take, loads-held, stores-held, loads-count, words-held, load-place, load-anew}
 use Rattle.queue.proofs.Refusals.{need-accepts, have-accepts, andThen-accepts}
 
@@ -48,15 +48,15 @@ module _ (q : Queue) (memory : List ℕ) (place : ℕ) where
         let e : Entry = entryOf (getD (q .«load_entries») place 0) in
         let here : getElem? (contentsOf q .loads) place ≡ some (loadOf e) =
         ap (λ (l : List Load). getElem? l place) (loads-held q) ∙ side-getElem? loadIn 0 (q .frame .loads .count) (q .«load_entries») place k in
-        let ss : take (e .before) (contentsOf q .stores) ≡ storesIn (e .before) (q .«store_entries») =
+        let ss : take (e .before) (contentsOf q .stores) ≡ storesHeld (e .before) (q .«store_entries») =
         ap (take (e .before)) (stores-held q) ∙ side-take storeIn 0 (q .frame .stores .count) (q .«store_entries») (e .before) b in
         ap (λ (o : Option Load). have o noSerial λ l.
         andThen (mayServe memory (storesBefore (contentsOf q) l) l) λ v. accept (servedWith (contentsOf q) place v)) here
         ∙ ap (λ (l : List Store). andThen (mayServe memory l (loadOf e)) λ v. accept (servedWith (contentsOf q) place v)) ss
 
 -- ---- an accepted serve: the load at the place has its value
-pub served-well : (q : Queue) (counts : Counts) (place word : ℕ) (forwarded : Bool) {r : Service} {left : List ℕ} → Whole (q .«load_entries») → q .frame .loads .count ≤ 64 → place < q .frame .loads .count
-    → r ≡ servedAs word forwarded counts → Filled place word (q .«load_entries») left
+pub served-well : (q : Queue) (counts : Counts) (place word : ℕ) (forwarded : Bool) {r : Service} {left : List ℕ} → Has64 (q .«load_entries») → q .frame .loads .count ≤ 64 → place < q .frame .loads .count
+    → r ≡ servedAs word forwarded counts → LoadFilled place word (q .«load_entries») left
     → ServedWell (servedWith (contentsOf q) place (record { value = word; forwarded = forwarded })) counts
     (countedOf r (queueOf (q .frame) left (q .«store_entries»)))
 served-well q counts place word forwarded {r} {left} whole few k e f =

@@ -14,8 +14,9 @@ use Rattle.queue.specs.declared.Queue.{Queue}
 use Rattle.queue.specs.Contents.{loadOf, storeOf, loadIn, storeIn, contentsOf}
 use Rattle.queue.specs.Entry.{entryOf}
 use Rattle.queue.specs.Sound.{depthRight, memoryRight, addressRight, loadRight, storeRight, sound}
-use Rattle.queue.specs.Internal.{sideOf, loadsIn, storesIn, entriesIn, entryRight}
-use Rattle.queue.proofs.Lists.{false-true, and-left, and-right}
+use Rattle.queue.specs.Internal.{sideOf, loadsHeld, storesHeld, entriesHeld, entryRight}
+use Rattle.number.proofs.Both.{and-left, and-right}
+use Rattle.queue.proofs.Lists.{false-true}
 use Rattle.queue.proofs.ContentsLaws.{side-length, side-at}
 use Rattle.queue.proofs.EntryLaws.{side-all-same, load-right, store-right}
 
@@ -33,8 +34,8 @@ pub sound-record : (q : Queue) →
     && memoryRight (q .frame .words)
     && leb (q .frame .loads .count) (q .frame .loads .depth)
     && leb (q .frame .stores .count) (q .frame .stores .depth)
-    && allOf (loadRight (q .frame .words) (q .frame .stores .count)) (loadsIn (q .frame .loads .count) (q .«load_entries»))
-    && allOf (storeRight (q .frame .words) (q .frame .loads .count)) (storesIn (q .frame .stores .count) (q .«store_entries»))
+    && allOf (loadRight (q .frame .words) (q .frame .stores .count)) (loadsHeld (q .frame .loads .count) (q .«load_entries»))
+    && allOf (storeRight (q .frame .words) (q .frame .loads .count)) (storesHeld (q .frame .stores .count) (q .«store_entries»))
     && eqb (tableFault (groupsOf (q .frame .table))) 0)
 unfolding sound contentsOf
 sound-record q = rw (side-length loadIn 0 (q .frame .loads .count) (q .«load_entries»), side-length storeIn 0 (q .frame .stores .count) (q .«store_entries»))
@@ -56,8 +57,8 @@ pub sound-sides : (q : Queue) →
     ((depthRight (q .frame .loads .depth) && leb (q .frame .loads .count) (q .frame .loads .depth))
     && (depthRight (q .frame .stores .depth) && leb (q .frame .stores .count) (q .frame .stores .depth))
     && memoryRight (q .frame .words)
-    && allOf (entryRight (q .frame .words) (q .frame .stores .count)) (entriesIn (q .frame .loads .count) (q .«load_entries»))
-    && allOf (entryRight (q .frame .words) (q .frame .loads .count)) (entriesIn (q .frame .stores .count) (q .«store_entries»))
+    && allOf (entryRight (q .frame .words) (q .frame .stores .count)) (entriesHeld (q .frame .loads .count) (q .«load_entries»))
+    && allOf (entryRight (q .frame .words) (q .frame .loads .count)) (entriesHeld (q .frame .stores .count) (q .«store_entries»))
     && eqb (tableFault (groupsOf (q .frame .table))) 0)
 sound-sides q =
     let words : ℕ = q .frame .words in
@@ -116,8 +117,8 @@ module _ (q : Queue) (s : sound (contentsOf q) ≡ true) where
       (memoryRight (q .frame .words))
       (leb (q .frame .loads .count) (q .frame .loads .depth))
       (leb (q .frame .stores .count) (q .frame .stores .depth))
-      (allOf (loadRight (q .frame .words) (q .frame .stores .count)) (loadsIn (q .frame .loads .count) (q .«load_entries»)))
-      (allOf (storeRight (q .frame .words) (q .frame .loads .count)) (storesIn (q .frame .stores .count) (q .«store_entries»)))
+      (allOf (loadRight (q .frame .words) (q .frame .stores .count)) (loadsHeld (q .frame .loads .count) (q .«load_entries»)))
+      (allOf (storeRight (q .frame .words) (q .frame .loads .count)) (storesHeld (q .frame .stores .count) (q .«store_entries»)))
       (eqb (tableFault (groupsOf (q .frame .table))) 0)
   parted = parts _ _ _ _ _ _ _ _ (sym (sound-record q) ∙ s)
 

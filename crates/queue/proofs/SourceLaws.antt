@@ -11,7 +11,8 @@ use Rattle.queue.specs.declared.Entry.{Entry}
 use Rattle.queue.specs.Ruled.{accept}
 use Rattle.queue.specs.Contents.{Store, storeOf}
 use Rattle.queue.specs.Serve.{hasAddress, unwrittenTo, Source, unknown, fromStore, fromMemory, source, Loaded, loadedFrom}
-use Rattle.queue.proofs.Lists.{false-true, and-left, and-right}
+use Rattle.number.proofs.Both.{and-left, and-right}
+use Rattle.queue.proofs.Lists.{false-true}
 
 -- ---- the walk from the oldest: `found` is the source that the first i stores leave
 pub record Walked (a : ℕ) (ss : List Store) (i : ℕ) (found : Source) : Type 0 where

@@ -17,7 +17,7 @@ use Rattle.queue.specs.Arguments.{namesPort}
 use Rattle.queue.specs.Retire.{retire}
 use Rattle.queue.specs.declared.Kind.the-variants.{Load as load}
 use Rattle.queue.specs.Take.{untaken, loadTaken, takeRule}
-use Rattle.queue.specs.Internal.{loadsIn}
+use Rattle.queue.specs.Internal.{loadsHeld}
 use Rattle.queue.proofs.ContentsLaws.{getElem?-past, side-getElem?, side-length}
 
 module _ (q : Queue) (port : ℕ) where
@@ -30,13 +30,13 @@ module _ (q : Queue) (port : ℕ) where
     unfolding takeRule contentsOf
     take-no-port e = rw (right, e)
 
-    module _ (known : anyOf (namesPort load port) (groupsOf (q .frame .table)) ≡ true) (place : ℕ) (is : place ≡ firstPlace (untaken port) (loadsIn (q .frame .loads .count) (q .«load_entries»))) where
+    module _ (known : anyOf (namesPort load port) (groupsOf (q .frame .table)) ≡ true) (place : ℕ) (is : place ≡ firstPlace (untaken port) (loadsHeld (q .frame .loads .count) (q .«load_entries»))) where
       pub take-none : q .frame .loads .count ≤ place → takeRule (contentsOf q) port ≡ refuse noneUntaken
       unfolding takeRule contentsOf
-      take-none h = rw (right, known, ← is, getElem?-past (loadsIn (q .frame .loads .count) (q .«load_entries»)) place (rw (side-length loadIn 0 (q .frame .loads .count) (q .«load_entries»)) h))
+      take-none h = rw (right, known, ← is, getElem?-past (loadsHeld (q .frame .loads .count) (q .«load_entries»)) place (rw (side-length loadIn 0 (q .frame .loads .count) (q .«load_entries»)) h))
 
       module _ (k : place < q .frame .loads .count) (e : Entry) (at : entryOf (getD (q .«load_entries») place 0) ≡ e) where
-        here : getElem? (loadsIn (q .frame .loads .count) (q .«load_entries»)) place ≡ some (loadOf e)
+        here : getElem? (loadsHeld (q .frame .loads .count) (q .«load_entries»)) place ≡ some (loadOf e)
         here = side-getElem? loadIn 0 (q .frame .loads .count) (q .«load_entries») place k ∙ rw at
 
         pub take-unserved : e .filled ≡ false → takeRule (contentsOf q) port ≡ refuse notServed

@@ -11,14 +11,14 @@ use borrow.Author.Tests.{eq-eqb, ne-eqb}
 use Rattle.number.specs.Basics.{allOf}
 use Rattle.queue.specs.declared.Entry.{Entry}
 use Rattle.queue.specs.declared.Queue.{Queue}
-use Rattle.number.specs.Refusal.{unsound, wrongMemory, noSerial, alreadyDone, noAddress, noData, earlierLoadInWay, earlierStoreInWay}
+use Rattle.number.specs.Refusal.{unsound, wrongMemory, noSerial, alreadyDone, noAddress, noData, loadConflict, storeConflict}
 use Rattle.queue.specs.Ruled.{Ruled, refuse, accept, have, andThen, number}
 use Rattle.queue.specs.Contents.{Load, Store, Contents, storeOf, loadIn, storeIn, contentsOf, age, oldest, storePlace}
 use Rattle.queue.specs.Entry.{entryOf}
 use Rattle.queue.specs.Sound.{sound}
-use Rattle.queue.specs.Write.{Written, Put, loadGivesWay, storeGivesWay, mayWrite, writtenWith, loadsBefore, writeAt, write}
-use Rattle.queue.specs.Internal.{loadsIn, storesIn}
-use Rattle.queue.specs.InternalWrite.{mayWriteAt}
+use Rattle.queue.specs.Write.{Written, WordPut, noLoadConflict, noStoreConflict, mayWrite, writtenWith, loadsBefore, writeAt, write}
+use Rattle.queue.specs.Internal.{loadsHeld, storesHeld}
+use Rattle.queue.specs.Internal.{mayWriteAt}
 use Rattle.queue.proofs.ContentsLaws.{getElem?-past, side-getElem?, side-take, loads-held, stores-held, stores-count, words-held, store-place}
 use Rattle.queue.proofs.Refusals.{need-accepts, have-accepts, andThen-accepts}
 
@@ -41,13 +41,13 @@ module _ (ls : List Load) (ss : List Store) (e : Entry) where
       may-no-data f = rw (w, a, f)
 
       module _ (f : e .filled ≡ true) where
-        pub may-load : allOf (loadGivesWay (e .address)) ls ≡ false → earlierLoadInWay ≡ number (mayWrite ls ss (storeOf e))
+        pub may-load : allOf (noLoadConflict (e .address)) ls ≡ false → loadConflict ≡ number (mayWrite ls ss (storeOf e))
         may-load l = rw (w, a, f, l)
 
-        pub may-store : allOf (loadGivesWay (e .address)) ls ≡ true → allOf (storeGivesWay (e .address)) ss ≡ false → earlierStoreInWay ≡ number (mayWrite ls ss (storeOf e))
+        pub may-store : allOf (noLoadConflict (e .address)) ls ≡ true → allOf (noStoreConflict (e .address)) ss ≡ false → storeConflict ≡ number (mayWrite ls ss (storeOf e))
         may-store l s = rw (w, a, f, l, s)
 
-        pub may-put : allOf (loadGivesWay (e .address)) ls ≡ true → allOf (storeGivesWay (e .address)) ss ≡ true
+        pub may-put : allOf (noLoadConflict (e .address)) ls ≡ true → allOf (noStoreConflict (e .address)) ss ≡ true
             → mayWrite ls ss (storeOf e) ≡ accept (record { address = e .address; word = e .word })
         may-put l s = rw (w, a, f, l, s)
 
@@ -59,9 +59,9 @@ module _ (ls : List Load) (ss : List Store) (e : Entry) where
     pub put : mayWrite ls ss (storeOf e) ≡ accept (record { address = e .address; word = e .word })
 
   pub may-puts : number (mayWrite ls ss (storeOf e)) ≡ 0 → Puts
-  may-puts h = go (e .finished) (e .addressed) (e .filled) (allOf (loadGivesWay (e .address)) ls) (allOf (storeGivesWay (e .address)) ss) refl refl refl refl refl
+  may-puts h = go (e .finished) (e .addressed) (e .filled) (allOf (noLoadConflict (e .address)) ls) (allOf (noStoreConflict (e .address)) ss) refl refl refl refl refl
     where
-      go : (w a f l s : Bool) → e .finished ≡ w → e .addressed ≡ a → e .filled ≡ f → allOf (loadGivesWay (e .address)) ls ≡ l → allOf (storeGivesWay (e .address)) ss ≡ s → Puts
+      go : (w a f l s : Bool) → e .finished ≡ w → e .addressed ≡ a → e .filled ≡ f → allOf (noLoadConflict (e .address)) ls ≡ l → allOf (noStoreConflict (e .address)) ss ≡ s → Puts
       go true a f l s ew ea ef el es = let z = may-not-again ew ∙ h in absurd (omega arith)
       go false false f l s ew ea ef el es = let z = may-no-address ew ea ∙ h in absurd (omega arith)
       go false true false l s ew ea ef el es = let z = may-no-data ew ea ef ∙ h in absurd (omega arith)
@@ -80,13 +80,13 @@ module _ (q : Queue) (memory : List ℕ) (place : ℕ) where
     write-held =
         let e : Entry = entryOf (getD (q .«store_entries») place 0) in
         let here : getElem? (contentsOf q .stores) place ≡ some (storeOf e) = ap (λ (l : List Store). getElem? l place) (stores-held q) ∙ side-getElem? storeIn 0 (q .frame .stores .count) (q .«store_entries») place k in
-        let ls : take (e .before) (contentsOf q .loads) ≡ loadsIn (e .before) (q .«load_entries») =
+        let ls : take (e .before) (contentsOf q .loads) ≡ loadsHeld (e .before) (q .«load_entries») =
         ap (take (e .before)) (loads-held q) ∙ side-take loadIn 0 (q .frame .loads .count) (q .«load_entries») (e .before) b in
-        let ss : take place (contentsOf q .stores) ≡ storesIn place (q .«store_entries») =
+        let ss : take place (contentsOf q .stores) ≡ storesHeld place (q .«store_entries») =
         ap (take place) (stores-held q) ∙ side-take storeIn 0 (q .frame .stores .count) (q .«store_entries») place (omega arith) in
         ap (λ (o : Option Store). have o noSerial λ s. andThen (mayWrite (take (s .before) (contentsOf q .loads)) (take place (contentsOf q .stores)) s) λ p. accept (writtenWith (contentsOf q) memory place p)) here
         ∙ ap (λ (l : List Load). andThen (mayWrite l (take place (contentsOf q .stores)) (storeOf e)) λ p. accept (writtenWith (contentsOf q) memory place p)) ls
-        ∙ ap (λ (l : List Store). andThen (mayWrite (loadsIn (e .before) (q .«load_entries»)) l (storeOf e)) λ p. accept (writtenWith (contentsOf q) memory place p)) ss
+        ∙ ap (λ (l : List Store). andThen (mayWrite (loadsHeld (e .before) (q .«load_entries»)) l (storeOf e)) λ p. accept (writtenWith (contentsOf q) memory place p)) ss
 
 -- ---- 40 and 30, and the place that a serial names
 pub write-by-place : (q : Contents) (memory : List ℕ) (serial : ℕ) → sound q ≡ true → length memory ≡ q .memoryLength
@@ -110,25 +110,25 @@ module _ (q : Queue) (memory : List ℕ) (serial : ℕ) where
         ∙ ap (writeAt (contentsOf q) memory) (store-place q serial)
 
 -- ---- an accepted write: the store has an address and data, and what comes before it gave way
-pub record MayWrite (ls : List Load) (ss : List Store) (s : Store) (p : Put) : Type 0 where
+pub record MayWrite (ls : List Load) (ss : List Store) (s : Store) (p : WordPut) : Type 0 where
   pub unwritten : not (s .written) ≡ true
   pub addressed : s .address ≡ some (p .address)
   pub worded : s .word ≡ some (p .word)
-  pub loadsApart : allOf (loadGivesWay (p .address)) ls ≡ true
-  pub storesApart : allOf (storeGivesWay (p .address)) ss ≡ true
+  pub loadsApart : allOf (noLoadConflict (p .address)) ls ≡ true
+  pub storesApart : allOf (noStoreConflict (p .address)) ss ≡ true
 
-may-write-accepts : (ls : List Load) (ss : List Store) (s : Store) (p : Put) → mayWrite ls ss s ≡ accept p → MayWrite ls ss s p
+may-write-accepts : (ls : List Load) (ss : List Store) (s : Store) (p : WordPut) → mayWrite ls ss s ≡ accept p → MayWrite ls ss s p
 may-write-accepts ls ss s p h =
     let (t₁, h₁) = need-accepts (not (s .written)) _ _ h in
     let (a, t₂, h₂) = have-accepts (s .address) _ _ h₁ in
     let (w, t₃, h₃) = have-accepts (s .word) _ _ h₂ in
-    let (t₄, h₄) = need-accepts (allOf (loadGivesWay a) ls) _ _ h₃ in
-    let (t₅, h₅) = need-accepts (allOf (storeGivesWay a) ss) _ _ h₄ in
+    let (t₄, h₄) = need-accepts (allOf (noLoadConflict a) ls) _ _ h₃ in
+    let (t₅, h₅) = need-accepts (allOf (noStoreConflict a) ss) _ _ h₄ in
     let put : record { address = a; word = w } ≡ p = cc h₅ in
     subst (MayWrite ls ss s) put (record { unwritten = t₁; addressed = t₂; worded = t₃; loadsApart = t₄; storesApart = t₅ })
 
 pub record Writing (q : Contents) (m : List ℕ) (place : ℕ) (r : Written) (s : Store) : Type 0 where
-  pub put : Put
+  pub put : WordPut
   pub may : MayWrite (loadsBefore q s) (take place (q .stores)) s put
   pub result : r ≡ writtenWith q m place put
 

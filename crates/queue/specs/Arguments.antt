@@ -12,7 +12,7 @@ use Rattle.queue.specs.declared.Kind.{Kind}
 use Rattle.queue.specs.declared.Kind.the-variants.{Load as load, Store as store}
 use Rattle.queue.specs.declared.arguments.Argument.{Argument}
 use Rattle.queue.specs.declared.arguments.Argument.the-variants.{LoadAddress, StoreAddress, StoreData}
-use Rattle.queue.specs.Kind.{ofKind}
+use Rattle.queue.specs.Contents.{ofKind}
 use Rattle.number.specs.Refusal.{unsound, noPort, badAddress, noneWaits}
 use Rattle.queue.specs.Ruled.{Ruled, accept, need, isSome}
 use Rattle.queue.specs.Contents.{Load, Store, Contents, withLoads, withStores, updateAt, firstPlace}
@@ -66,10 +66,10 @@ storeWithWord w s = record { port = s .port; address = s .address; word = some w
 abbrev pub updateFirst : {A : Type 0} → (A → Bool) → (A → A) → List A → List A
 updateFirst p f l = updateAt f (firstPlace p l) l
 
-abbrev pub filled : Argument → ℕ → ℕ → Contents → Contents
-filled LoadAddress port a q = withLoads q (updateFirst (loadLacksAddress port) (loadWithAddress a) (q .loads))
-filled StoreAddress port a q = withStores q (updateFirst (storeLacksAddress port) (storeWithAddress a) (q .stores))
-filled StoreData port w q = withStores q (updateFirst (storeLacksWord port) (storeWithWord w) (q .stores))
+abbrev pub argumentGiven : Argument → ℕ → ℕ → Contents → Contents
+argumentGiven LoadAddress port a q = withLoads q (updateFirst (loadLacksAddress port) (loadWithAddress a) (q .loads))
+argumentGiven StoreAddress port a q = withStores q (updateFirst (storeLacksAddress port) (storeWithAddress a) (q .stores))
+argumentGiven StoreData port w q = withStores q (updateFirst (storeLacksWord port) (storeWithWord w) (q .stores))
 
 unfoldable pub give : Argument → Contents → ℕ → ℕ → Ruled Contents
 give argument q port x =
@@ -77,7 +77,7 @@ give argument q port x =
     (need (anyOf (namesPort (kindOf argument) port) (q .groups)) noPort
     (need (inRange argument (q .memoryLength) x) badAddress
     (need (waits argument port q) noneWaits
-    (accept (filled argument port x q)))))
+    (accept (argumentGiven argument port x q)))))
 
 -- the three calls
 abbrev pub loadAddress : Contents → ℕ → ℕ → Ruled Contents

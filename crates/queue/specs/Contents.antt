@@ -12,6 +12,13 @@ use Rattle.table.specs.Table.{groupsOf}
 use Rattle.queue.specs.declared.Entry.{Entry}
 use Rattle.queue.specs.declared.Queue.{Queue}
 use Rattle.queue.specs.Entry.{entryOf}
+use Rattle.queue.specs.declared.Kind.{Kind}
+use Rattle.queue.specs.declared.Kind.the-variants.{Load as load, Store as store}
+
+-- what there is of the loads, and of the stores
+abbrev pub ofKind : {A : Type 0} → Kind → A → A → A
+ofKind load a b = a
+ofKind store a b = b
 
 -- "A load entry holds port, address or none, served or not, value, taken or not", and how many queued stores come before it.
 -- A served load has the value that it was served.

@@ -1,6 +1,5 @@
 -- What the calls of the queue mean, in the order of document 01.
 pub mod Ruled
-pub mod Kind
 pub mod Entry
 pub mod Contents
 pub mod Sound
@@ -16,9 +15,3 @@ pub mod Counts
 pub mod Outcome
 pub mod Parts
 pub mod Internal
-pub mod InternalActivate
-pub mod InternalArguments
-pub mod InternalServe
-pub mod InternalWrite
-pub mod InternalRetire
-pub mod InternalReady

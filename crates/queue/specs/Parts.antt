@@ -18,7 +18,7 @@ use Rattle.queue.specs.declared.answering.Step.{Step}
 use Rattle.queue.specs.declared.serving.Service.{Service}
 use Rattle.queue.specs.declared.ready.ReadyCount.{ReadyCount}
 use Rattle.queue.specs.declared.opening.OpenedFrame.{OpenedFrame}
-use Rattle.queue.specs.Kind.{ofKind}
+use Rattle.queue.specs.Contents.{ofKind}
 use Rattle.number.specs.Refusal.{unsound}
 use Rattle.queue.specs.Ruled.{Ruled, refuse, accept, need}
 use Rattle.queue.specs.Contents.{Contents, contentsOf}

@@ -11,7 +11,7 @@ use Rattle.number.specs.Refusal.{tooShort, unsound}
 use Rattle.queue.specs.declared.Kind.{Kind}
 use Rattle.queue.specs.declared.Queue.{Queue}
 use Rattle.queue.specs.declared.Readied.{Readied}
-use Rattle.queue.specs.Kind.{ofKind}
+use Rattle.queue.specs.Contents.{ofKind}
 use Rattle.queue.specs.Ruled.{Ruled, refuse, accept, need, number}
 use Rattle.queue.specs.Contents.{Contents, after, oldest}
 use Rattle.queue.specs.Sound.{sound}

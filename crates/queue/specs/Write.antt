@@ -7,7 +7,7 @@ use mathlib.Core.Option.{Option, none, some}
 use lib.Dec.{eqb}
 use lib.ListN.{length, take, set, getElem?}
 use Rattle.number.specs.Basics.{allOf}
-use Rattle.number.specs.Refusal.{unsound, wrongMemory, noSerial, alreadyDone, noAddress, noData, earlierLoadInWay, earlierStoreInWay}
+use Rattle.number.specs.Refusal.{unsound, wrongMemory, noSerial, alreadyDone, noAddress, noData, loadConflict, storeConflict}
 use Rattle.queue.specs.Ruled.{Ruled, accept, need, have, andThen, isSome}
 use Rattle.queue.specs.Contents.{Load, Store, Contents, withStores, updateAt, storePlace}
 use Rattle.queue.specs.Sound.{sound}
@@ -23,33 +23,33 @@ abbrev pub addressApart : ℕ → Option ℕ → Bool
 addressApart a none = false
 addressApart a (some b) = not (eqb b a)
 
--- an earlier load, an earlier store, that does not stand in the way of a write to the address
-abbrev pub loadGivesWay : ℕ → Load → Bool
-loadGivesWay a l = isSome (l .value) || addressApart a (l .address)
+-- an earlier load, an earlier store, that does not conflict with a write to the address
+abbrev pub noLoadConflict : ℕ → Load → Bool
+noLoadConflict a l = isSome (l .value) || addressApart a (l .address)
 
-abbrev pub storeGivesWay : ℕ → Store → Bool
-storeGivesWay a s = (s .written) || addressApart a (s .address)
+abbrev pub noStoreConflict : ℕ → Store → Bool
+noStoreConflict a s = (s .written) || addressApart a (s .address)
 
 abbrev pub storeDone : Store → Store
 storeDone s = record { port = s .port; address = s .address; word = s .word; written = true; before = s .before }
 
 -- a word and the address that it is put at
-pub record Put : Type 0 where
+pub record WordPut : Type 0 where
   pub address : ℕ
   pub word : ℕ
 
 -- what writing a store puts where, with these loads and these stores before it: 26, 27, 29, 31, 32
-abbrev pub mayWrite : List Load → List Store → Store → Ruled Put
+abbrev pub mayWrite : List Load → List Store → Store → Ruled WordPut
 mayWrite ls ss s =
     need (not (s .written)) alreadyDone
     (have (s .address) noAddress λ a.
     have (s .word) noData λ w.
-    need (allOf (loadGivesWay a) ls) earlierLoadInWay
-    (need (allOf (storeGivesWay a) ss) earlierStoreInWay
+    need (allOf (noLoadConflict a) ls) loadConflict
+    (need (allOf (noStoreConflict a) ss) storeConflict
     (accept (record { address = a; word = w }))))
 
 -- the store at a place is written
-abbrev pub writtenWith : Contents → List ℕ → ℕ → Put → Written
+abbrev pub writtenWith : Contents → List ℕ → ℕ → WordPut → Written
 writtenWith q memory place p = record {
   memory = set memory (p .address) (p .word);
   queue = retire (withStores q (updateAt storeDone place (q .stores)));

@@ -7,8 +7,8 @@ ghost use Rattle.queue.specs.Contents.{contentsOf};
 ghost use Rattle.queue.specs.Activate.{activate};
 ghost use Rattle.queue.specs.Outcome.{Moves};
 ghost use Rattle.queue.specs.Parts.{frameOf, queueOf, outcomeOf, onParts};
-ghost use Rattle.queue.specs.Internal.{Whole};
-ghost use Rattle.queue.specs.InternalActivate.{PairsFit, Appended, longer};
+ghost use Rattle.queue.specs.Internal.{Has64};
+ghost use Rattle.queue.specs.Internal.{PairsFit, Appended, longer};
 use crate::Entry;
 use crate::Outcome;
 use crate::Outline;
@@ -52,7 +52,7 @@ fn has_room(loads: Side, stores: Side, group: Group) -> bool
 // Puts a group's entries of one kind behind those held. An entry comes after all of the other kind that are held and those of
 // its group that its offset counts.
 fn append(entries: &mut [u64], held: u8, places: &[u16; 32], pairs: Span, others: u8)
-    requires { ⌜ PairsFit held (now places) pairs × (others ≤ 64) × Whole (now entries) ⌝ }
+    requires { ⌜ PairsFit held (now places) pairs × (others ≤ 64) × Has64 (now entries) ⌝ }
     ensures { λ _. ⌜ Appended held (now (places .entry)) pairs others (now (entries .entry)) (now (entries .exit)) ⌝ }
 {
     let start = held as usize;

@@ -1,7 +1,7 @@
 // What the calls on a queue's parts are handed and hand back: they are handed the outline, and the table's arrays and both runs
 // of entries are lent to them. A frame handed over would be copied at every call, and most of its bytes are the arrays.
 ghost use mathlib.Core.Path.{_≡_};
-ghost use Rattle.queue.specs.Kind.{ofKind};
+ghost use Rattle.queue.specs.Contents.{ofKind};
 ghost use Rattle.queue.specs.Parts.{outlineOf, frameAfter};
 ghost use Rattle.queue.specs.Internal.{refusedStep};
 use crate::Frame;

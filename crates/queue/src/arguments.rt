@@ -7,7 +7,7 @@ ghost use Rattle.queue.specs.Contents.{contentsOf};
 ghost use Rattle.queue.specs.Arguments.{kindOf, inRange, give, loadAddress, storeAddress, storeData};
 ghost use Rattle.queue.specs.Outcome.{Moves};
 ghost use Rattle.queue.specs.Parts.{frameOf, queueOf, queueOfKind, answered, onParts};
-ghost use Rattle.queue.specs.InternalArguments.{markOf, withArgument, Given};
+ghost use Rattle.queue.specs.Internal.{markOf, withArgument, Given};
 use crate::Entry;
 use crate::Frame;
 use crate::Kind;

@@ -4,7 +4,7 @@ ghost use Prim.Native.Nat.{_≤_};
 ghost use lib.ListN.{length};
 ghost use Rattle.queue.specs.Entry.{bit, entryOf, numberOf};
 ghost use Rattle.queue.specs.Contents.{firstPlace};
-ghost use Rattle.queue.specs.Internal.{withAddress, withWord, has, lacks, entriesIn};
+ghost use Rattle.queue.specs.Internal.{withAddress, withWord, has, lacks, entriesHeld};
 use crate::Entry;
 
 // What an entry may have, or be.
@@ -90,7 +90,7 @@ fn lacks(entry: Entry, port: u32, mark: Mark) -> bool
 // The place of the port's oldest entry without the mark, or the count where there is none.
 pub(crate) fn oldest_without(entries: &[u64], held: u8, port: u32, mark: Mark) -> usize
     requires { ⌜ held ≤ length (now entries) ⌝ }
-    ensures { λ r. ⌜ r ≡ firstPlace (lacks mark port) (entriesIn held (now (entries .entry))) ⌝ }
+    ensures { λ r. ⌜ r ≡ firstPlace (lacks mark port) (entriesHeld held (now (entries .entry))) ⌝ }
 {
     let count = held as usize;
     let mut i: usize = 0;

@@ -10,8 +10,8 @@ ghost use Rattle.queue.specs.Sound.{sound};
 ghost use Rattle.queue.specs.Ready.{readySerials, ready, Readies, Fronts};
 ghost use denote.Ref.{ptr};
 ghost use Rattle.queue.specs.Parts.{frameOf, queueOf, onParts, readiedOf};
-ghost use Rattle.queue.specs.Internal.{storesIn, frameWith, Checked};
-ghost use Rattle.queue.specs.InternalReady.{loadReady, InReach, readyAt, listed, Noted, Lists, HandedOut};
+ghost use Rattle.queue.specs.Internal.{storesHeld, frameWith, Checked};
+ghost use Rattle.queue.specs.Internal.{loadReady, InReach, readyAt, serialsListed, Noted, Lists, HandedOut};
 use crate::Entry;
 use crate::Kind;
 use crate::Outline;
@@ -38,7 +38,7 @@ pub(crate) struct Serials {
 // Would the load be served now?
 fn load_ready(load: Entry, store_entries: &[u64]) -> bool
     requires { ⌜ load .before ≤ length (now «store_entries») ⌝ }
-    ensures { λ r. ⌜ r ≡ loadReady (storesIn (load .before) (now («store_entries» .entry))) (loadOf load) ⌝ }
+    ensures { λ r. ⌜ r ≡ loadReady (storesHeld (load .before) (now («store_entries» .entry))) (loadOf load) ⌝ }
 {
     if load.filled {
         return false;
@@ -71,7 +71,7 @@ fn noted(mut serials: Serials, serial: u32, ready: bool) -> Serials
 // The serials at the front of the lent run; the rest keeps its contents.
 fn put_serials(serials: Serials, out: &mut [u32])
     requires { ⌜ (serials .count ≤ 64) × (serials .count ≤ length (now out)) ⌝ }
-    ensures { λ _. ⌜ now (out .exit) ≡ listed serials ++ drop (serials .count) (now (out .entry)) ⌝ }
+    ensures { λ _. ⌜ now (out .exit) ≡ serialsListed serials ++ drop (serials .count) (now (out .entry)) ⌝ }
 {
     let count = serials.count;
     let mut i: usize = 0;

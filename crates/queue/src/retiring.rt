@@ -7,8 +7,8 @@ ghost use Rattle.table.specs.declared.Table.{Table};
 ghost use Rattle.queue.specs.Contents.{contentsOf};
 ghost use Rattle.queue.specs.Retire.{retiring, retire};
 ghost use Rattle.queue.specs.Parts.{queueOf};
-ghost use Rattle.queue.specs.Internal.{entriesIn, finished, frameWith};
-ghost use Rattle.queue.specs.InternalRetire.{Shifted, shorter, withSides};
+ghost use Rattle.queue.specs.Internal.{entriesHeld, finished, frameWith};
+ghost use Rattle.queue.specs.Internal.{Shifted, shorter, withSides};
 use crate::Outline;
 use crate::Side;
 use crate::answering::Sides;
@@ -18,7 +18,7 @@ use crate::entries::unpack;
 // How many entries at the oldest end are finished, and so retire. A finished entry behind an unfinished one keeps its place.
 fn retiring(entries: &[u64], held: u8) -> u8
     requires { ⌜ held ≤ length (now entries) ⌝ }
-    ensures { λ r. ⌜ r ≡ retiring finished (entriesIn held (now (entries .entry))) ⌝ }
+    ensures { λ r. ⌜ r ≡ retiring finished (entriesHeld held (now (entries .entry))) ⌝ }
 {
     let mut i: u8 = 0;
     while i < held {

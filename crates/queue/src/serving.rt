@@ -8,8 +8,8 @@ ghost use Rattle.queue.specs.Contents.{storeOf, contentsOf};
 ghost use Rattle.queue.specs.Serve.{unwrittenTo, fromStore, fromMemory, source, serveAt, serve};
 ghost use Rattle.queue.specs.Outcome.{Serves, withCounts};
 ghost use Rattle.queue.specs.Parts.{frameOf, queueOf, countedOf, onParts};
-ghost use Rattle.queue.specs.Internal.{storesIn, frameWith, Checked};
-ghost use Rattle.queue.specs.InternalServe.{sourceIn, unserved, servedAs, Filled};
+ghost use Rattle.queue.specs.Internal.{storesHeld, frameWith, Checked};
+ghost use Rattle.queue.specs.Internal.{sourceIn, serveRefused, servedAs, LoadFilled};
 use crate::Counted;
 use crate::Counts;
 use crate::Entry;
@@ -72,7 +72,7 @@ fn unwritten_to(store: Entry, address: u16) -> bool
 // unwritten store to the address takes the place of one before it, or the load would get a stale word.
 pub(crate) fn source_of(entries: &[u64], n: usize, address: u16) -> Source
     requires { ⌜ n ≤ length (now entries) ⌝ }
-    ensures { λ r. ⌜ sourceIn r ≡ source address fromMemory (storesIn n (now (entries .entry))) ⌝ }
+    ensures { λ r. ⌜ sourceIn r ≡ source address fromMemory (storesHeld n (now (entries .entry))) ⌝ }
 {
     let mut found = Source::Memory;
     let mut i: usize = 0;
@@ -97,8 +97,8 @@ pub struct Service {
 }
 
 // A refused serve: the counts stay as they are.
-fn unserved(answer: u8, counts: Counts) -> Service
-    ensures { λ r. ⌜ r ≡ unserved answer counts ⌝ }
+fn serve_refused(answer: u8, counts: Counts) -> Service
+    ensures { λ r. ⌜ r ≡ serveRefused answer counts ⌝ }
 {
     Service {
         answer,
@@ -116,7 +116,7 @@ fn served(
     counts: Counts,
 ) -> Service
     requires { ⌜ at < length (now «load_entries») ⌝ }
-    ensures { λ r. ⌜ (r ≡ servedAs word forwarded counts) × Filled at word (now («load_entries» .entry)) (now («load_entries» .exit)) ⌝ }
+    ensures { λ r. ⌜ (r ≡ servedAs word forwarded counts) × LoadFilled at word (now («load_entries» .entry)) (now («load_entries» .exit)) ⌝ }
 {
     let load = unpack(load_entries[at]);
     let after = with_word(load, word);
@@ -145,19 +145,19 @@ fn serve_at(
 {
     let loads = outline.loads;
     if loads.count as u32 <= place {
-        return unserved(NO_SERIAL, counts);
+        return serve_refused(NO_SERIAL, counts);
     }
     let at = place as usize;
     let load = unpack(load_entries[at]);
     if load.filled {
-        return unserved(ALREADY_DONE, counts);
+        return serve_refused(ALREADY_DONE, counts);
     }
     if !load.addressed {
-        return unserved(NO_ADDRESS, counts);
+        return serve_refused(NO_ADDRESS, counts);
     }
     match source_of(store_entries, load.before as usize, load.address) {
-        Source::Unknown => unserved(EARLIER_STORE_UNKNOWN, counts),
-        Source::NoData => unserved(NO_DATA, counts),
+        Source::Unknown => serve_refused(EARLIER_STORE_UNKNOWN, counts),
+        Source::NoData => serve_refused(NO_DATA, counts),
         Source::Forwarded(word) => served(load_entries, at, word, true, counts),
         Source::Memory => served(
             load_entries,
@@ -195,10 +195,10 @@ pub fn serve_in<'a>(
         load_entries,
         store_entries,
     ) {
-        return unserved(UNSOUND, counts);
+        return serve_refused(UNSOUND, counts);
     }
     if memory.len() != outline.words as usize {
-        return unserved(WRONG_MEMORY, counts);
+        return serve_refused(WRONG_MEMORY, counts);
     }
     let loads = outline.loads;
     let place = place_of(loads.next, loads.count, serial);

@@ -8,7 +8,7 @@ ghost use Rattle.number.specs.Basics.{allOf};
 ghost use Rattle.queue.specs.Contents.{contentsOf};
 ghost use Rattle.queue.specs.Sound.{depthRight, memoryRight, sound};
 ghost use Rattle.queue.specs.Parts.{frameOf, queueOf, queueOfKind, whole};
-ghost use Rattle.queue.specs.Internal.{entriesIn, entryRight};
+ghost use Rattle.queue.specs.Internal.{entriesHeld, entryRight};
 use crate::Entry;
 use crate::Kind;
 use crate::Outline;
@@ -54,7 +54,7 @@ fn entry_right(entry: Entry, words: u16, others: u8) -> bool
 // Is every entry held right?
 fn entries_right(entries: &[u64], held: u8, words: u16, others: u8) -> bool
     requires { ⌜ held ≤ length (now entries) ⌝ }
-    ensures { λ r. ⌜ r ≡ allOf (entryRight words others) (entriesIn held (now (entries .entry))) ⌝ }
+    ensures { λ r. ⌜ r ≡ allOf (entryRight words others) (entriesHeld held (now (entries .entry))) ⌝ }
 {
     let count = held as usize;
     let mut i: usize = 0;

@@ -10,8 +10,8 @@ ghost use Rattle.queue.specs.Write.{writeAt, write};
 ghost use Rattle.queue.specs.Ruled.{number};
 ghost use Rattle.queue.specs.Outcome.{Writes};
 ghost use Rattle.queue.specs.Parts.{frameOf, queueOf, outcomeOf, onParts};
-ghost use Rattle.queue.specs.Internal.{entriesIn, frameWith, Checked};
-ghost use Rattle.queue.specs.InternalWrite.{givesWay, mayWriteAt};
+ghost use Rattle.queue.specs.Internal.{entriesHeld, frameWith, Checked};
+ghost use Rattle.queue.specs.Internal.{noConflict, mayWriteAt};
 use crate::Entry;
 use crate::Outcome;
 use crate::Outline;
@@ -30,18 +30,18 @@ use crate::retiring::retire;
 use crate::serial::place_of;
 use crate::sound::sound_in;
 use number::refusal::ALREADY_DONE;
-use number::refusal::EARLIER_LOAD_IN_WAY;
-use number::refusal::EARLIER_STORE_IN_WAY;
+use number::refusal::LOAD_CONFLICT;
 use number::refusal::NO_ADDRESS;
 use number::refusal::NO_DATA;
 use number::refusal::NO_SERIAL;
+use number::refusal::STORE_CONFLICT;
 use number::refusal::UNSOUND;
 use number::refusal::WRONG_MEMORY;
 
-// An entry that is done with the memory (a served load, a written store), or is known to be of another word, gives way to a
-// write to the address. Writing past an unserved load of the word would spoil that load.
-fn gives_way(entry: Entry, done: Mark, address: u16) -> bool
-    ensures { λ r. ⌜ r ≡ givesWay done address entry ⌝ }
+// An entry that is done with the memory (a served load, a written store), or is known to be of another word, does not
+// conflict with a write to the address. Writing past an unserved load of the word would spoil that load.
+fn no_conflict(entry: Entry, done: Mark, address: u16) -> bool
+    ensures { λ r. ⌜ r ≡ noConflict done address entry ⌝ }
 {
     if has(entry, done) {
         return true;
@@ -52,15 +52,15 @@ fn gives_way(entry: Entry, done: Mark, address: u16) -> bool
     entry.address != address
 }
 
-// Do the first n entries give way to a write to the address?
-fn all_give_way(entries: &[u64], n: usize, done: Mark, address: u16) -> bool
+// Does none of the first n entries conflict with a write to the address?
+fn none_conflict(entries: &[u64], n: usize, done: Mark, address: u16) -> bool
     requires { ⌜ n ≤ length (now entries) ⌝ }
-    ensures { λ r. ⌜ r ≡ allOf (givesWay done address) (entriesIn n (now (entries .entry))) ⌝ }
+    ensures { λ r. ⌜ r ≡ allOf (noConflict done address) (entriesHeld n (now (entries .entry))) ⌝ }
 {
     let mut i: usize = 0;
     while i < n {
         let entry = unpack(entries[i]);
-        if !gives_way(entry, done, address) {
+        if !no_conflict(entry, done, address) {
             return false;
         }
         i += 1;
@@ -83,16 +83,16 @@ pub(crate) fn write_fault(load_entries: &[u64], store_entries: &[u64], at: usize
     if !store.filled {
         return NO_DATA;
     }
-    if !all_give_way(
+    if !none_conflict(
         load_entries,
         store.before as usize,
         Mark::Filled,
         store.address,
     ) {
-        return EARLIER_LOAD_IN_WAY;
+        return LOAD_CONFLICT;
     }
-    if !all_give_way(store_entries, at, Mark::Finished, store.address) {
-        return EARLIER_STORE_IN_WAY;
+    if !none_conflict(store_entries, at, Mark::Finished, store.address) {
+        return STORE_CONFLICT;
     }
     0
 }

@@ -21,26 +21,23 @@ use Rattle.queue.specs.Write.{Written, write}
 use Rattle.queue.specs.Take.{Taken, takeRule}
 use Rattle.queue.specs.Outcome.{Handed, handed, noValue, HandedCounts, valueIn, Moves, Takes, Serves, Writes, withCounts}
 use Rattle.queue.specs.Parts.{whole, onParts}
-use Rattle.sequential.specs.Call.{Machine, Step, moved, served, written, taken}
+use Rattle.sequential.specs.Answers.{Machine, Response, moveResponse, serveResponse, writeResponse, takeResponse, machine}
 use Rattle.replay.specs.Playing.{Playing, playing, stepOf, countsAfter, afterServe}
 use Rattle.replay.specs.Internal.{Plays}
 
 abbrev made : Machine → Counts → Playing
 made m c = record { machine = m; counts = c }
 
-abbrev machine : Contents → List ℕ → Machine
-machine q m = record { queue = q; memory = m }
-
 module _ (q : Queue) (c : Counts) (m : List ℕ) (e : Event) where
   abbrev now : Playing
   now = playing (contentsOf q) m c
 
   -- what a step gives, piece by piece
-  from-step : (s : Step) (r : Counted) (left : List ℕ) → stepOf now e ≡ s → s .number ≡ r .answer → s .value ≡ valueIn (r .value) → s .machine ≡ machine (contentsOf (r .queue)) left → countsAfter now e ≡ r .counts → Plays q c m e r left
+  from-step : (s : Response) (r : Counted) (left : List ℕ) → stepOf now e ≡ s → s .number ≡ r .answer → s .value ≡ valueIn (r .value) → s .machine ≡ machine (contentsOf (r .queue)) left → countsAfter now e ≡ r .counts → Plays q c m e r left
   from-step s r left is number value next counts = record {
-    answer = ap (λ (x : Step). x .number) is ∙ number;
-    value = ap (λ (x : Step). x .value) is ∙ value;
-    next = ap₂ made (ap (λ (x : Step). x .machine) is ∙ next) counts;
+    answer = ap (λ (x : Response). x .number) is ∙ number;
+    value = ap (λ (x : Response). x .value) is ∙ value;
+    next = ap₂ made (ap (λ (x : Response). x .machine) is ∙ next) counts;
   }
 
   -- a refused call plays nothing
@@ -50,19 +47,19 @@ module _ (q : Queue) (c : Counts) (m : List ℕ) (e : Event) where
       from-step _ (withCounts o c) left is (sym (ap (λ (x : Handed). x .answer) h)) (sym (ap (λ (x : Handed). x .value) h))
       (ap₂ machine (sym (ap (λ (x : Handed). contentsOf (x .queue)) h)) (sym same)) counts
 
-  moves-play : (rule : Ruled Contents) (o : Outcome) → stepOf now e ≡ moved (machine (contentsOf q) m) rule → countsAfter now e ≡ c → Moves q rule o → Plays q c m e (withCounts o c) m
+  moves-play : (rule : Ruled Contents) (o : Outcome) → stepOf now e ≡ moveResponse (machine (contentsOf q) m) rule → countsAfter now e ≡ c → Moves q rule o → Plays q c m e (withCounts o c) m
   moves-play (refuse n) o is counts w = refused-plays o m is w refl counts
   moves-play (accept next) o is counts w = from-step _ (withCounts o c) m is (sym (w .answer)) (sym (w .gives)) (ap (λ (x : Contents). machine x m) (sym (w .holds))) counts
 
-  takes-play : (rule : Ruled Taken) (o : Outcome) → stepOf now e ≡ taken (machine (contentsOf q) m) rule → countsAfter now e ≡ c → Takes q rule o → Plays q c m e (withCounts o c) m
+  takes-play : (rule : Ruled Taken) (o : Outcome) → stepOf now e ≡ takeResponse (machine (contentsOf q) m) rule → countsAfter now e ≡ c → Takes q rule o → Plays q c m e (withCounts o c) m
   takes-play (refuse n) o is counts w = refused-plays o m is w refl counts
   takes-play (accept t) o is counts w = from-step _ (withCounts o c) m is (sym (w .answer)) (sym (w .gives)) (ap (λ (x : Contents). machine x m) (sym (w .holds))) counts
 
-  writes-play : (rule : Ruled Written) (o : Outcome) (left : List ℕ) → stepOf now e ≡ written (machine (contentsOf q) m) rule → countsAfter now e ≡ c → Writes q m rule o left → Plays q c m e (withCounts o c) left
+  writes-play : (rule : Ruled Written) (o : Outcome) (left : List ℕ) → stepOf now e ≡ writeResponse (machine (contentsOf q) m) rule → countsAfter now e ≡ c → Writes q m rule o left → Plays q c m e (withCounts o c) left
   writes-play (refuse n) o left is counts w = refused-plays o left is (w .outcome) (w .memory-is) counts
   writes-play (accept t) o left is counts w = from-step _ (withCounts o c) left is (sym (w .outcome .answer)) (sym (w .outcome .gives)) (ap₂ machine (sym (w .outcome .holds)) (sym (w .memory-is))) counts
 
-  serves-play : (rule : Ruled Served) (r : Counted) → stepOf now e ≡ served (machine (contentsOf q) m) rule → countsAfter now e ≡ afterServe c rule → Serves q c rule r → Plays q c m e r m
+  serves-play : (rule : Ruled Served) (r : Counted) → stepOf now e ≡ serveResponse (machine (contentsOf q) m) rule → countsAfter now e ≡ afterServe c rule → Serves q c rule r → Plays q c m e r m
   serves-play (refuse n) r is counts w =
       let h = ap (λ (x : HandedCounts). x .outcome) w in
       from-step _ r m is (sym (ap (λ (x : Handed). x .answer) h)) (sym (ap (λ (x : Handed). x .value) h))
@@ -88,7 +85,7 @@ module _ (q : Queue) (c : Counts) (m : List ℕ) (full : whole (q .«load_entrie
       → Moves q (onRuns (give argument (contentsOf q) p x)) o → Plays q c m e (withCounts o c) m
   play-give argument p x o is w = rw is (moves-play q c m (giving argument p x) (give argument (contentsOf q) p x) o (stepped argument) (uncounted argument) (rw full at w))
     where
-      stepped : (a : Argument) → stepOf (playing (contentsOf q) m c) (giving a p x) ≡ moved (machine (contentsOf q) m) (give a (contentsOf q) p x)
+      stepped : (a : Argument) → stepOf (playing (contentsOf q) m c) (giving a p x) ≡ moveResponse (machine (contentsOf q) m) (give a (contentsOf q) p x)
       stepped Argument.LoadAddress = refl
       stepped Argument.StoreAddress = refl
       stepped Argument.StoreData = refl

@@ -19,26 +19,26 @@ use Rattle.queue.specs.declared.Queue.{Queue}
 use Rattle.queue.specs.Ruled.{Ruled, accept, andThen}
 use Rattle.queue.specs.Contents.{Contents, contentsOf}
 use Rattle.queue.specs.Outcome.{valueIn}
-use Rattle.queue.proofs.Lists.{and-left, and-right}
+use Rattle.number.proofs.Both.{and-left, and-right}
 use Rattle.replay.specs.declared.Replayed.{Replayed}
 use Rattle.replay.specs.Events.{eventsFrom}
 use Rattle.replay.specs.Playing.{Playing, playing, stepOf, Logged, logged, log, playedAll, answerOf, givenOf, wordOf}
 use Rattle.replay.specs.Replay.{Start, prepare, replayed, Buffers, fits, replayStart, replayFrom, replay}
-use Rattle.replay.specs.Outcome.{over, logIn, Unplayed, Replays, Replayed-as}
-use Rattle.replay.specs.Internal.{Plays, Put, Playable, eventsIn, through}
+use Rattle.replay.specs.Outcome.{atFront, logIn, Unreplayed, ReplayedWell, Replays}
+use Rattle.replay.specs.Internal.{Plays, PutAnswer, Playable, eventsIn, through}
 use Rattle.trace.proofs.TraceSteps.{EventGot}
 
 abbrev pub buffers : List ℕ → List ℕ → List ℕ → Buffers
 buffers a g w = record { answers = a; given = g; words = w }
 
 -- one number more behind those at a buffer's front
-over-more : (f : Logged → ℕ) (done : List Logged) (l : Logged) (d : List ℕ) (i : ℕ) → length done ≡ i → i < length d → set (over (map f done) d) i (f l) ≡ over (map f (done ++ l ∷ [])) d
+over-more : (f : Logged → ℕ) (done : List Logged) (l : Logged) (d : List ℕ) (i : ℕ) → length done ≡ i → i < length d → set (atFront (map f done) d) i (f l) ≡ atFront (map f (done ++ l ∷ [])) d
 over-more f done l d i many h =
     let n : length (map f done) ≡ i = length-map done f ∙ many in
     let m : length (map f done ++ f l ∷ []) ≡ suc i = length-append (map f done) (f l ∷ []) ∙ omega arith in
     rw (map-append f done (l ∷ []), m, n, drop-cons d i 0 h) (set-at (map f done) (getD d i 0) (drop (suc i) d) (f l) i n ∙ sym (append-snoc (map f done) (f l) (drop (suc i) d)))
 
-over-length : (f : Logged → ℕ) (done : List Logged) (d : List ℕ) → length done ≤ length d → length (over (map f done) d) ≡ length d
+over-length : (f : Logged → ℕ) (done : List Logged) (d : List ℕ) → length done ≤ length d → length (atFront (map f done) d) ≡ length d
 over-length f done d h = rw (length-append, length-drop, length-map) (omega arith)
 
 -- room in every buffer
@@ -126,7 +126,7 @@ same-buffers : {a a₂ g g₂ w w₂ : List ℕ} → a ≡ a₂ → g ≡ g₂ �
 same-buffers e f h = cc
 
 -- one event more
-pub walk-more : {s : List ℕ} {start : ℕ} {p₀ : Playing} {b₀ b b₂ : Buffers} {place i next : ℕ} {q : Queue} {c : Counts} {m left : List ℕ} {e : Event} (r : Counted) → Walk s start p₀ b₀ place i (playing (contentsOf q) m c) b → EventGot s place e next → Plays q c m e r left → Put (r .answer) (r .value) i b b₂ → Walk s start p₀ b₀ next (i + 1) (playing (contentsOf (r .queue)) left (r .counts)) b₂
+pub walk-more : {s : List ℕ} {start : ℕ} {p₀ : Playing} {b₀ b b₂ : Buffers} {place i next : ℕ} {q : Queue} {c : Counts} {m left : List ℕ} {e : Event} (r : Counted) → Walk s start p₀ b₀ place i (playing (contentsOf q) m c) b → EventGot s place e next → Plays q c m e r left → PutAnswer (r .answer) (r .value) i b b₂ → Walk s start p₀ b₀ next (i + 1) (playing (contentsOf (r .queue)) left (r .counts)) b₂
 walk-more {s} {start} {p₀} {b₀} {b} {b₂} {place} {i} {next} {q} {c} {m} {left} {e} r k ev pl put =
     let n = next-left (k .left) (k .reads) ev in
     let l : length (k .left) ≡ suc (length (n .rest)) = ap length (n .is) in
@@ -152,7 +152,7 @@ walk-more {s} {start} {p₀} {b₀} {b} {b₂} {place} {i} {next} {q} {c} {m} {l
     }
 
 -- no event is left
-pub walk-end : {s : List ℕ} {start : ℕ} {p₀ : Playing} {b₀ : Buffers} {place i : ℕ} {p : Playing} {b : Buffers} → Walk s start p₀ b₀ place i p b → eventsFrom s place ≡ got [] [] → Replays (through p₀ (eventsIn (eventsFrom s start))) b₀ (record { answer = 0; events = i; counts = p .counts }) (p .machine .memory) b
+pub walk-end : {s : List ℕ} {start : ℕ} {p₀ : Playing} {b₀ : Buffers} {place i : ℕ} {p : Playing} {b : Buffers} → Walk s start p₀ b₀ place i p b → eventsFrom s place ≡ got [] [] → ReplayedWell (through p₀ (eventsIn (eventsFrom s start))) b₀ (record { answer = 0; events = i; counts = p .counts }) (p .machine .memory) b
 walk-end {s} {start} {p₀} {b₀} {place} {i} {p} {b} w h =
     let z : got (w .left) [] ≡ got [] [] = sym (w .reads) ∙ h in
     let none : w .left ≡ [] = cc in
@@ -174,13 +174,13 @@ walk-no-fault {k = k} w h =
 -- ---- what is handed back
 -- a refused replay leaves all as it was lent
 pub unplayed : {n : ℕ} {memory : List ℕ} {c : Counts} {b : Buffers} {r : Replayed} → r ≡ record { answer = n; events = 0; counts = c }
-    → Unplayed n memory c b r memory b
+    → Unreplayed n memory c b r memory b
 unplayed f = record { outcome = f; memory-is = refl; buffers-are = refl }
 
 -- the order of checking
 module _ (q : Contents) (g : Got (List Event)) (memory : List ℕ) (c : Counts) (b : Buffers) where
   abbrev Refused : ℕ → Replayed → Type 0
-  Refused n r = r ≡ record { answer = n; events = 0; counts = c } → Replayed-as memory c b (replayFrom q g memory c b) r memory b
+  Refused n r = r ≡ record { answer = n; events = 0; counts = c } → Replays memory c b (replayFrom q g memory c b) r memory b
 
   pub replay-fault : {n : ℕ} {r : Replayed} → g ≡ bad n → Refused n r
   replay-fault e f = rw e (unplayed f)

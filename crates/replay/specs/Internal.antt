@@ -51,7 +51,7 @@ playedOf frame r loads stores = record {
 }
 
 -- an answer and a value stand at a place of the buffers
-pub record Put (answer : ℕ) (value : Value) (i : ℕ) (b b₂ : Buffers) : Type 0 where
+pub record PutAnswer (answer : ℕ) (value : Value) (i : ℕ) (b b₂ : Buffers) : Type 0 where
   pub answers : b₂ .answers ≡ set (b .answers) i answer
   pub given : b₂ .given ≡ set (b .given) i (givenIn (valueIn value))
   pub words : b₂ .words ≡ set (b .words) i (wordIn (valueIn value))

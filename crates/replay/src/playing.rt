@@ -6,7 +6,7 @@ ghost use Rattle.queue.specs.Outcome.{valueIn};
 ghost use Rattle.queue.specs.Parts.{frameOf, queueOf, whole};
 ghost use mathlib.Core.Bool.{true};
 ghost use Rattle.replay.specs.Playing.{givenIn, wordIn};
-ghost use Rattle.replay.specs.Internal.{Plays, playedOf, Put};
+ghost use Rattle.replay.specs.Internal.{Plays, playedOf, PutAnswer};
 use queue::Counts;
 use queue::Outline;
 use queue::Side;
@@ -206,7 +206,7 @@ pub(crate) fn put(
     words: &mut [u32],
 )
     requires { ⌜ (i < length (now answers)) × (i < length (now given)) × (i < length (now words)) ⌝ }
-    ensures { λ _. ⌜ Put answer value i (record { answers = now (answers .entry); given = now (given .entry); words = now (words .entry) })
+    ensures { λ _. ⌜ PutAnswer answer value i (record { answers = now (answers .entry); given = now (given .entry); words = now (words .entry) })
         (record { answers = now (answers .exit); given = now (given .exit); words = now (words .exit) }) ⌝ }
 {
     answers[i] = answer;

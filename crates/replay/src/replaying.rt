@@ -7,7 +7,7 @@ ghost use Rattle.queue.specs.Contents.{contentsOf};
 ghost use Rattle.replay.specs.Events.{eventsFrom};
 ghost use Rattle.replay.specs.Playing.{playing};
 ghost use Rattle.replay.specs.Replay.{replayFrom, replay};
-ghost use Rattle.replay.specs.Outcome.{Replays, Replayed-as};
+ghost use Rattle.replay.specs.Outcome.{ReplayedWell, Replays};
 ghost use Rattle.replay.specs.Internal.{Playable, eventsIn, through};
 use crate::EventCount;
 use crate::Replayed;
@@ -58,7 +58,7 @@ fn play_all(
     words: &mut [u32],
 ) -> Replayed
     requires { ⌜ Playable (now trace) from (record { answers = now answers; given = now given; words = now words }) ⌝ }
-    ensures { λ r. ⌜ Replays (through (playing (contentsOf queue) (now (memory .entry)) counts) (eventsIn (eventsFrom (now (trace .entry)) from)))
+    ensures { λ r. ⌜ ReplayedWell (through (playing (contentsOf queue) (now (memory .entry)) counts) (eventsIn (eventsFrom (now (trace .entry)) from)))
         (record { answers = now (answers .entry); given = now (given .entry); words = now (words .entry) }) r (now (memory .exit))
         (record { answers = now (answers .exit); given = now (given .exit); words = now (words .exit) }) ⌝ }
 {
@@ -122,7 +122,7 @@ pub fn replay_from(
     given: &mut [u8],
     words: &mut [u32],
 ) -> Replayed
-    ensures { λ r. ⌜ Replayed-as (now (memory .entry)) counts
+    ensures { λ r. ⌜ Replays (now (memory .entry)) counts
         (record { answers = now (answers .entry); given = now (given .entry); words = now (words .entry) })
         (replayFrom (contentsOf queue) (eventsFrom (now (trace .entry)) at) (now (memory .entry)) counts
         (record { answers = now (answers .entry); given = now (given .entry); words = now (words .entry) }))
@@ -154,7 +154,7 @@ pub fn replay(
     given: &mut [u8],
     words: &mut [u32],
 ) -> Replayed
-    ensures { λ r. ⌜ Replayed-as (now (memory .entry)) counts
+    ensures { λ r. ⌜ Replays (now (memory .entry)) counts
         (record { answers = now (answers .entry); given = now (given .entry); words = now (words .entry) })
         (replay (groupsOf table) (now (trace .entry)) (now (memory .entry)) counts
         (record { answers = now (answers .entry); given = now (given .entry); words = now (words .entry) }))

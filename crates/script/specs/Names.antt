@@ -36,5 +36,5 @@ abbrev pub lookLast : List ℕ → Looking → Looking
 lookLast word r = pick (r .found) r (lookEnd word r)
 
 -- the place of a word among names with a space between; their number where it is none of them
-abbrev pub placeOf : List ℕ → List ℕ → ℕ
-placeOf names word = lookLast word (lookSteps word notFound names) .number
+abbrev pub namePlace : List ℕ → List ℕ → ℕ
+namePlace names word = lookLast word (lookSteps word notFound names) .number

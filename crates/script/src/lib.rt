@@ -4,7 +4,7 @@ ghost use Prim.Native.Nat.{_<_, _+_};
 ghost use mathlib.Core.Bool.{true, false};
 ghost use Rattle.script.specs.Shapes.{mostOf, fitsOf, taken};
 ghost use Rattle.script.specs.Lines.{NextByte, isText};
-ghost use Rattle.script.specs.Names.{lookOn, lookEnd, lookStep, lookLast, placeOf};
+ghost use Rattle.script.specs.Names.{lookOn, lookEnd, lookStep, lookLast, namePlace};
 ghost use Rattle.script.specs.Decimal.{withDigit, wrongNumbers, spaced, digited, numberStep, numbersEnd, numbersFrom};
 ghost use Rattle.script.specs.Hexadecimal.{hexadecimal, wrongBytes, firstDigit, secondDigit, byteBegun, byteStep, bytesEnd, bytesFrom};
 
@@ -326,7 +326,7 @@ fn look_last(looking: Looking, word: &[u8]) -> Looking
 
 // The place of a word among names with a space between; their number where it is none of them.
 pub fn place(names: &[u8], word: &[u8]) -> usize
-    ensures { λ r. ⌜ r ≡ placeOf (now (names .entry)) (now (word .entry)) ⌝ }
+    ensures { λ r. ⌜ r ≡ namePlace (now (names .entry)) (now (word .entry)) ⌝ }
 {
     let mut looking = Looking {
         found: false,

@@ -11,21 +11,21 @@ use Rattle.queue.specs.declared.arguments.Argument.{Argument}
 use Rattle.queue.specs.Contents.{Load, Store, Contents, withLoads, withStores, updateAt}
 use Rattle.queue.specs.Retire.{retire, retiring, loadFinished, storeFinished, loadAfterRetiring, storeAfterRetiring}
 use Rattle.queue.proofs.Lists.{all-replace, count-append, length-updateAt, length-afterWhile}
-use Rattle.sequential.specs.Call.{Answered}
+use Rattle.sequential.specs.Answers.{Answered}
 use Rattle.sequential.specs.Plain.{gather, rowsOf, accesses}
-use Rattle.sequential.specs.Demand3.{tell, told, takenAt, serveIn, writeIn}
-use Rattle.sequential.proofs.Log.{Entry, ofLoad, ofStore, loads, stores, ownIn, loads-stores, stores-loads, ownIn-append}
+use Rattle.sequential.specs.Demand3.{tell, told, takenAt, serveOf, writeOf}
+use Rattle.sequential.proofs.Log.{LogEntry, ofLoad, ofStore, loads, stores, ownIn, loads-stores, stores-loads, ownIn-append}
 use Rattle.sequential.proofs.Window.{Located, turned, window-leave}
-use Rattle.sequential.proofs.MemoryInvariant.{Agree}
-use Rattle.sequential.proofs.Rows.{Row, Cell, given, valueTaken, row-same}
+use Rattle.sequential.proofs.MemoryInvariant.{MemoriesAgree}
+use Rattle.sequential.proofs.Rows.{Row, RowCell, given, valueTaken, row-same}
 use Rattle.sequential.proofs.PlainRun.{accessOf}
-use Rattle.sequential.proofs.State.{Holds, Seen, rightLoad, rightStore, served, written, seen-more}
+use Rattle.sequential.proofs.Invariant.{Holds, LogSeen, rightLoad, rightStore, isServed, isWritten, seen-more}
 
 -- ---- the queue's part
 
-pub holds-load : {q : Contents} {m memory : List ℕ} {log : List Entry} → Holds q m memory log → {i : ℕ} {pre : List Entry} {it : Load} {post : List Entry}
+pub holds-load : {q : Contents} {m memory : List ℕ} {log : List LogEntry} → Holds q m memory log → {i : ℕ} {pre : List LogEntry} {it : Load} {post : List LogEntry}
     → Located loads stores log (q .loads) (q .stores) i pre it post → (f : Load → Load) → ((n : ℕ) (l : Load) → f (loads .remember n l) ≡ loads .remember n (f l))
-    → rightLoad (q .memoryLength) (f it) ≡ true → Agree m memory (pre ++ ofLoad (f it) ∷ post)
+    → rightLoad (q .memoryLength) (f it) ≡ true → MemoriesAgree m memory (pre ++ ofLoad (f it) ∷ post)
     → Holds (withLoads q (updateAt f i (q .loads))) m memory (pre ++ ofLoad (f it) ∷ post)
 holds-load {q} {m} {memory} {log} h {i} {pre} {it} {post} l f blind right agree = record {
   limits = h .limits;
@@ -40,9 +40,9 @@ holds-load {q} {m} {memory} {log} h {i} {pre} {it} {post} l f blind right agree 
   agree = agree;
 }
 
-pub holds-store : {q : Contents} {m memory : List ℕ} {log : List Entry} → Holds q m memory log → {i : ℕ} {pre : List Entry} {it : Store} {post : List Entry}
+pub holds-store : {q : Contents} {m memory : List ℕ} {log : List LogEntry} → Holds q m memory log → {i : ℕ} {pre : List LogEntry} {it : Store} {post : List LogEntry}
     → Located stores loads log (q .stores) (q .loads) i pre it post → (f : Store → Store) → ((n : ℕ) (s : Store) → f (stores .remember n s) ≡ stores .remember n (f s))
-    → rightStore (q .memoryLength) (f it) ≡ true → (m′ : List ℕ) → length m′ ≡ length m → Agree m′ memory (pre ++ ofStore (f it) ∷ post)
+    → rightStore (q .memoryLength) (f it) ≡ true → (m′ : List ℕ) → length m′ ≡ length m → MemoriesAgree m′ memory (pre ++ ofStore (f it) ∷ post)
     → Holds (withStores q (updateAt f i (q .stores))) m′ memory (pre ++ ofStore (f it) ∷ post)
 holds-store {q} {m} {memory} {log} h {i} {pre} {it} {post} l f blind right m′ long agree = record {
   limits = h .limits;
@@ -58,7 +58,7 @@ holds-store {q} {m} {memory} {log} h {i} {pre} {it} {post} l f blind right m′ 
 }
 
 -- "finished entries leave each side from its oldest end"
-pub holds-retired : {q : Contents} {m memory : List ℕ} {log : List Entry} → Holds q m memory log → Holds (retire q) m memory log
+pub holds-retired : {q : Contents} {m memory : List ℕ} {log : List LogEntry} → Holds q m memory log → Holds (retire q) m memory log
 holds-retired {q} {m} {memory} {log} h = record {
   limits = h .limits;
   roomLoads = shorter loadFinished (loadAfterRetiring (retiring storeFinished (q .stores))) (q .loads) (h .roomLoads);
@@ -81,10 +81,10 @@ holds-retired {q} {m} {memory} {log} h = record {
 -- ---- the answers' part
 
 -- a row to which nothing is added, and whose cells are as they were
-pub row-kept : (cell : Entry → Cell) (e e′ : Entry) → cell e ≡ cell e′ → (post pre : List Entry) (row : List ℕ) → Row cell (pre ++ e ∷ post) row → Row cell (pre ++ e′ ∷ post) (row ++ [])
+pub row-kept : (cell : LogEntry → RowCell) (e e′ : LogEntry) → cell e ≡ cell e′ → (post pre : List LogEntry) (row : List ℕ) → Row cell (pre ++ e ∷ post) row → Row cell (pre ++ e′ ∷ post) (row ++ [])
 row-kept cell e e′ same post pre row h = rw (append-nil row) (row-same cell e e′ same post pre row h)
 
-count-anew : (p : Entry → Bool) (e e′ : Entry) (n : ℕ) → countWhere p (e′ ∷ []) ≡ countWhere p (e ∷ []) + n → (pre post : List Entry) → countWhere p (pre ++ e′ ∷ post) ≡ countWhere p (pre ++ e ∷ post) + n
+count-anew : (p : LogEntry → Bool) (e e′ : LogEntry) (n : ℕ) → countWhere p (e′ ∷ []) ≡ countWhere p (e ∷ []) + n → (pre post : List LogEntry) → countWhere p (pre ++ e′ ∷ post) ≡ countWhere p (pre ++ e ∷ post) + n
 count-anew p e e′ n h pre post = rw (count-append p pre (e′ ∷ post), count-append p pre (e ∷ post)) (go (p e) (p e′) (countWhere p post) h)
   where
     go : (b b′ : Bool) (c : ℕ) → pick b′ 1 0 ≡ pick b 1 0 + n → countWhere p pre + pick b′ (suc c) c ≡ countWhere p pre + pick b (suc c) c + n
@@ -93,17 +93,17 @@ count-anew p e e′ n h pre post = rw (count-append p pre (e′ ∷ post), count
     go false true c k = omega arith
     go false false c k = omega arith
 
-module _ (groups : List GroupPairs) (answered : List Answered) (a : Answered) (pre : List Entry) (e e′ : Entry) (post : List Entry) where
-  pub seen-anew : Seen groups answered (pre ++ e ∷ post) → accessOf e′ ≡ accessOf e → accesses groups (tell a ∷ []) ≡ []
+module _ (groups : List GroupPairs) (answered : List Answered) (a : Answered) (pre : List LogEntry) (e e′ : LogEntry) (post : List LogEntry) where
+  pub seen-anew : LogSeen groups answered (pre ++ e ∷ post) → accessOf e′ ≡ accessOf e → accesses groups (tell a ∷ []) ≡ []
       → ((kind : Argument) (port : ℕ) → Row (given kind port) (pre ++ e′ ∷ post) (rowsOf (told answered) kind port ++ rowsOf (tell a ∷ []) kind port))
       → ((port : ℕ) → Row (valueTaken port) (pre ++ e′ ∷ post) (takenAt port answered ++ takenAt port (a ∷ [])))
-      → countWhere served (e′ ∷ []) ≡ countWhere served (e ∷ []) + length (gather serveIn (tell a ∷ []))
-      → countWhere written (e′ ∷ []) ≡ countWhere written (e ∷ []) + length (gather writeIn (tell a ∷ []))
-      → Seen groups (answered ++ a ∷ []) (pre ++ e′ ∷ post)
+      → countWhere isServed (e′ ∷ []) ≡ countWhere isServed (e ∷ []) + length (gather serveOf (tell a ∷ []))
+      → countWhere isWritten (e′ ∷ []) ≡ countWhere isWritten (e ∷ []) + length (gather writeOf (tell a ∷ []))
+      → LogSeen groups (answered ++ a ∷ []) (pre ++ e′ ∷ post)
   seen-anew s same no-access rows takes serves writes =
       seen-more groups answered a (pre ++ e′ ∷ post) shape rows takes
-      (count-anew served e e′ (length (gather serveIn (tell a ∷ []))) serves pre post ∙ ap (λ (n : ℕ). n + length (gather serveIn (tell a ∷ []))) (s .serves))
-      (count-anew written e e′ (length (gather writeIn (tell a ∷ []))) writes pre post ∙ ap (λ (n : ℕ). n + length (gather writeIn (tell a ∷ []))) (s .writes))
+      (count-anew isServed e e′ (length (gather serveOf (tell a ∷ []))) serves pre post ∙ ap (λ (n : ℕ). n + length (gather serveOf (tell a ∷ []))) (s .serves))
+      (count-anew isWritten e e′ (length (gather writeOf (tell a ∷ []))) writes pre post ∙ ap (λ (n : ℕ). n + length (gather writeOf (tell a ∷ []))) (s .writes))
     where
       shape : map accessOf (pre ++ e′ ∷ post) ≡ accesses groups (told answered) ++ accesses groups (tell a ∷ [])
       shape =

@@ -11,40 +11,41 @@ use borrow.Author.Tests.{leb-true}
 use Rattle.number.specs.Basics.{pick, allOf, countWhere}
 use Rattle.table.specs.Group.{GroupPairs}
 use Rattle.queue.specs.Retire.{storeFinished}
-use Rattle.queue.proofs.Lists.{and-left, and-both}
-use Rattle.sequential.specs.Call.{Machine, Answered, answers, leaves}
-use Rattle.sequential.specs.Plain.{Told, Rows, Filling, rowsOf, inOrder, accesses, loadedFrom, valuesAt, plainLoads, plainMemory}
+use Rattle.number.proofs.Both.{and-left}
+use Rattle.queue.proofs.Lists.{and-both}
+use Rattle.sequential.specs.Answers.{Machine, Answered, answers, machineAfter}
+use Rattle.sequential.specs.Plain.{Told, Rows, Filling, rowsOf, inOrder, accesses, valuesFrom, valuesAt, plainLoads, plainMemory}
 use Rattle.sequential.specs.Demand3.{told, takenAt, isStore, Sequential, Demand3, Alike, AlikeLists}
-use Rattle.sequential.proofs.Log.{Entry, ofLoad, ofStore, stores, ownIn}
+use Rattle.sequential.proofs.Log.{LogEntry, ofLoad, ofStore, stores, ownIn}
 use Rattle.sequential.proofs.PlainRun.{accessOf, taken-is-loaded, written-is-plain}
-use Rattle.sequential.proofs.State.{State, written}
+use Rattle.sequential.proofs.Invariant.{Invariant, isWritten}
 use Rattle.sequential.proofs.Run.{opening-limits, reached}
 use Rattle.sequential.proofs.Progress.{state-moves}
 
 -- ---- as many writes as stores: every store is written
 
-written-stores : (es : List Entry) → countWhere written es ≤ countWhere isStore (map accessOf es)
+written-stores : (es : List LogEntry) → countWhere isWritten es ≤ countWhere isStore (map accessOf es)
 written-stores [] = omega arith
 written-stores (ofLoad l ∷ es) = written-stores es
 written-stores (ofStore s ∷ es) = go (s .written) (written-stores es)
   where
-    go : (b : Bool) → countWhere written es ≤ countWhere isStore (map accessOf es) → pick b (suc (countWhere written es)) (countWhere written es) ≤ suc (countWhere isStore (map accessOf es))
+    go : (b : Bool) → countWhere isWritten es ≤ countWhere isStore (map accessOf es) → pick b (suc (countWhere isWritten es)) (countWhere isWritten es) ≤ suc (countWhere isStore (map accessOf es))
     go true h = omega arith
     go false h = omega arith
 
-all-written : (es : List Entry) → countWhere written es ≡ countWhere isStore (map accessOf es) → allOf storeFinished (ownIn stores es) ≡ true
+all-written : (es : List LogEntry) → countWhere isWritten es ≡ countWhere isStore (map accessOf es) → allOf storeFinished (ownIn stores es) ≡ true
 all-written [] h = refl
 all-written (ofLoad l ∷ es) h = all-written es h
 all-written (ofStore s ∷ es) h = go (s .written) refl h (written-stores es) (λ k. all-written es k)
   where
-    go : (b : Bool) → s .written ≡ b → pick b (suc (countWhere written es)) (countWhere written es) ≡ suc (countWhere isStore (map accessOf es)) → countWhere written es ≤ countWhere isStore (map accessOf es)
-        → (countWhere written es ≡ countWhere isStore (map accessOf es) → allOf storeFinished (ownIn stores es) ≡ true) → (s .written) && allOf storeFinished (ownIn stores es) ≡ true
+    go : (b : Bool) → s .written ≡ b → pick b (suc (countWhere isWritten es)) (countWhere isWritten es) ≡ suc (countWhere isStore (map accessOf es)) → countWhere isWritten es ≤ countWhere isStore (map accessOf es)
+        → (countWhere isWritten es ≡ countWhere isStore (map accessOf es) → allOf storeFinished (ownIn stores es) ≡ true) → (s .written) && allOf storeFinished (ownIn stores es) ≡ true
     go true e k le rec = and-both e (rec (omega arith))
     go false e k le rec = absurd (omega arith)
 
 -- ---- the three claims
 
-sequential : (groups : List GroupPairs) (memory : List ℕ) (answered : List Answered) (left : Machine) → State groups memory answered left → (fill : Filling)
+sequential : (groups : List GroupPairs) (memory : List ℕ) (answered : List Answered) (left : Machine) → Invariant groups memory answered left → (fill : Filling)
     → Sequential groups memory answered left fill
 unfolding plainLoads plainMemory
 sequential groups memory answered left st fill = record {
@@ -61,7 +62,7 @@ sequential groups memory answered left st fill = record {
 -- DEMAND 3. The bound on what is filled in is not used: a taken load and the stores before it have their addresses (28), and
 -- so has every written store, so that nothing filled in is ever read.
 pub demand3 : Demand3
-demand3 groups memory m o calls fill low = sequential groups memory (answers m calls) (leaves m calls) (reached o calls) fill
+demand3 groups memory m o calls fill low = sequential groups memory (answers m calls) (machineAfter m calls) (reached o calls) fill
 
 -- ---- two lists alike
 
@@ -70,8 +71,8 @@ alike-loads : (groups : List GroupPairs) (memory : List ℕ) (a b : List Told) �
 unfolding plainLoads
 alike-loads groups memory a b h fill port =
     let rows : rowsOf a ≡ rowsOf b = fun-ext (λ kind. fun-ext (λ p. h .arguments kind p)) in
-    ap (λ (r : Rows). valuesAt port (loadedFrom fill 0 (record { memory = memory; rows = r }) (accesses groups a))) rows
-    ∙ ap (λ (gs : List ℕ). valuesAt port (loadedFrom fill 0 (record { memory = memory; rows = rowsOf b }) (inOrder groups gs))) (h .activations)
+    ap (λ (r : Rows). valuesAt port (valuesFrom fill 0 (record { memory = memory; rows = r }) (accesses groups a))) rows
+    ∙ ap (λ (gs : List ℕ). valuesAt port (valuesFrom fill 0 (record { memory = memory; rows = rowsOf b }) (inOrder groups gs))) (h .activations)
 
 -- any filling serves; the memory has a word 0
 zeros : Filling

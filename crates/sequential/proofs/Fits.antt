@@ -16,14 +16,15 @@ use Rattle.queue.specs.Contents.{Load, Store, Contents, withLoads, withStores, 
 use Rattle.queue.specs.Sound.{sound}
 use Rattle.queue.specs.Activate.{room, withGroup, activate}
 use Rattle.queue.specs.Arguments.{loadLacksAddress, storeLacksAddress, storeLacksWord, loadWithAddress, storeWithAddress, storeWithWord, namesPort}
-use Rattle.queue.specs.Arguments.{filled, give}
+use Rattle.queue.specs.Arguments.{argumentGiven, give}
 use Rattle.queue.specs.Serve.{Served, fromMemory, source, Loaded, loadedFrom, storesBefore, loadWithValue, serve}
 use Rattle.queue.specs.Write.{Written, storeDone, write}
 use Rattle.queue.specs.Retire.{loadFinished, storeFinished, loadAfterRetiring, storeAfterRetiring, retiring, retire}
 use Rattle.queue.specs.Take.{Taken, untaken, loadTaken, takeRule}
 use Rattle.queue.specs.Ready.{ready}
-use Rattle.queue.specs.InternalActivate.{loadAfter, storeAfter}
-use Rattle.queue.proofs.Lists.{false-true, and-left, and-right, and-both, all-join, all-take, all-map, all-weaken, all-middle, getElem?-split}
+use Rattle.queue.specs.Internal.{loadAfter, storeAfter}
+use Rattle.number.proofs.Both.{and-left, and-right}
+use Rattle.queue.proofs.Lists.{false-true, and-both, all-join, all-take, all-map, all-weaken, all-middle, getElem?-split}
 use Rattle.queue.proofs.Refusals.{need-accepts, have-accepts, number-small, small, activate-small, serve-small, write-small, take-small, ready-small}
 use Rattle.queue.proofs.Refusals.{give-accepts, give-small}
 use Rattle.queue.proofs.ActivateLaws.{with-group-is}
@@ -31,11 +32,11 @@ use Rattle.queue.proofs.SourceLaws.{wordFrom, loaded-word, source-passes}
 use Rattle.queue.proofs.ServeLaws.{Serving, serve-accepts}
 use Rattle.queue.proofs.WriteLaws.{Writing, write-accepts}
 use Rattle.sequential.specs.Calls.{Call, Activate, Give, Serve, Write, Take, Ready}
-use Rattle.sequential.specs.Call.{Machine, Step, moved, served, written, taken, step}
+use Rattle.sequential.specs.Answers.{Machine, Response, moveResponse, serveResponse, writeResponse, takeResponse, step, machine}
 use Rattle.queue.specs.declared.Kind.the-variants.{Load as load}
 use Rattle.queue.specs.declared.arguments.Argument.{Argument}
 use Rattle.queue.specs.declared.arguments.Argument.the-variants.{LoadAddress, StoreAddress, StoreData}
-use Rattle.sequential.specs.RunsExist.{fits, wordFits, argumentFits}
+use Rattle.sequential.specs.RunsExist.{bitsFit, wordFits, argumentFits}
 use Rattle.sequential.proofs.Stored.{loadFits, storeFits}
 
 -- ---- lists all of whose elements pass
@@ -81,26 +82,23 @@ pub record Fits (m : Machine) : Type 0 where
   pub stores : allOf storeFits (m .queue .stores) ≡ true
   pub nextLoad : m .queue .nextLoad < 2 ^ 32
   pub nextStore : m .queue .nextStore < 2 ^ 32
-  pub memory : allOf (fits 32) (m .memory) ≡ true
+  pub memory : allOf (bitsFit 32) (m .memory) ≡ true
 
 -- what a call answers, and what it leaves
-pub record Fitting (s : Step) : Type 0 where
+pub record Fitting (s : Response) : Type 0 where
   pub number : s .number < 2 ^ 8
   pub value : wordFits (s .value) ≡ true
   pub left : Fits (s .machine)
 
 -- ---- what a served load is given
-source-fits : (memory : List ℕ) (a : ℕ) (ss : List Store) (v : Loaded) → allOf (fits 32) memory ≡ true → allOf storeFits ss ≡ true
-    → loadedFrom memory a (source a fromMemory ss) ≡ accept v → fits 32 (v .value) ≡ true
+source-fits : (memory : List ℕ) (a : ℕ) (ss : List Store) (v : Loaded) → allOf (bitsFit 32) memory ≡ true → allOf storeFits ss ≡ true
+    → loadedFrom memory a (source a fromMemory ss) ≡ accept v → bitsFit 32 (v .value) ≡ true
 source-fits memory a ss v h k e =
     rw (loaded-word memory a (source a fromMemory ss) v e) at
-    (source-passes (λ x. wordFits (wordFrom (getD memory a 0) x)) a refl ss (all-getD (fits 32) memory a 0 h refl)
-    (all-weaken storeFits (λ s. wordFits (s .word)) (λ s t. and-right (fits 5 (s .port)) (wordFits (s .word)) t) ss k))
+    (source-passes (λ x. wordFits (wordFrom (getD memory a 0) x)) a refl ss (all-getD (bitsFit 32) memory a 0 h refl)
+    (all-weaken storeFits (λ s. wordFits (s .word)) (λ s t. and-right (bitsFit 5 (s .port)) (wordFits (s .word)) t) ss k))
 
 -- ---- a queue with an entry made anew, with a group, with what is finished retired; a memory with a word written
-abbrev machine : Contents → List ℕ → Machine
-machine q m = record { queue = q; memory = m }
-
 module _ (q : Contents) (m : List ℕ) (f : Fits (machine q m)) where
   with-loads : (g : Load → Load) → ((l : Load) → loadFits l ≡ true → loadFits (g l) ≡ true) → (i : ℕ)
       → Fits (machine (withLoads q (updateAt g i (q .loads))) m)
@@ -122,13 +120,13 @@ module _ (q : Contents) (m : List ℕ) (f : Fits (machine q m)) where
     memory = f .memory;
   }
 
-  with-memory : (a w : ℕ) → fits 32 w ≡ true → Fits (machine q (set m a w))
+  with-memory : (a w : ℕ) → bitsFit 32 w ≡ true → Fits (machine q (set m a w))
   with-memory a w h = record {
     loads = f .loads;
     stores = f .stores;
     nextLoad = f .nextLoad;
     nextStore = f .nextStore;
-    memory = all-set (fits 32) m a w (f .memory) h;
+    memory = all-set (bitsFit 32) m a w (f .memory) h;
   }
 
   retire-fits : Fits (machine (retire q) m)
@@ -149,13 +147,13 @@ module _ (q : Contents) (m : List ℕ) (f : Fits (machine q m)) where
       subst (λ (c : Contents). Fits (machine c m)) (with-group-is q g right) (record {
         loads =
             all-join loadFits (q .loads) _ (f .loads)
-            (all-map loadFits (λ p. fits 5 (p .port) && true) (loadAfter (length (q .stores))) (λ p. refl) (g .loads)
-            ∙ all-by-place (λ p. fits 5 (p .port) && true) blankPair (g .loads)
+            (all-map loadFits (λ p. bitsFit 5 (p .port) && true) (loadAfter (length (q .stores))) (λ p. refl) (g .loads)
+            ∙ all-by-place (λ p. bitsFit 5 (p .port) && true) blankPair (g .loads)
             (λ i k. and-both (lt-ltb (getD (g .loads) i blankPair .port) 32 (omega (arith, right .load-port i k))) refl));
         stores =
             all-join storeFits (q .stores) _ (f .stores)
-            (all-map storeFits (λ p. fits 5 (p .port) && true) (storeAfter (length (q .loads))) (λ p. refl) (g .stores)
-            ∙ all-by-place (λ p. fits 5 (p .port) && true) blankPair (g .stores)
+            (all-map storeFits (λ p. bitsFit 5 (p .port) && true) (storeAfter (length (q .loads))) (λ p. refl) (g .stores)
+            ∙ all-by-place (λ p. bitsFit 5 (p .port) && true) blankPair (g .stores)
             (λ i k. and-both (lt-ltb (getD (g .stores) i blankPair .port) 32 (omega (arith, right .store-port i k))) refl));
         nextLoad = omega arith;
         nextStore = omega arith;
@@ -175,25 +173,25 @@ module _ (q : Contents) (m : List ℕ) (f : Fits (machine q m)) where
       let result : withGroup q g ≡ q′ = cc in
       subst (λ (c : Contents). Fits (machine c m)) result (group-fits q m f g r)
 
-  give-fits : (kind : Argument) (port x : ℕ) (q′ : Contents) → fits 32 x ≡ true → give kind q port x ≡ accept q′ → Fits (machine q′ m)
+  give-fits : (kind : Argument) (port x : ℕ) (q′ : Contents) → bitsFit 32 x ≡ true → give kind q port x ≡ accept q′ → Fits (machine q′ m)
   give-fits kind port x q′ small h = subst (λ (c : Contents). Fits (machine c m)) (give-accepts kind q port x h .is) (go kind)
     where
-      go : (kind : Argument) → Fits (machine (filled kind port x q) m)
+      go : (kind : Argument) → Fits (machine (argumentGiven kind port x q) m)
       go LoadAddress = with-loads q m f (loadWithAddress x) (λ l h. h) (firstPlace (loadLacksAddress port) (q .loads))
       go StoreAddress = with-stores q m f (storeWithAddress x) (λ s h. h) (firstPlace (storeLacksAddress port) (q .stores))
       go StoreData =
-          with-stores q m f (storeWithWord x) (λ s h. and-both (and-left (fits 5 (s .port)) _ h) small) (firstPlace (storeLacksWord port) (q .stores))
+          with-stores q m f (storeWithWord x) (λ s h. and-both (and-left (bitsFit 5 (s .port)) _ h) small) (firstPlace (storeLacksWord port) (q .stores))
 
-  serve-fits : (serial : ℕ) (r : Served) → serve q m serial ≡ accept r → (fits 32 (r .value) ≡ true) × Fits (machine (r .queue) m)
+  serve-fits : (serial : ℕ) (r : Served) → serve q m serial ≡ accept r → (bitsFit 32 (r .value) ≡ true) × Fits (machine (r .queue) m)
   serve-fits serial r h = go (serve-accepts q m serial r h)
     where
       go : (l : Load) × (getElem? (q .loads) (loadPlace q serial) ≡ some l) × Serving q m (loadPlace q serial) r l
-          → (fits 32 (r .value) ≡ true) × Fits (machine (r .queue) m)
+          → (bitsFit 32 (r .value) ≡ true) × Fits (machine (r .queue) m)
       go (l, at, s) =
-          let word : fits 32 (s .loaded .value) ≡ true =
+          let word : bitsFit 32 (s .loaded .value) ≡ true =
           source-fits m (s .may .address) (storesBefore q l) (s .loaded) (f .memory) (all-take storeFits (l .before) (q .stores) (f .stores)) (s .may .gives) in
           rw (s .result)
-          (word, with-loads q m f (loadWithValue (s .loaded .value)) (λ x h. and-both (and-left (fits 5 (x .port)) _ h) word) (loadPlace q serial))
+          (word, with-loads q m f (loadWithValue (s .loaded .value)) (λ x h. and-both (and-left (bitsFit 5 (x .port)) _ h) word) (loadPlace q serial))
 
   write-fits : (serial : ℕ) (r : Written) → write q m serial ≡ accept r → Fits (machine (r .queue) (r .memory))
   write-fits serial r h = go (write-accepts q m serial r h)
@@ -202,12 +200,12 @@ module _ (q : Contents) (m : List ℕ) (f : Fits (machine q m)) where
       go (s, at, w) =
           let after : Contents = withStores q (updateAt storeDone (storePlace q serial) (q .stores)) in
           let word : wordFits (some (w .put .word)) ≡ true =
-          rw (w .may .worded) at (and-right (fits 5 (s .port)) (wordFits (s .word)) (all-found storeFits (q .stores) (storePlace q serial) at (f .stores))) in
+          rw (w .may .worded) at (and-right (bitsFit 5 (s .port)) (wordFits (s .word)) (all-found storeFits (q .stores) (storePlace q serial) at (f .stores))) in
           rw (w .result)
           (with-memory (retire after) m (retire-fits after m (with-stores q m f storeDone (λ x h. h) (storePlace q serial)))
           (w .put .address) (w .put .word) word)
 
-  take-fits : (port : ℕ) (r : Taken) → takeRule q port ≡ accept r → (fits 32 (r .value) ≡ true) × Fits (machine (r .queue) m)
+  take-fits : (port : ℕ) (r : Taken) → takeRule q port ≡ accept r → (bitsFit 32 (r .value) ≡ true) × Fits (machine (r .queue) m)
   unfolding takeRule
   take-fits port r h₀ =
       let (t₁, h₁) = need-accepts (sound q) _ _ h₀ in
@@ -218,8 +216,8 @@ module _ (q : Contents) (m : List ℕ) (f : Fits (machine q m)) where
       let after : Contents = withLoads q (updateAt loadTaken place (q .loads)) in
       let result : record { value = v; queue = retire after } ≡ r = cc in
       let word : wordFits (some v) ≡ true =
-      rw t₄ at (and-right (fits 5 (l .port)) (wordFits (l .value)) (all-found loadFits (q .loads) place at (f .loads))) in
-      subst (λ (x : Taken). (fits 32 (x .value) ≡ true) × Fits (machine (x .queue) m)) result
+      rw t₄ at (and-right (bitsFit 5 (l .port)) (wordFits (l .value)) (all-found loadFits (q .loads) place at (f .loads))) in
+      subst (λ (x : Taken). (bitsFit 32 (x .value) ≡ true) × Fits (machine (x .queue) m)) result
       (word, retire-fits after m (with-loads q m f loadTaken (λ x h. h) place))
 
 -- ---- a call
@@ -230,27 +228,27 @@ module _ (m : Machine) (f : Fits m) (right : tableFault (m .queue .groups) ≡ 0
   pub step-fits : (c : Call) → argumentFits c ≡ true → Fitting (step m c)
   step-fits (Activate g) h = go (activate (m .queue) g) refl
     where
-      go : (r : Ruled Contents) → activate (m .queue) g ≡ r → Fitting (moved m r)
+      go : (r : Ruled Contents) → activate (m .queue) g ≡ r → Fitting (moveResponse m r)
       go (refuse n) e = refused-fits (activate (m .queue) g) n (activate-small (m .queue) g) e
       go (accept q) e = record { number = omega arith; value = refl; left = activate-fits (m .queue) (m .memory) f right g q e }
   step-fits (Give kind p x) h = go (give kind (m .queue) p x) refl
     where
-      go : (r : Ruled Contents) → give kind (m .queue) p x ≡ r → Fitting (moved m r)
+      go : (r : Ruled Contents) → give kind (m .queue) p x ≡ r → Fitting (moveResponse m r)
       go (refuse n) e = refused-fits (give kind (m .queue) p x) n (give-small kind (m .queue) p x) e
       go (accept q) e = record { number = omega arith; value = refl; left = give-fits (m .queue) (m .memory) f kind p x q h e }
   step-fits (Serve c s) h = go (serve (m .queue) (m .memory) s) refl
     where
-      go : (r : Ruled Served) → serve (m .queue) (m .memory) s ≡ r → Fitting (served m r)
+      go : (r : Ruled Served) → serve (m .queue) (m .memory) s ≡ r → Fitting (serveResponse m r)
       go (refuse n) e = refused-fits (serve (m .queue) (m .memory) s) n (serve-small (m .queue) (m .memory) s) e
       go (accept r) e = let (v, l) = serve-fits (m .queue) (m .memory) f s r e in record { number = omega arith; value = v; left = l }
   step-fits (Write s) h = go (write (m .queue) (m .memory) s) refl
     where
-      go : (r : Ruled Written) → write (m .queue) (m .memory) s ≡ r → Fitting (written m r)
+      go : (r : Ruled Written) → write (m .queue) (m .memory) s ≡ r → Fitting (writeResponse m r)
       go (refuse n) e = refused-fits (write (m .queue) (m .memory) s) n (write-small (m .queue) (m .memory) s) e
       go (accept r) e = record { number = omega arith; value = refl; left = write-fits (m .queue) (m .memory) f s r e }
   step-fits (Take p) h = go (takeRule (m .queue) p) refl
     where
-      go : (r : Ruled Taken) → takeRule (m .queue) p ≡ r → Fitting (taken m r)
+      go : (r : Ruled Taken) → takeRule (m .queue) p ≡ r → Fitting (takeResponse m r)
       go (refuse n) e = refused-fits (takeRule (m .queue) p) n (take-small (m .queue) p) e
       go (accept r) e = let (v, l) = take-fits (m .queue) (m .memory) f p r e in record { number = omega arith; value = v; left = l }
   step-fits (Ready kind run) h =

@@ -4,7 +4,7 @@ pub mod Window
 pub mod MemoryInvariant
 pub mod Rows
 pub mod PlainRun
-pub mod State
+pub mod Invariant
 pub mod Anew
 pub mod Slots
 pub mod Steps

@@ -17,40 +17,40 @@ use Rattle.queue.specs.Retire.{loadFinished, storeFinished}
 use Rattle.queue.proofs.Lists.{false-true, and-both}
 use Rattle.sequential.specs.Plain.{consOption}
 
-pub data Entry : Type 0 where
-  ofLoad : Load → Entry
-  ofStore : Store → Entry
+pub data LogEntry : Type 0 where
+  ofLoad : Load → LogEntry
+  ofStore : Store → LogEntry
 
 -- One side of the log: which entries are its own, when one is finished, and an entry with another remembered number. What is
 -- proved of a kind and its opposite serves loads and stores alike.
-pub record Kind (A : Type 0) : Type 0 where
-  pub put : A → Entry
-  pub own : Entry → Option A
+pub record LogKind (A : Type 0) : Type 0 where
+  pub put : A → LogEntry
+  pub own : LogEntry → Option A
   pub remember : ℕ → A → A
   pub remembered : A → ℕ
   pub finished : A → Bool
   pub own-put : (a : A) → own (put a) ≡ some a
-  pub put-own : (e : Entry) (a : A) → own e ≡ some a → e ≡ put a
+  pub put-own : (e : LogEntry) (a : A) → own e ≡ some a → e ≡ put a
   pub remembered-remember : (n : ℕ) (a : A) → remembered (remember n a) ≡ n
   pub finished-remember : (n : ℕ) (a : A) → finished (remember n a) ≡ finished a
 
-abbrev pub ownLoad : Entry → Option Load
+abbrev pub ownLoad : LogEntry → Option Load
 ownLoad (ofLoad l) = some l
 ownLoad (ofStore s) = none
 
-abbrev pub ownStore : Entry → Option Store
+abbrev pub ownStore : LogEntry → Option Store
 ownStore (ofLoad l) = none
 ownStore (ofStore s) = some s
 
-pub loadOwned : (e : Entry) (l : Load) → ownLoad e ≡ some l → e ≡ ofLoad l
+pub loadOwned : (e : LogEntry) (l : Load) → ownLoad e ≡ some l → e ≡ ofLoad l
 loadOwned (ofLoad k) l h = let e : k ≡ l = cc in rw e
 loadOwned (ofStore s) l h = cc
 
-pub storeOwned : (e : Entry) (s : Store) → ownStore e ≡ some s → e ≡ ofStore s
+pub storeOwned : (e : LogEntry) (s : Store) → ownStore e ≡ some s → e ≡ ofStore s
 storeOwned (ofLoad l) s h = cc
 storeOwned (ofStore k) s h = let e : k ≡ s = cc in rw e
 
-abbrev pub loads : Kind Load
+abbrev pub loads : LogKind Load
 loads = record {
   put = ofLoad;
   own = ownLoad;
@@ -63,7 +63,7 @@ loads = record {
   finished-remember = λ n l. refl;
 }
 
-abbrev pub stores : Kind Store
+abbrev pub stores : LogKind Store
 stores = record {
   put = ofStore;
   own = ownStore;
@@ -77,8 +77,8 @@ stores = record {
 }
 
 -- every entry is of one of the two kinds
-abbrev pub Opposite : {A B : Type 0} → Kind A → Kind B → Type 0
-Opposite K K′ = (e : Entry) → isSome (K .own e) ≡ not (isSome (K′ .own e))
+abbrev pub Opposite : {A B : Type 0} → LogKind A → LogKind B → Type 0
+Opposite K K′ = (e : LogEntry) → isSome (K .own e) ≡ not (isSome (K′ .own e))
 
 pub loads-stores : Opposite loads stores
 loads-stores (ofLoad l) = refl
@@ -93,8 +93,8 @@ pub record Placed (A : Type 0) : Type 0 where
   pub before : ℕ
   pub entry : A
 
-abbrev pub entryOf : {A : Type 0} → Placed A → A
-entryOf x = x .entry
+abbrev pub placedEntry : {A : Type 0} → Placed A → A
+placedEntry x = x .entry
 
 abbrev pub place : {A : Type 0} → ℕ → A → Placed A
 place n a = record { before = n; entry = a }
@@ -108,20 +108,20 @@ counting none n = suc n
 counting (some a) n = n
 
 -- the entries of a kind, where n of the other kind come before; the entries alone; how many are of the other kind
-abbrev pub side : {A : Type 0} → Kind A → ℕ → List Entry → List (Placed A)
+abbrev pub side : {A : Type 0} → LogKind A → ℕ → List LogEntry → List (Placed A)
 side K n [] = []
 side K n (e ∷ es) = onto (K .own e) n (side K n es) (side K (suc n) es)
 
-abbrev pub ownIn : {A : Type 0} → Kind A → List Entry → List A
+abbrev pub ownIn : {A : Type 0} → LogKind A → List LogEntry → List A
 ownIn K [] = []
 ownIn K (e ∷ es) = consOption (K .own e) (ownIn K es)
 
-abbrev pub others : {A : Type 0} → Kind A → List Entry → ℕ
+abbrev pub others : {A : Type 0} → LogKind A → List LogEntry → ℕ
 others K [] = 0
 others K (e ∷ es) = counting (K .own e) (others K es)
 
-module _ {A : Type 0} (K : Kind A) where
-  pub side-append : (n : ℕ) (xs ys : List Entry) → side K n (xs ++ ys) ≡ side K n xs ++ side K (n + others K xs) ys
+module _ {A : Type 0} (K : LogKind A) where
+  pub side-append : (n : ℕ) (xs ys : List LogEntry) → side K n (xs ++ ys) ≡ side K n xs ++ side K (n + others K xs) ys
   side-append n [] ys = rw (add-zero n)
   side-append n (e ∷ xs) ys = go (K .own e) (side-append n xs ys) (side-append (suc n) xs ys)
     where
@@ -130,16 +130,16 @@ module _ {A : Type 0} (K : Kind A) where
       go none h k = rw (add-suc n (others K xs), ← suc-add n (others K xs)) k
       go (some a) h k = ap (λ (l : List (Placed A)). place n a ∷ l) h
 
-  pub map-side : (n : ℕ) (es : List Entry) → map entryOf (side K n es) ≡ ownIn K es
+  pub map-side : (n : ℕ) (es : List LogEntry) → map placedEntry (side K n es) ≡ ownIn K es
   map-side n [] = refl
   map-side n (e ∷ es) = go (K .own e) (map-side n es) (map-side (suc n) es)
     where
-      go : (o : Option A) → map entryOf (side K n es) ≡ ownIn K es → map entryOf (side K (suc n) es) ≡ ownIn K es
-          → map entryOf (onto o n (side K n es) (side K (suc n) es)) ≡ consOption o (ownIn K es)
+      go : (o : Option A) → map placedEntry (side K n es) ≡ ownIn K es → map placedEntry (side K (suc n) es) ≡ ownIn K es
+          → map placedEntry (onto o n (side K n es) (side K (suc n) es)) ≡ consOption o (ownIn K es)
       go none h k = k
       go (some a) h k = ap (λ (l : List A). a ∷ l) h
 
-  pub ownIn-append : (xs ys : List Entry) → ownIn K (xs ++ ys) ≡ ownIn K xs ++ ownIn K ys
+  pub ownIn-append : (xs ys : List LogEntry) → ownIn K (xs ++ ys) ≡ ownIn K xs ++ ownIn K ys
   ownIn-append [] ys = refl
   ownIn-append (e ∷ xs) ys = go (K .own e) (ownIn-append xs ys)
     where
@@ -147,7 +147,7 @@ module _ {A : Type 0} (K : Kind A) where
       go none h = h
       go (some a) h = ap (λ (l : List A). a ∷ l) h
 
-  pub side-length : (n : ℕ) (es : List Entry) → length (side K n es) ≡ length (ownIn K es)
+  pub side-length : (n : ℕ) (es : List LogEntry) → length (side K n es) ≡ length (ownIn K es)
   side-length n [] = refl
   side-length n (e ∷ es) = go (K .own e) (side-length n es) (side-length (suc n) es)
     where
@@ -157,7 +157,7 @@ module _ {A : Type 0} (K : Kind A) where
       go (some a) h k = ap suc h
 
   -- no entry remembers more of the other kind than there are
-  pub side-before : (n : ℕ) (es : List Entry) → allOf (λ x. leb (x .before) (n + others K es)) (side K n es) ≡ true
+  pub side-before : (n : ℕ) (es : List LogEntry) → allOf (λ x. leb (x .before) (n + others K es)) (side K n es) ≡ true
   side-before n [] = refl
   side-before n (e ∷ es) = go (K .own e) (side-before n es) (side-before (suc n) es)
     where
@@ -167,19 +167,19 @@ module _ {A : Type 0} (K : Kind A) where
       go (some a) h k = and-both (le-leb n (n + others K es) (omega arith)) h
 
   -- an entry of the side stands in the log
-  pub side-split : (n : ℕ) (es : List Entry) (xs : List (Placed A)) (x : Placed A) (ys : List (Placed A)) → side K n es ≡ xs ++ x ∷ ys
-      → (pre post : List Entry) × (es ≡ pre ++ K .put (x .entry) ∷ post) × (side K n pre ≡ xs)
+  pub side-split : (n : ℕ) (es : List LogEntry) (xs : List (Placed A)) (x : Placed A) (ys : List (Placed A)) → side K n es ≡ xs ++ x ∷ ys
+      → (pre post : List LogEntry) × (es ≡ pre ++ K .put (x .entry) ∷ post) × (side K n pre ≡ xs)
   side-split n [] [] x ys h = let e : false ≡ true = cc in false-true e
   side-split n [] (z ∷ zs) x ys h = let e : false ≡ true = cc in false-true e
   side-split n (e ∷ es) xs x ys h = go (K .own e) refl xs h (λ zs k. side-split n es zs x ys k) (λ zs k. side-split (suc n) es zs x ys k)
     where
-      Found : ℕ → List Entry → List (Placed A) → Type 0
-      Found k l zs = (pre post : List Entry) × (l ≡ pre ++ K .put (x .entry) ∷ post) × (side K k pre ≡ zs)
+      Found : ℕ → List LogEntry → List (Placed A) → Type 0
+      Found k l zs = (pre post : List LogEntry) × (l ≡ pre ++ K .put (x .entry) ∷ post) × (side K k pre ≡ zs)
 
       go : (o : Option A) → K .own e ≡ o → (zs : List (Placed A)) → onto o n (side K n es) (side K (suc n) es) ≡ zs ++ x ∷ ys
           → ((vs : List (Placed A)) → side K n es ≡ vs ++ x ∷ ys → Found n es vs)
           → ((vs : List (Placed A)) → side K (suc n) es ≡ vs ++ x ∷ ys → Found (suc n) es vs)
           → Found n (e ∷ es) zs
-      go none own zs k here passed = let (pre, post, is, f) = passed zs k in (e ∷ pre, post, ap (λ (l : List Entry). e ∷ l) is, rw (own, f))
-      go (some a) own [] k here passed = let same : x .entry ≡ a = sym (ap entryOf (head-eq-of-cons-eq k)) in ([], es, rw (same, K .put-own e a own), refl)
-      go (some a) own (z ∷ zs) k here passed = let (pre, post, is, f) = here zs (tail-eq-of-cons-eq k) in (e ∷ pre, post, ap (λ (l : List Entry). e ∷ l) is, rw (own, f, head-eq-of-cons-eq k))
+      go none own zs k here passed = let (pre, post, is, f) = passed zs k in (e ∷ pre, post, ap (λ (l : List LogEntry). e ∷ l) is, rw (own, f))
+      go (some a) own [] k here passed = let same : x .entry ≡ a = sym (ap placedEntry (head-eq-of-cons-eq k)) in ([], es, rw (same, K .put-own e a own), refl)
+      go (some a) own (z ∷ zs) k here passed = let (pre, post, is, f) = here zs (tail-eq-of-cons-eq k) in (e ∷ pre, post, ap (λ (l : List LogEntry). e ∷ l) is, rw (own, f, head-eq-of-cons-eq k))

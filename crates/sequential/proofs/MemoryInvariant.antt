@@ -16,15 +16,16 @@ use Rattle.queue.specs.Ruled.{isSome}
 use Rattle.queue.specs.Contents.{Load, Store}
 use Rattle.queue.specs.Activate.{newLoad, newStore}
 use Rattle.queue.specs.Serve.{addressIs, hasAddress, unwrittenTo, Source, fromStore, source, loadWithValue}
-use Rattle.queue.specs.Write.{addressApart, loadGivesWay, storeGivesWay, storeDone}
-use Rattle.queue.proofs.Lists.{false-true, and-left, and-right}
+use Rattle.queue.specs.Write.{addressApart, noLoadConflict, noStoreConflict, storeDone}
+use Rattle.number.proofs.Both.{and-left, and-right}
+use Rattle.queue.proofs.Lists.{false-true}
 use Rattle.queue.proofs.SourceLaws.{wordFrom, word-on}
-use Rattle.sequential.proofs.Log.{Entry, ofLoad, ofStore, loads, stores, ownIn}
+use Rattle.sequential.proofs.Log.{LogEntry, ofLoad, ofStore, loads, stores, ownIn}
 
 -- may x stand where this is known
-abbrev pub fits : Option ℕ → ℕ → Type 0
-fits none x = Unit {0}
-fits (some y) x = y ≡ x
+abbrev pub valueFits : Option ℕ → ℕ → Type 0
+valueFits none x = Unit {0}
+valueFits (some y) x = y ≡ x
 
 -- what a load reads at a: what it was served, else what memory would give
 abbrev pub reads : Option ℕ → List ℕ → ℕ → ℕ
@@ -36,31 +37,31 @@ abbrev pub does : Bool → List ℕ → ℕ → ℕ → List ℕ
 does true m a w = m
 does false m a w = set m a w
 
-abbrev pub Agree : List ℕ → List ℕ → List Entry → Type 0
-Agree m n [] = m ≡ n
-Agree m n (ofLoad l ∷ es) = ((a : ℕ) → fits (l .address) a → reads (l .value) m a ≡ getD n a 0) × Agree m n es
-Agree m n (ofStore s ∷ es) = (a w : ℕ) → fits (s .address) a → fits (s .word) w → Agree (does (s .written) m a w) (set n a w) es
+abbrev pub MemoriesAgree : List ℕ → List ℕ → List LogEntry → Type 0
+MemoriesAgree m n [] = m ≡ n
+MemoriesAgree m n (ofLoad l ∷ es) = ((a : ℕ) → valueFits (l .address) a → reads (l .value) m a ≡ getD n a 0) × MemoriesAgree m n es
+MemoriesAgree m n (ofStore s ∷ es) = (a w : ℕ) → valueFits (s .address) a → valueFits (s .word) w → MemoriesAgree (does (s .written) m a w) (set n a w) es
 
 -- ---- one entry made anew
 
-pub agree-change : (e e′ : Entry) (post : List Entry) → ((m n : List ℕ) → Agree m n (e ∷ post) → Agree m n (e′ ∷ post))
-    → (pre : List Entry) (m n : List ℕ) → Agree m n (pre ++ e ∷ post) → Agree m n (pre ++ e′ ∷ post)
+pub agree-change : (e e′ : LogEntry) (post : List LogEntry) → ((m n : List ℕ) → MemoriesAgree m n (e ∷ post) → MemoriesAgree m n (e′ ∷ post))
+    → (pre : List LogEntry) (m n : List ℕ) → MemoriesAgree m n (pre ++ e ∷ post) → MemoriesAgree m n (pre ++ e′ ∷ post)
 agree-change e e′ post change [] m n h = change m n h
 agree-change e e′ post change (ofLoad l ∷ pre) m n h = (h .0, agree-change e e′ post change pre m n (h .1))
 agree-change e e′ post change (ofStore s ∷ pre) m n h = λ a w p q. agree-change e e′ post change pre (does (s .written) m a w) (set n a w) (h a w p q)
 
 -- ---- new entries
 
-abbrev pub fresh : Access → Entry
+abbrev pub fresh : Access → LogEntry
 fresh (load p) = ofLoad (newLoad p 0)
 fresh (store p) = ofStore (newStore p 0)
 
-pub agree-fresh : (m : List ℕ) (new : List Access) → Agree m m (map fresh new)
+pub agree-fresh : (m : List ℕ) (new : List Access) → MemoriesAgree m m (map fresh new)
 agree-fresh m [] = refl
 agree-fresh m (load p ∷ new) = (λ a f. refl, agree-fresh m new)
 agree-fresh m (store p ∷ new) = λ a w f g. agree-fresh (set m a w) new
 
-pub agree-append : (es : List Entry) (new : List Access) (m n : List ℕ) → Agree m n es → Agree m n (es ++ map fresh new)
+pub agree-append : (es : List LogEntry) (new : List Access) (m n : List ℕ) → MemoriesAgree m n es → MemoriesAgree m n (es ++ map fresh new)
 agree-append [] new m n h = rw (← h) (agree-fresh m new)
 agree-append (ofLoad l ∷ es) new m n h = (h .0, agree-append es new m n (h .1))
 agree-append (ofStore s ∷ es) new m n h = λ a w p q. agree-append es new (does (s .written) m a w) (set n a w) (h a w p q)
@@ -73,15 +74,15 @@ Holding k x = (v : ℕ) → k ≡ some v → x ≡ v
 
 -- One more store: what was found before it, and the store done, give what is found after it.
 holding-store : (word : ℕ) (s : Store) (a : ℕ) (found : Source) (m : List ℕ) → a < length m → hasAddress s ≡ true → Holding (wordFrom word found) (getD m a 0)
-    → (b w : ℕ) → fits (s .address) b → fits (s .word) w
+    → (b w : ℕ) → valueFits (s .address) b → valueFits (s .word) w
     → Holding (wordFrom word (pick (unwrittenTo a s) (fromStore (s .word)) found)) (getD (does (s .written) m b w) a 0)
 holding-store word s a found m low known h b w = go (s .written) (s .address) (s .word) known
   where
-    own : (o : Option ℕ) → fits o w → Holding o w
+    own : (o : Option ℕ) → valueFits o w → Holding o w
     own none f v e = cc
     own (some x) f v e = let g : x ≡ v = cc in sym f ∙ g
 
-    go : (written : Bool) (address word′ : Option ℕ) → isSome address ≡ true → fits address b → fits word′ w
+    go : (written : Bool) (address word′ : Option ℕ) → isSome address ≡ true → valueFits address b → valueFits word′ w
         → Holding (wordFrom word (pick (not written && addressIs a address) (fromStore word′) found)) (getD (does written m b w) a 0)
     go true address word′ t f g = h
     go false none word′ t f g = false-true t
@@ -91,13 +92,13 @@ holding-store word s a found m low known h b w = go (s .written) (s .address) (s
         at true e = let same : b ≡ a = sym f ∙ eqb-true c a e in rw same (rw (getD-set-same m a w 0 low) (own word′ g))
         at false e = rw (getD-set-other m b a w 0 (λ p. eqb-false c a e (f ∙ sym p))) h
 
-pub agree-serve : (l : Load) (post : List Entry) (a v word : ℕ) → l .address ≡ some a → l .value ≡ none
-    → (pre : List Entry) (found : Source) (m n : List ℕ) → a < length m → Holding (wordFrom word found) (getD m a 0)
+pub agree-serve : (l : Load) (post : List LogEntry) (a v word : ℕ) → l .address ≡ some a → l .value ≡ none
+    → (pre : List LogEntry) (found : Source) (m n : List ℕ) → a < length m → Holding (wordFrom word found) (getD m a 0)
     → wordFrom word (source a found (ownIn stores pre)) ≡ some v
-    → Agree m n (pre ++ ofLoad l ∷ post) → Agree m n (pre ++ ofLoad (loadWithValue v l) ∷ post)
+    → MemoriesAgree m n (pre ++ ofLoad l ∷ post) → MemoriesAgree m n (pre ++ ofLoad (loadWithValue v l) ∷ post)
 agree-serve l post a v word address unserved [] found m n low h e g = (λ b f. served b f, g .1)
   where
-    served : (b : ℕ) → fits (l .address) b → v ≡ getD n b 0
+    served : (b : ℕ) → valueFits (l .address) b → v ≡ getD n b 0
     served b f = let same : a ≡ b = (rw address at f) in sym (h v e) ∙ (rw (unserved) at (g .0 a (rw address refl))) ∙ ap (λ (i : ℕ). getD n i 0) same
 agree-serve l post a v word address unserved (ofLoad k ∷ pre) found m n low h e g =
     (g .0, agree-serve l post a v word address unserved pre found m n low h e (g .1))
@@ -113,27 +114,27 @@ agree-serve l post a v word address unserved (ofStore s ∷ pre) found m n low h
 
 -- ---- write: the store may go ahead of everything before it
 
-pub agree-write : (s : Store) (post : List Entry) (a w : ℕ) → s .address ≡ some a → s .word ≡ some w → s .written ≡ false
-    → (pre : List Entry) (m n : List ℕ) → allOf (loadGivesWay a) (ownIn loads pre) ≡ true → allOf (storeGivesWay a) (ownIn stores pre) ≡ true
-    → Agree m n (pre ++ ofStore s ∷ post) → Agree (set m a w) n (pre ++ ofStore (storeDone s) ∷ post)
+pub agree-write : (s : Store) (post : List LogEntry) (a w : ℕ) → s .address ≡ some a → s .word ≡ some w → s .written ≡ false
+    → (pre : List LogEntry) (m n : List ℕ) → allOf (noLoadConflict a) (ownIn loads pre) ≡ true → allOf (noStoreConflict a) (ownIn stores pre) ≡ true
+    → MemoriesAgree m n (pre ++ ofStore s ∷ post) → MemoriesAgree (set m a w) n (pre ++ ofStore (storeDone s) ∷ post)
 agree-write s post a w address word unwritten [] m n tl ts g = λ b x f h. done b x f h (rw address at f) (rw word at h)
   where
-    done : (b x : ℕ) → fits (s .address) b → fits (s .word) x → a ≡ b → w ≡ x → Agree (set m a w) (set n b x) post
+    done : (b x : ℕ) → valueFits (s .address) b → valueFits (s .word) x → a ≡ b → w ≡ x → MemoriesAgree (set m a w) (set n b x) post
     done b x f h same same′ = rw (same, same′) (rw unwritten at (g b x f h))
 agree-write s post a w address word unwritten (ofLoad l ∷ pre) m n tl ts g = (
-  λ b f. ahead (l .value) (l .address) (and-left (loadGivesWay a l) (allOf (loadGivesWay a) (ownIn loads pre)) tl) b f (g .0 b f),
-  agree-write s post a w address word unwritten pre m n (and-right (loadGivesWay a l) (allOf (loadGivesWay a) (ownIn loads pre)) tl) ts (g .1),
+  λ b f. ahead (l .value) (l .address) (and-left (noLoadConflict a l) (allOf (noLoadConflict a) (ownIn loads pre)) tl) b f (g .0 b f),
+  agree-write s post a w address word unwritten pre m n (and-right (noLoadConflict a l) (allOf (noLoadConflict a) (ownIn loads pre)) tl) ts (g .1),
 )
   where
-    ahead : (value address′ : Option ℕ) → isSome value || addressApart a address′ ≡ true → (b : ℕ) → fits address′ b → reads value m b ≡ getD n b 0 → reads value (set m a w) b ≡ getD n b 0
+    ahead : (value address′ : Option ℕ) → isSome value || addressApart a address′ ≡ true → (b : ℕ) → valueFits address′ b → reads value m b ≡ getD n b 0 → reads value (set m a w) b ≡ getD n b 0
     ahead (some v) address′ t b f h = h
     ahead none none t b f h = false-true t
     ahead none (some c) t b f h = rw (getD-set-other m a b w 0 (λ p. eqb-false c a (not-true (eqb c a) t) (f ∙ p))) h
 agree-write s post a w address word unwritten (ofStore r ∷ pre) m n tl ts g =
-    λ b x f h. rw (ahead (r .written) (r .address) (and-left (storeGivesWay a r) (allOf (storeGivesWay a) (ownIn stores pre)) ts) b x f)
-    (agree-write s post a w address word unwritten pre (does (r .written) m b x) (set n b x) tl (and-right (storeGivesWay a r) (allOf (storeGivesWay a) (ownIn stores pre)) ts) (g b x f h))
+    λ b x f h. rw (ahead (r .written) (r .address) (and-left (noStoreConflict a r) (allOf (noStoreConflict a) (ownIn stores pre)) ts) b x f)
+    (agree-write s post a w address word unwritten pre (does (r .written) m b x) (set n b x) tl (and-right (noStoreConflict a r) (allOf (noStoreConflict a) (ownIn stores pre)) ts) (g b x f h))
   where
-    ahead : (written : Bool) (address′ : Option ℕ) → written || addressApart a address′ ≡ true → (b x : ℕ) → fits address′ b → does written (set m a w) b x ≡ set (does written m b x) a w
+    ahead : (written : Bool) (address′ : Option ℕ) → written || addressApart a address′ ≡ true → (b x : ℕ) → valueFits address′ b → does written (set m a w) b x ≡ set (does written m b x) a w
     ahead true address′ t b x f = refl
     ahead false none t b x f = false-true t
     ahead false (some c) t b x f = set-comm m a b w x (λ p. eqb-false c a (not-true (eqb c a) t) (f ∙ sym p))

@@ -18,19 +18,20 @@ use Rattle.queue.specs.Ruled.{number, isSome}
 use Rattle.queue.specs.Contents.{Load, Store, Contents, after, oldest, loadPlace, storePlace}
 use Rattle.queue.specs.Sound.{sound}
 use Rattle.queue.specs.Serve.{hasAddress, fromMemory, source, serve}
-use Rattle.queue.specs.Write.{addressApart, loadGivesWay, storeGivesWay, write}
+use Rattle.queue.specs.Write.{addressApart, noLoadConflict, noStoreConflict, write}
 use Rattle.queue.specs.Retire.{storeFinished}
-use Rattle.queue.proofs.Lists.{false-true, is-none, and-left, and-right, and-both, or-left, all-left, all-middle, getElem?-short}
+use Rattle.number.proofs.Both.{and-left, and-right}
+use Rattle.queue.proofs.Lists.{false-true, is-none, and-both, or-left, all-left, all-middle, getElem?-short}
 use Rattle.queue.proofs.SourceLaws.{source-memory}
 use Rattle.queue.proofs.Serials.{place-of-serial, oldest-small, after-small}
-use Rattle.sequential.specs.Call.{Machine, Answered}
+use Rattle.sequential.specs.Answers.{Machine, Answered}
 use Rattle.sequential.specs.Plain.{rowsOf, accesses, consOption}
 use Rattle.sequential.specs.Demand3.{told, uses, isLoad, isStore, someUnserved, someUnwritten, allArguments, wouldMove}
-use Rattle.sequential.proofs.Log.{Entry, ofLoad, ofStore, Kind, loads, stores, ownIn, loads-stores, stores-loads, ownIn-append}
+use Rattle.sequential.proofs.Log.{LogEntry, ofLoad, ofStore, LogKind, loads, stores, ownIn, loads-stores, stores-loads, ownIn-append}
 use Rattle.sequential.proofs.Window.{Located, turned, unfinished-queued, before-queued}
 use Rattle.sequential.proofs.Rows.{given, cellFor, lacking, row-full, eqb-self}
 use Rattle.sequential.proofs.PlainRun.{accessOf}
-use Rattle.sequential.proofs.State.{Holds, State, rightLoad, untaken-unserved, served, written}
+use Rattle.sequential.proofs.Invariant.{Holds, Invariant, rightLoad, untaken-unserved, isServed, isWritten}
 use Rattle.sequential.proofs.ReachedSound.{holds-sound}
 
 -- ---- what is accepted
@@ -43,24 +44,24 @@ serve-accepted q m serial l a right long at unserved address sourced =
     rw (right, eq-eqb (length m) (q .memoryLength) long, at, unserved, address, sourced)
 
 write-accepted : (q : Contents) (m : List ℕ) (serial : ℕ) (s : Store) (a w : ℕ) → sound q ≡ true → length m ≡ q .memoryLength → getElem? (q .stores) (storePlace q serial) ≡ some s
-    → s .written ≡ false → s .address ≡ some a → s .word ≡ some w → allOf (loadGivesWay a) (take (s .before) (q .loads)) ≡ true
-    → allOf (storeGivesWay a) (take (storePlace q serial) (q .stores)) ≡ true → number (write q m serial) ≡ 0
+    → s .written ≡ false → s .address ≡ some a → s .word ≡ some w → allOf (noLoadConflict a) (take (s .before) (q .loads)) ≡ true
+    → allOf (noStoreConflict a) (take (storePlace q serial) (q .stores)) ≡ true → number (write q m serial) ≡ 0
 unfolding write
 write-accepted q m serial s a w right long at unwritten address word loadsApart storesApart =
     rw (right, eq-eqb (length m) (q .memoryLength) long, at, unwritten, address, word, loadsApart, storesApart)
 
 -- ---- complete and done entries
 
-abbrev complete : Entry → Bool
+abbrev complete : LogEntry → Bool
 complete (ofLoad l) = isSome (l .address)
 complete (ofStore s) = isSome (s .address) && isSome (s .word)
 
-abbrev done : Entry → Bool
-done (ofLoad l) = isSome (l .value)
-done (ofStore s) = s .written
+abbrev isDone : LogEntry → Bool
+isDone (ofLoad l) = isSome (l .value)
+isDone (ofStore s) = s .written
 
 -- a test of entries, read for one kind
-all-own : {A : Type 0} (K : Kind A) (p : Entry → Bool) (r : A → Bool) → ((a : A) → p (K .put a) ≡ true → r a ≡ true) → (es : List Entry) → allOf p es ≡ true → allOf r (ownIn K es) ≡ true
+all-own : {A : Type 0} (K : LogKind A) (p : LogEntry → Bool) (r : A → Bool) → ((a : A) → p (K .put a) ≡ true → r a ≡ true) → (es : List LogEntry) → allOf p es ≡ true → allOf r (ownIn K es) ≡ true
 all-own K p r w [] h = refl
 all-own {A} K p r w (e ∷ es) h = go (K .own e) refl (all-own K p r w es (and-right (p e) (allOf p es) h))
   where
@@ -76,7 +77,7 @@ filled-some port o h = go o (rw (eqb-self port) at h)
     go (some x) k = refl
 
 -- where no cell waits, every entry is complete
-all-complete : (es : List Entry) → ((kind : Argument) (port : ℕ) → allOf (λ d. not (lacking (given kind port d))) es ≡ true) → allOf complete es ≡ true
+all-complete : (es : List LogEntry) → ((kind : Argument) (port : ℕ) → allOf (λ d. not (lacking (given kind port d))) es ≡ true) → allOf complete es ≡ true
 all-complete [] h = refl
 all-complete (ofLoad l ∷ es) h =
     and-both (filled-some (l .port) (l .address) (and-left (not (lacking (given LoadAddress (l .port) (ofLoad l)))) _ (h LoadAddress (l .port))))
@@ -92,7 +93,7 @@ cell-there true o = refl
 cell-there false o = refl
 
 -- an entry has a cell in the row of what its access uses
-given-uses : (kind : Argument) (port : ℕ) (e : Entry) → isSome (given kind port e) ≡ uses kind port (accessOf e)
+given-uses : (kind : Argument) (port : ℕ) (e : LogEntry) → isSome (given kind port e) ≡ uses kind port (accessOf e)
 given-uses LoadAddress port (ofLoad l) = cell-there (eqb (l .port) port) (l .address)
 given-uses LoadAddress port (ofStore s) = refl
 given-uses StoreAddress port (ofLoad l) = refl
@@ -100,32 +101,32 @@ given-uses StoreAddress port (ofStore s) = cell-there (eqb (s .port) port) (s .a
 given-uses StoreData port (ofLoad l) = refl
 given-uses StoreData port (ofStore s) = cell-there (eqb (s .port) port) (s .word)
 
-count-uses : (kind : Argument) (port : ℕ) (es : List Entry) → countWhere (λ d. isSome (given kind port d)) es ≡ countWhere (uses kind port) (map accessOf es)
+count-uses : (kind : Argument) (port : ℕ) (es : List LogEntry) → countWhere (λ d. isSome (given kind port d)) es ≡ countWhere (uses kind port) (map accessOf es)
 count-uses kind port [] = refl
 count-uses kind port (e ∷ es) = rw (given-uses kind port e, count-uses kind port es)
 
 -- all is done, or there is an oldest entry that is not
-first-undone : (es : List Entry) → (allOf done es ≡ true) ⊎ ((pre : List Entry) × (e : Entry) × (post : List Entry) × (es ≡ pre ++ e ∷ post) × (allOf done pre ≡ true) × (done e ≡ false))
+first-undone : (es : List LogEntry) → (allOf isDone es ≡ true) ⊎ ((pre : List LogEntry) × (e : LogEntry) × (post : List LogEntry) × (es ≡ pre ++ e ∷ post) × (allOf isDone pre ≡ true) × (isDone e ≡ false))
 first-undone [] = inl refl
-first-undone (e ∷ es) = go (done e) refl (first-undone es)
+first-undone (e ∷ es) = go (isDone e) refl (first-undone es)
   where
-    Undone : List Entry → Type 0
-    Undone l = (allOf done l ≡ true) ⊎ ((pre : List Entry) × (d : Entry) × (post : List Entry) × (l ≡ pre ++ d ∷ post) × (allOf done pre ≡ true) × (done d ≡ false))
+    Undone : List LogEntry → Type 0
+    Undone l = (allOf isDone l ≡ true) ⊎ ((pre : List LogEntry) × (d : LogEntry) × (post : List LogEntry) × (l ≡ pre ++ d ∷ post) × (allOf isDone pre ≡ true) × (isDone d ≡ false))
 
-    go : (b : Bool) → done e ≡ b → Undone es → Undone (e ∷ es)
+    go : (b : Bool) → isDone e ≡ b → Undone es → Undone (e ∷ es)
     go false t rest = inr ([], e, es, refl, refl, t)
     go true t (inl h) = inl (and-both t h)
-    go true t (inr (pre, d, post, is, h, f)) = inr (e ∷ pre, d, post, ap (λ (l : List Entry). e ∷ l) is, and-both t h, f)
+    go true t (inr (pre, d, post, is, h, f)) = inr (e ∷ pre, d, post, ap (λ (l : List LogEntry). e ∷ l) is, and-both t h, f)
 
-done-served : (es : List Entry) → allOf done es ≡ true → countWhere served es ≡ countWhere isLoad (map accessOf es)
+done-served : (es : List LogEntry) → allOf isDone es ≡ true → countWhere isServed es ≡ countWhere isLoad (map accessOf es)
 done-served [] h = refl
-done-served (ofLoad l ∷ es) h = rw (and-left (isSome (l .value)) (allOf done es) h) (ap suc (done-served es (and-right (isSome (l .value)) (allOf done es) h)))
-done-served (ofStore s ∷ es) h = done-served es (and-right (s .written) (allOf done es) h)
+done-served (ofLoad l ∷ es) h = rw (and-left (isSome (l .value)) (allOf isDone es) h) (ap suc (done-served es (and-right (isSome (l .value)) (allOf isDone es) h)))
+done-served (ofStore s ∷ es) h = done-served es (and-right (s .written) (allOf isDone es) h)
 
-done-written : (es : List Entry) → allOf done es ≡ true → countWhere written es ≡ countWhere isStore (map accessOf es)
+done-written : (es : List LogEntry) → allOf isDone es ≡ true → countWhere isWritten es ≡ countWhere isStore (map accessOf es)
 done-written [] h = refl
-done-written (ofLoad l ∷ es) h = done-written es (and-right (isSome (l .value)) (allOf done es) h)
-done-written (ofStore s ∷ es) h = rw (and-left (s .written) (allOf done es) h) (ap suc (done-written es (and-right (s .written) (allOf done es) h)))
+done-written (ofLoad l ∷ es) h = done-written es (and-right (isSome (l .value)) (allOf isDone es) h)
+done-written (ofStore s ∷ es) h = rw (and-left (s .written) (allOf isDone es) h) (ap suc (done-written es (and-right (s .written) (allOf isDone es) h)))
 
 is-some : (o : Option ℕ) → isSome o ≡ true → (x : ℕ) × (o ≡ some x)
 is-some none h = false-true h
@@ -133,7 +134,7 @@ is-some (some x) h = (x, refl)
 
 -- ---- the oldest undone entry moves
 
-module _ (q : Contents) (m memory : List ℕ) (log : List Entry) (h : Holds q m memory log) (filled : allOf complete log ≡ true) where
+module _ (q : Contents) (m memory : List ℕ) (log : List LogEntry) (h : Holds q m memory log) (filled : allOf complete log ≡ true) where
   right : sound q ≡ true
   right = holds-sound q m memory log h
 
@@ -144,7 +145,7 @@ module _ (q : Contents) (m memory : List ℕ) (log : List Entry) (h : Holds q m 
   store-depth : q .storeDepth ≤ 64
   store-depth = leb-true (q .storeDepth) 64 (and-right (leb 1 (q .storeDepth)) _ (h .limits .storeDepthRight))
 
-  load-moves : (pre : List Entry) (l : Load) (post : List Entry) → log ≡ pre ++ ofLoad l ∷ post → allOf done pre ≡ true → isSome (l .value) ≡ false
+  load-moves : (pre : List LogEntry) (l : Load) (post : List LogEntry) → log ≡ pre ++ ofLoad l ∷ post → allOf isDone pre ≡ true → isSome (l .value) ≡ false
       → wouldMove (record { queue = q; memory = m })
   load-moves pre l post log-is before unserved =
       go (unfinished-queued loads stores loads-stores (h .windows) pre l post log-is untaken) (is-some (l .address) (all-middle complete pre post (ofLoad l) (rw log-is at filled)))
@@ -158,7 +159,7 @@ module _ (q : Contents) (m memory : List ℕ) (log : List Entry) (h : Holds q m 
           (all-middle (rightLoad (q .memoryLength)) (ownIn loads pre) (ownIn loads post) l (rw (log-is, ownIn-append loads pre (ofLoad l ∷ post)) at (h .rightLoads))) value
 
       storesWritten : allOf storeFinished (ownIn stores pre) ≡ true
-      storesWritten = all-own stores done storeFinished (λ s t. t) pre before
+      storesWritten = all-own stores isDone storeFinished (λ s t. t) pre before
 
       storesAddressed : allOf hasAddress (ownIn stores pre) ≡ true
       storesAddressed = all-own stores complete hasAddress (λ s t. and-left (isSome (s .address)) _ t) pre (all-left complete pre (ofLoad l ∷ post) (rw log-is at filled))
@@ -176,7 +177,7 @@ module _ (q : Contents) (m memory : List ℕ) (log : List Entry) (h : Holds q m 
                 (before-queued (place .before′) hasAddress (λ n s. refl) storesAddressed))),
           )
 
-  store-moves : (pre : List Entry) (s : Store) (post : List Entry) → log ≡ pre ++ ofStore s ∷ post → allOf done pre ≡ true → s .written ≡ false
+  store-moves : (pre : List LogEntry) (s : Store) (post : List LogEntry) → log ≡ pre ++ ofStore s ∷ post → allOf isDone pre ≡ true → s .written ≡ false
       → wouldMove (record { queue = q; memory = m })
   store-moves pre s post log-is before unwritten =
       go (unfinished-queued stores loads stores-loads (turned (h .windows)) pre s post log-is unwritten)
@@ -185,11 +186,11 @@ module _ (q : Contents) (m memory : List ℕ) (log : List Entry) (h : Holds q m 
       filled-it : isSome (s .address) && isSome (s .word) ≡ true
       filled-it = all-middle complete pre post (ofStore s) (rw log-is at filled)
 
-      loadsApart : (a : ℕ) → allOf (loadGivesWay a) (ownIn loads pre) ≡ true
-      loadsApart a = all-own loads done (loadGivesWay a) (λ l t. or-left (isSome (l .value)) (addressApart a (l .address)) t) pre before
+      loadsApart : (a : ℕ) → allOf (noLoadConflict a) (ownIn loads pre) ≡ true
+      loadsApart a = all-own loads isDone (noLoadConflict a) (λ l t. or-left (isSome (l .value)) (addressApart a (l .address)) t) pre before
 
-      storesApart : (a : ℕ) → allOf (storeGivesWay a) (ownIn stores pre) ≡ true
-      storesApart a = all-own stores done (storeGivesWay a) (λ r t. or-left (r .written) (addressApart a (r .address)) t) pre before
+      storesApart : (a : ℕ) → allOf (noStoreConflict a) (ownIn stores pre) ≡ true
+      storesApart a = all-own stores isDone (noStoreConflict a) (λ r t. or-left (r .written) (addressApart a (r .address)) t) pre before
 
       go : (i : ℕ) × Located stores loads log (q .stores) (q .loads) i pre s post → (a : ℕ) × (s .address ≡ some a) → (w : ℕ) × (s .word ≡ some w)
           → wouldMove (record { queue = q; memory = m })
@@ -201,25 +202,25 @@ module _ (q : Contents) (m memory : List ℕ) (log : List Entry) (h : Holds q m 
             after-small (oldest (q .nextStore) (length (q .stores))) i,
             inr
                 (write-accepted q m serial (stores .remember (place .number) s) a w right (h .long) (ap (getElem? (q .stores)) is ∙ place .at) unwritten address word
-                (before-queued (place .before′) (loadGivesWay a) (λ n l. refl) (loadsApart a))
-                (rw is (before-queued (place .before) (storeGivesWay a) (λ n r. refl) (storesApart a)))),
+                (before-queued (place .before′) (noLoadConflict a) (λ n l. refl) (loadsApart a))
+                (rw is (before-queued (place .before) (noStoreConflict a) (λ n r. refl) (storesApart a)))),
           )
 
   -- some serve or write would be accepted, unless all is done
-  pub undone-moves : (allOf done log ≡ true) ⊎ wouldMove (record { queue = q; memory = m })
+  pub undone-moves : (allOf isDone log ≡ true) ⊎ wouldMove (record { queue = q; memory = m })
   undone-moves = go (first-undone log)
     where
-      at : (pre : List Entry) (e : Entry) (post : List Entry) → log ≡ pre ++ e ∷ post → allOf done pre ≡ true → done e ≡ false → wouldMove (record { queue = q; memory = m })
+      at : (pre : List LogEntry) (e : LogEntry) (post : List LogEntry) → log ≡ pre ++ e ∷ post → allOf isDone pre ≡ true → isDone e ≡ false → wouldMove (record { queue = q; memory = m })
       at pre (ofLoad l) post is before undone = load-moves pre l post is before undone
       at pre (ofStore s) post is before undone = store-moves pre s post is before undone
 
-      go : (allOf done log ≡ true) ⊎ ((pre : List Entry) × (e : Entry) × (post : List Entry) × (log ≡ pre ++ e ∷ post) × (allOf done pre ≡ true) × (done e ≡ false))
-          → (allOf done log ≡ true) ⊎ wouldMove (record { queue = q; memory = m })
+      go : (allOf isDone log ≡ true) ⊎ ((pre : List LogEntry) × (e : LogEntry) × (post : List LogEntry) × (log ≡ pre ++ e ∷ post) × (allOf isDone pre ≡ true) × (isDone e ≡ false))
+          → (allOf isDone log ≡ true) ⊎ wouldMove (record { queue = q; memory = m })
       go (inl h₁) = inl h₁
       go (inr (pre, e, post, is, before, undone)) = inr (at pre e post is before undone)
 
 -- Progress, of a state that calls led to.
-pub state-moves : (groups : List GroupPairs) (memory : List ℕ) (answered : List Answered) (m : Machine) → State groups memory answered m
+pub state-moves : (groups : List GroupPairs) (memory : List ℕ) (answered : List Answered) (m : Machine) → Invariant groups memory answered m
     → (someUnserved groups (told answered) ⊎ someUnwritten groups (told answered)) → allArguments groups (told answered) → wouldMove m
 state-moves groups memory answered m st undone full = go (undone-moves (m .queue) (m .memory) memory (st .log) (st .holds) filled) undone
   where
@@ -228,11 +229,11 @@ state-moves groups memory answered m st undone full = go (undone-moves (m .queue
         all-complete (st .log) (λ kind port. row-full (given kind port) (st .log) (rowsOf (told answered) kind port) (st .seen .rows kind port)
         (full kind port ∙ sym (ap (countWhere (uses kind port)) (st .seen .shape)) ∙ sym (count-uses kind port (st .log))))
 
-    go : (allOf done (st .log) ≡ true) ⊎ wouldMove m → (someUnserved groups (told answered) ⊎ someUnwritten groups (told answered)) → wouldMove m
+    go : (allOf isDone (st .log) ≡ true) ⊎ wouldMove m → (someUnserved groups (told answered) ⊎ someUnwritten groups (told answered)) → wouldMove m
     go (inr moves) u = moves
     go (inl h) (inl fewer) =
-        let e : countWhere served (st .log) ≡ countWhere isLoad (accesses groups (told answered)) = done-served (st .log) h ∙ ap (countWhere isLoad) (st .seen .shape) in
+        let e : countWhere isServed (st .log) ≡ countWhere isLoad (accesses groups (told answered)) = done-served (st .log) h ∙ ap (countWhere isLoad) (st .seen .shape) in
         absurd (omega (arith, st .seen .serves))
     go (inl h) (inr fewer) =
-        let e : countWhere written (st .log) ≡ countWhere isStore (accesses groups (told answered)) = done-written (st .log) h ∙ ap (countWhere isStore) (st .seen .shape) in
+        let e : countWhere isWritten (st .log) ≡ countWhere isStore (accesses groups (told answered)) = done-written (st .log) h ∙ ap (countWhere isStore) (st .seen .shape) in
         absurd (omega (arith, st .seen .writes))

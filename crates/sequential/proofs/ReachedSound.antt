@@ -10,14 +10,14 @@ use Rattle.number.specs.Basics.{allOf}
 use Rattle.queue.specs.Contents.{Contents}
 use Rattle.queue.specs.Sound.{addressRight, loadRight, storeRight, sound}
 use Rattle.queue.proofs.Lists.{and-both, all-weaken, all-weaken₂}
-use Rattle.sequential.specs.Call.{leaves}
+use Rattle.sequential.specs.Answers.{machineAfter}
 use Rattle.sequential.specs.Demand3.{ReachedSound}
-use Rattle.sequential.proofs.Log.{Entry, loads, stores, ownIn, loads-stores, stores-loads}
+use Rattle.sequential.proofs.Log.{LogEntry, loads, stores, ownIn, loads-stores, stores-loads}
 use Rattle.sequential.proofs.Window.{window-before, before-queued, remembered-held}
-use Rattle.sequential.proofs.State.{Holds, State, rightLoad, rightStore, load-in-range, store-in-range}
+use Rattle.sequential.proofs.Invariant.{Holds, Invariant, rightLoad, rightStore, load-in-range, store-in-range}
 use Rattle.sequential.proofs.Run.{reached}
 
-pub holds-sound : (q : Contents) (m memory : List ℕ) (log : List Entry) → Holds q m memory log → sound q ≡ true
+pub holds-sound : (q : Contents) (m memory : List ℕ) (log : List LogEntry) → Holds q m memory log → sound q ≡ true
 unfolding sound
 holds-sound q m memory log h =
     and-both (and-both (and-both (and-both (and-both (and-both (and-both
@@ -51,5 +51,5 @@ holds-sound q m memory log h =
 -- The queue that a list of calls leaves is sound.
 pub reached-sound : ReachedSound
 reached-sound groups memory m o calls =
-    let st : State groups memory _ (leaves m calls) = reached o calls in
-    holds-sound (leaves m calls .queue) (leaves m calls .memory) memory (st .log) (st .holds)
+    let st : Invariant groups memory _ (machineAfter m calls) = reached o calls in
+    holds-sound (machineAfter m calls .queue) (machineAfter m calls .memory) memory (st .log) (st .holds)

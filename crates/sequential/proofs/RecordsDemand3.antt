@@ -32,8 +32,8 @@ use Rattle.queue.specs.Ready.{ready, Readies}
 use Rattle.queue.specs.Parts.{queueOf, OpensFrame}
 use Rattle.queue.proofs.Refusals.{proper, need-proper, refusal-not-zero}
 use Rattle.sequential.specs.Calls.{Call, Activate, Give, Serve, Write, Take, Ready}
-use Rattle.sequential.specs.Call.{Machine, Step, moved, served, written, taken, step, Answered, answers, leaves}
-use Rattle.sequential.specs.Records.{logged, Hands, Runs, done, next, machineOf, OpenedRecord}
+use Rattle.sequential.specs.Answers.{Machine, Response, moveResponse, serveResponse, writeResponse, takeResponse, step, Answered, answers, machineAfter, machine}
+use Rattle.sequential.specs.Records.{answeredWith, Hands, Runs, run-none, run-one, machineOf, OpenedRecord}
 use Rattle.sequential.specs.Records.{ServeCountedHands, ServeHands, ReadyIntoHands, ReadyHands}
 use Rattle.sequential.specs.Records.{RecordsDemand3, FramesDemand3, AlikeRecords, RecordsSound}
 use Rattle.sequential.specs.Demand3.{Opening}
@@ -41,7 +41,7 @@ use Rattle.sequential.proofs.ReachedSound.{reached-sound}
 use Rattle.sequential.proofs.Demand3.{demand3, alike}
 
 -- ---- one call: what it hands over is what the definitions' step gives
-pub record Same (s : Step) (r : Outcome) (left : List ℕ) : Type 0 where
+pub record Same (s : Response) (r : Outcome) (left : List ℕ) : Type 0 where
   pub number : s .number ≡ r .answer
   pub value : s .value ≡ valueIn (r .value)
   pub queue : s .machine .queue ≡ contentsOf (r .queue)
@@ -60,24 +60,24 @@ module _ (q : Queue) (m : List ℕ) where
     memory = refl;
   }
 
-  moves-same : (rule : Ruled Contents) (r : Outcome) → Moves q rule r → Same (moved (machineOf q m) rule) r m
+  moves-same : (rule : Ruled Contents) (r : Outcome) → Moves q rule r → Same (moveResponse (machineOf q m) rule) r m
   moves-same (refuse n) r e = refused-same e
   moves-same (accept c) r w = accepted-same m w
 
-  takes-same : (rule : Ruled Taken) (r : Outcome) → Takes q rule r → Same (taken (machineOf q m) rule) r m
+  takes-same : (rule : Ruled Taken) (r : Outcome) → Takes q rule r → Same (takeResponse (machineOf q m) rule) r m
   takes-same (refuse n) r e = refused-same e
   takes-same (accept t) r w = accepted-same m w
 
-  serves-same : (rule : Ruled Served) (lent left : Counts) (r : Outcome) → Serves q lent rule (withCounts r left) → Same (served (machineOf q m) rule) r m
+  serves-same : (rule : Ruled Served) (lent left : Counts) (r : Outcome) → Serves q lent rule (withCounts r left) → Same (serveResponse (machineOf q m) rule) r m
   serves-same (refuse n) lent left r e = refused-same (ap (λ (x : HandedCounts). x .outcome) e)
   serves-same (accept s) lent left r w = record { number = sym (w .answer); value = sym (w .gives); queue = sym (w .holds); memory = refl }
 
-  writes-same : (rule : Ruled Written) (r : Outcome) (left : List ℕ) → Writes q m rule r left → Same (written (machineOf q m) rule) r left
+  writes-same : (rule : Ruled Written) (r : Outcome) (left : List ℕ) → Writes q m rule r left → Same (writeResponse (machineOf q m) rule) r left
   writes-same (refuse n) r left w = rw (w .memory-is) (refused-same (w .outcome))
   writes-same (accept x) r left w = rw (w .memory-is) (accepted-same (x .memory) (w .outcome))
 
   -- a call that is not lent the memory
-  kept : {s : Step} {r : Outcome} (left : List ℕ) → Same s r m → left ≡ m → Same s r left
+  kept : {s : Response} {r : Outcome} (left : List ℕ) → Same s r m → left ≡ m → Same s r left
   kept left s e = rw e s
 
   pub hands-same : (c : Call) (r : Outcome) (left : List ℕ) → Hands q m c r left → Same (step (machineOf q m) c) r left
@@ -108,16 +108,13 @@ ready-hands q m run serials kind answer queue w = (ap₂ noValue (w .answer-is) 
 -- ---- a run's answers and what it leaves
 pub record Agrees (m : Machine) (calls : List Call) (log : List Answered) (left : Machine) : Type 0 where
   pub says : answers m calls ≡ log
-  pub ends : leaves m calls ≡ left
+  pub ends : machineAfter m calls ≡ left
 
 abbrev entered : Call → ℕ → Option ℕ → Answered
 entered c n v = record { call = c; number = n; value = v }
 
-abbrev machine : Contents → List ℕ → Machine
-machine q m = record { queue = q; memory = m }
-
 one-more : {m : Machine} {c : Call} {cs : List Call} {log : List Answered} {left : Machine} {r : Outcome} {l : List ℕ}
-    → Same (step m c) r l → Agrees (machineOf (r .queue) l) cs log left → Agrees m (c ∷ cs) (logged c r ∷ log) left
+    → Same (step m c) r l → Agrees (machineOf (r .queue) l) cs log left → Agrees m (c ∷ cs) (answeredWith c r ∷ log) left
 one-more {m} {c} {cs} {r = r} {l = l} s a =
     let e : step m c .machine ≡ machineOf (r .queue) l = ap₂ machine (s .queue) (s .memory) in
     record {
@@ -125,13 +122,13 @@ one-more {m} {c} {cs} {r = r} {l = l} s a =
           ap₂ (λ (x : Answered) (xs : List Answered). x ∷ xs)
           (ap₂ (entered c) (s .number) (s .value))
           (ap (λ (k : Machine). answers k cs) e ∙ a .says);
-      ends = ap (λ (k : Machine). leaves k cs) e ∙ a .ends;
+      ends = ap (λ (k : Machine). machineAfter k cs) e ∙ a .ends;
     }
 
 pub runs-agree : {q : Queue} {m : List ℕ} {calls : List Call} {log : List Answered} {q₂ : Queue} {m₂ : List ℕ}
     → Runs q m calls log q₂ m₂ → Agrees (machineOf q m) calls log (machineOf q₂ m₂)
-runs-agree done = record { says = refl; ends = refl }
-runs-agree (next {q} {m = m} {m₁} {c = c} r h k) = one-more (hands-same q m c r m₁ h) (runs-agree k)
+runs-agree run-none = record { says = refl; ends = refl }
+runs-agree (run-one {q} {m = m} {m₁} {c = c} r h k) = one-more (hands-same q m c r m₁ h) (runs-agree k)
 
 -- ---- an opening
 -- a refused one has a number: 4 to 8 are the table's own, and are not 0 where they refuse
@@ -211,5 +208,5 @@ alike-records table₁ table₂ same memory o₁ o₂ w₁ w₂ calls₁ calls�
 pub records-sound : RecordsSound
 records-sound table memory o w calls log q left run =
     let a = runs-agree run in
-    let e : contentsOf q ≡ leaves (machineOf (o .queue) memory) calls .queue = ap (λ (m : Machine). m .queue) (sym (a .ends)) in
+    let e : contentsOf q ≡ machineAfter (machineOf (o .queue) memory) calls .queue = ap (λ (m : Machine). m .queue) (sym (a .ends)) in
     rw e (reached-sound (groupsOf table) memory (machineOf (o .queue) memory) (opening w) calls)

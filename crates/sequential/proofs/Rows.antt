@@ -14,21 +14,22 @@ use Rattle.queue.specs.declared.arguments.Argument.{Argument}
 use Rattle.queue.specs.declared.arguments.Argument.the-variants.{LoadAddress, StoreAddress, StoreData}
 use Rattle.queue.specs.Ruled.{isSome}
 use Rattle.queue.specs.Contents.{Load, Store}
-use Rattle.queue.proofs.Lists.{false-true, and-left, and-right, and-both}
+use Rattle.number.proofs.Both.{and-left, and-right}
+use Rattle.queue.proofs.Lists.{false-true, and-both}
 use Rattle.sequential.specs.Plain.{Rows, nextOf, usedUp}
 use Rattle.sequential.specs.Plain.{consOption}
-use Rattle.sequential.proofs.Log.{Entry, ofLoad, ofStore, Kind, ownIn}
-use Rattle.sequential.proofs.MemoryInvariant.{fits}
+use Rattle.sequential.proofs.Log.{LogEntry, ofLoad, ofStore, LogKind, ownIn}
+use Rattle.sequential.proofs.MemoryInvariant.{valueFits}
 
 -- An entry's cell: none where the entry has no part in the row, else what it has, or none yet.
-abbrev pub Cell : Type 0
-Cell = Option (Option ℕ)
+abbrev pub RowCell : Type 0
+RowCell = Option (Option ℕ)
 
-abbrev pub cellFor : Bool → Option ℕ → Cell
+abbrev pub cellFor : Bool → Option ℕ → RowCell
 cellFor b o = pick b (some o) none
 
 -- the cells of the arguments of a kind and port, and of the values taken at a port
-abbrev pub given : Argument → ℕ → Entry → Cell
+abbrev pub given : Argument → ℕ → LogEntry → RowCell
 given LoadAddress port (ofLoad l) = cellFor (eqb (l .port) port) (l .address)
 given LoadAddress port (ofStore s) = none
 given StoreAddress port (ofLoad l) = none
@@ -36,45 +37,45 @@ given StoreAddress port (ofStore s) = cellFor (eqb (s .port) port) (s .address)
 given StoreData port (ofLoad l) = none
 given StoreData port (ofStore s) = cellFor (eqb (s .port) port) (s .word)
 
-abbrev pub valueTaken : ℕ → Entry → Cell
+abbrev pub valueTaken : ℕ → LogEntry → RowCell
 valueTaken port (ofLoad l) = cellFor (eqb (l .port) port) (pick (l .taken) (l .value) none)
 valueTaken port (ofStore s) = none
 
-abbrev pub fed : Cell → (List ℕ → Type 0) → List ℕ → Type 0
+abbrev pub fed : RowCell → (List ℕ → Type 0) → List ℕ → Type 0
 fed none rest row = rest row
 fed (some none) rest row = (row ≡ []) × rest []
 fed (some (some x)) rest row = (r : List ℕ) × (row ≡ x ∷ r) × rest r
 
-abbrev pub Row : (Entry → Cell) → List Entry → List ℕ → Type 0
+abbrev pub Row : (LogEntry → RowCell) → List LogEntry → List ℕ → Type 0
 Row cell [] row = row ≡ []
 Row cell (e ∷ es) row = fed (cell e) (Row cell es) row
 
 -- a cell that waits for a value
-abbrev pub lacking : Cell → Bool
+abbrev pub lacking : RowCell → Bool
 lacking none = false
 lacking (some none) = true
 lacking (some (some x)) = false
 
-abbrev pub hasNone : Cell → Bool
+abbrev pub hasNone : RowCell → Bool
 hasNone none = true
 hasNone (some none) = true
 hasNone (some (some x)) = false
 
-fed-map : (c : Cell) (P Q : List ℕ → Type 0) (f : List ℕ → List ℕ) → f [] ≡ [] → ((x : ℕ) (r : List ℕ) → f (x ∷ r) ≡ x ∷ f r) → ((r : List ℕ) → P r → Q (f r))
+fed-map : (c : RowCell) (P Q : List ℕ → Type 0) (f : List ℕ → List ℕ) → f [] ≡ [] → ((x : ℕ) (r : List ℕ) → f (x ∷ r) ≡ x ∷ f r) → ((r : List ℕ) → P r → Q (f r))
     → (row : List ℕ) → fed c P row → fed c Q (f row)
 fed-map none P Q f z s w row h = w row h
 fed-map (some none) P Q f z s w row h = (rw (h .0) z, rw z at (w [] (h .1)))
 fed-map (some (some x)) P Q f z s w row h = (f (h .0), rw (h .1) (s x (h .0)), w (h .0) (h .2))
 
-module _ (cell : Entry → Cell) where
+module _ (cell : LogEntry → RowCell) where
   -- an entry made anew with the same cell
-  pub row-same : (e e′ : Entry) → cell e ≡ cell e′ → (post pre : List Entry) (row : List ℕ) → Row cell (pre ++ e ∷ post) row → Row cell (pre ++ e′ ∷ post) row
+  pub row-same : (e e′ : LogEntry) → cell e ≡ cell e′ → (post pre : List LogEntry) (row : List ℕ) → Row cell (pre ++ e ∷ post) row → Row cell (pre ++ e′ ∷ post) row
   row-same e e′ same post [] row h = rw same at h
   row-same e e′ same post (d ∷ pre) row h =
       fed-map (cell d) (Row cell (pre ++ e ∷ post)) (Row cell (pre ++ e′ ∷ post)) (λ r. r) refl (λ x r. refl) (λ r k. row-same e e′ same post pre r k) row h
 
   -- the first cell that waits gets the value that joins the row
-  pub row-fill : (e e′ : Entry) (x : ℕ) → cell e ≡ some none → cell e′ ≡ some (some x) → (post pre : List Entry) → allOf (λ d. not (lacking (cell d))) pre ≡ true
+  pub row-fill : (e e′ : LogEntry) (x : ℕ) → cell e ≡ some none → cell e′ ≡ some (some x) → (post pre : List LogEntry) → allOf (λ d. not (lacking (cell d))) pre ≡ true
       → (row : List ℕ) → Row cell (pre ++ e ∷ post) row → Row cell (pre ++ e′ ∷ post) (row ++ x ∷ [])
   row-fill e e′ x waits filled post [] t row h = rw filled (start (rw waits at h))
     where
@@ -84,32 +85,32 @@ module _ (cell : Entry → Cell) where
       go (cell d) (and-left (not (lacking (cell d))) (allOf (λ d. not (lacking (cell d))) pre) t) h
       (λ r k. row-fill e e′ x waits filled post pre (and-right (not (lacking (cell d))) (allOf (λ d. not (lacking (cell d))) pre) t) r k)
     where
-      go : (c : Cell) → not (lacking c) ≡ true → fed c (Row cell (pre ++ e ∷ post)) row
+      go : (c : RowCell) → not (lacking c) ≡ true → fed c (Row cell (pre ++ e ∷ post)) row
           → ((r : List ℕ) → Row cell (pre ++ e ∷ post) r → Row cell (pre ++ e′ ∷ post) (r ++ x ∷ [])) → fed c (Row cell (pre ++ e′ ∷ post)) (row ++ x ∷ [])
       go none l k rec = rec row k
       go (some none) l k rec = false-true l
       go (some (some y)) l (r, is, k) rec = (r ++ x ∷ [], rw is, rec r k)
 
   -- entries that have nothing yet leave the row as it is
-  pub row-append : (new : List Entry) → allOf (λ d. hasNone (cell d)) new ≡ true → (es : List Entry) (row : List ℕ) → Row cell es row → Row cell (es ++ new) row
+  pub row-append : (new : List LogEntry) → allOf (λ d. hasNone (cell d)) new ≡ true → (es : List LogEntry) (row : List ℕ) → Row cell es row → Row cell (es ++ new) row
   row-append new t [] row h = rw h (empty new t)
     where
-      empty : (l : List Entry) → allOf (λ d. hasNone (cell d)) l ≡ true → Row cell l []
+      empty : (l : List LogEntry) → allOf (λ d. hasNone (cell d)) l ≡ true → Row cell l []
       empty [] u = refl
       empty (d ∷ l) u = go (cell d) (and-left (hasNone (cell d)) (allOf (λ d. hasNone (cell d)) l) u) (empty l (and-right (hasNone (cell d)) (allOf (λ d. hasNone (cell d)) l) u))
         where
-          go : (c : Cell) → hasNone c ≡ true → Row cell l [] → fed c (Row cell l) []
+          go : (c : RowCell) → hasNone c ≡ true → Row cell l [] → fed c (Row cell l) []
           go none u₁ k = k
           go (some none) u₁ k = (refl, k)
           go (some (some x)) u₁ k = false-true u₁
   row-append new t (d ∷ es) row h = fed-map (cell d) (Row cell es) (Row cell (es ++ new)) (λ r. r) refl (λ x r. refl) (λ r k. row-append new t es r k) row h
 
   -- a row that is as long as it has cells leaves none waiting
-  pub row-full : (es : List Entry) (row : List ℕ) → Row cell es row → length row ≡ countWhere (λ d. isSome (cell d)) es → allOf (λ d. not (lacking (cell d))) es ≡ true
+  pub row-full : (es : List LogEntry) (row : List ℕ) → Row cell es row → length row ≡ countWhere (λ d. isSome (cell d)) es → allOf (λ d. not (lacking (cell d))) es ≡ true
   row-full [] row h e = refl
   row-full (d ∷ es) row h e = go (cell d) h e (λ r k l. row-full es r k l)
     where
-      go : (c : Cell) → fed c (Row cell es) row → length row ≡ pick (isSome c) (suc (countWhere (λ d. isSome (cell d)) es)) (countWhere (λ d. isSome (cell d)) es)
+      go : (c : RowCell) → fed c (Row cell es) row → length row ≡ pick (isSome c) (suc (countWhere (λ d. isSome (cell d)) es)) (countWhere (λ d. isSome (cell d)) es)
           → ((r : List ℕ) → Row cell es r → length r ≡ countWhere (λ d. isSome (cell d)) es → allOf (λ d. not (lacking (cell d))) es ≡ true)
           → not (lacking c) && allOf (λ d. not (lacking (cell d))) es ≡ true
       go none k l rec = rec row k l
@@ -117,7 +118,7 @@ module _ (cell : Entry → Cell) where
       go (some (some x)) (r, is, k) l rec = let z : length row ≡ suc (length r) = ap length is in rec r k (omega arith)
 
 -- a row for each port: the port's first cell that waits gets the value, and the other ports' rows are as they were
-pub row-of-port : (cell : ℕ → Entry → Cell) (e e′ : Entry) (x port : ℕ) (pre post : List Entry) → cell port e ≡ some none → cell port e′ ≡ some (some x)
+pub row-of-port : (cell : ℕ → LogEntry → RowCell) (e e′ : LogEntry) (x port : ℕ) (pre post : List LogEntry) → cell port e ≡ some none → cell port e′ ≡ some (some x)
     → allOf (λ d. not (lacking (cell port d))) pre ≡ true → ((p : ℕ) → eqb port p ≡ false → cell p e ≡ cell p e′)
     → (rows : ℕ → List ℕ) → ((p : ℕ) → Row (cell p) (pre ++ e ∷ post) (rows p)) → (p : ℕ) → Row (cell p) (pre ++ e′ ∷ post) (rows p ++ pick (eqb port p) (x ∷ []) [])
 row-of-port cell e e′ x port pre post waits filled t other rows h p = go (eqb port p) refl
@@ -128,8 +129,8 @@ row-of-port cell e e′ x port pre post waits filled t other rows h p = go (eqb 
     go false differs = rw (append-nil (rows p)) (row-same (cell p) e e′ (other p differs) post pre (rows p) (h p))
 
 -- no cell before waits, where no entry of the kind does
-pub none-waits : {A : Type 0} (K : Kind A) (cell : Entry → Cell) → ((e : Entry) → K .own e ≡ none → not (lacking (cell e)) ≡ true)
-    → (pre : List Entry) → allOf (λ a. not (lacking (cell (K .put a)))) (ownIn K pre) ≡ true → allOf (λ d. not (lacking (cell d))) pre ≡ true
+pub none-waits : {A : Type 0} (K : LogKind A) (cell : LogEntry → RowCell) → ((e : LogEntry) → K .own e ≡ none → not (lacking (cell e)) ≡ true)
+    → (pre : List LogEntry) → allOf (λ a. not (lacking (cell (K .put a)))) (ownIn K pre) ≡ true → allOf (λ d. not (lacking (cell d))) pre ≡ true
 none-waits K cell other [] t = refl
 none-waits {A} K cell other (e ∷ pre) t = go (K .own e) refl t (λ k. none-waits K cell other pre k)
   where
@@ -143,7 +144,7 @@ none-waits {A} K cell other (e ∷ pre) t = go (K .own e) refl t (λ k. none-wai
 
 -- ---- the plain run takes from the rows what the entries have
 
-pub fed-fits : (o : Option ℕ) (P : List ℕ → Type 0) (row : List ℕ) (filled : ℕ) → fed (some o) P row → fits o (nextOf row filled)
+pub fed-fits : (o : Option ℕ) (P : List ℕ → Type 0) (row : List ℕ) (filled : ℕ) → fed (some o) P row → valueFits o (nextOf row filled)
 fed-fits none P row filled h = tt
 fed-fits (some x) P row filled (r, is, h) = rw is
 
@@ -169,31 +170,31 @@ fed-used a b o P row h = rw (eqb-turned b a) (go (eqb a b) h)
     go false k = k
 
 -- every row beside the log
-abbrev pub AllRows : List Entry → Rows → Type 0
+abbrev pub AllRows : List LogEntry → Rows → Type 0
 AllRows es rows = (kind : Argument) (port : ℕ) → Row (given kind port) es (rows kind port)
 
-pub rows-after-load : (l : Load) (es : List Entry) (rows : Rows) → AllRows (ofLoad l ∷ es) rows → AllRows es (usedUp LoadAddress (l .port) rows)
+pub rows-after-load : (l : Load) (es : List LogEntry) (rows : Rows) → AllRows (ofLoad l ∷ es) rows → AllRows es (usedUp LoadAddress (l .port) rows)
 rows-after-load l es rows h LoadAddress port = fed-used (l .port) port (l .address) (Row (given LoadAddress port) es) (rows LoadAddress port) (h LoadAddress port)
 rows-after-load l es rows h StoreAddress port = h StoreAddress port
 rows-after-load l es rows h StoreData port = h StoreData port
 
-pub rows-after-store : (s : Store) (es : List Entry) (rows : Rows) → AllRows (ofStore s ∷ es) rows → AllRows es (usedUp StoreData (s .port) (usedUp StoreAddress (s .port) rows))
+pub rows-after-store : (s : Store) (es : List LogEntry) (rows : Rows) → AllRows (ofStore s ∷ es) rows → AllRows es (usedUp StoreData (s .port) (usedUp StoreAddress (s .port) rows))
 rows-after-store s es rows h LoadAddress port = h LoadAddress port
 rows-after-store s es rows h StoreAddress port = fed-used (s .port) port (s .address) (Row (given StoreAddress port) es) (rows StoreAddress port) (h StoreAddress port)
 rows-after-store s es rows h StoreData port = fed-used (s .port) port (s .word) (Row (given StoreData port) es) (rows StoreData port) (h StoreData port)
 
 -- what the plain run takes completes the entry
-pub load-fits : (l : Load) (es : List Entry) (rows : Rows) (filled : ℕ) → AllRows (ofLoad l ∷ es) rows → fits (l .address) (nextOf (rows LoadAddress (l .port)) filled)
+pub load-fits : (l : Load) (es : List LogEntry) (rows : Rows) (filled : ℕ) → AllRows (ofLoad l ∷ es) rows → valueFits (l .address) (nextOf (rows LoadAddress (l .port)) filled)
 load-fits l es rows filled h =
     fed-fits (l .address) (Row (given LoadAddress (l .port)) es) (rows LoadAddress (l .port)) filled
     (rw (eqb-self (l .port)) at (h LoadAddress (l .port)))
 
-pub store-fits : (s : Store) (es : List Entry) (rows : Rows) (filled : ℕ) → AllRows (ofStore s ∷ es) rows → fits (s .address) (nextOf (rows StoreAddress (s .port)) filled)
+pub store-fits : (s : Store) (es : List LogEntry) (rows : Rows) (filled : ℕ) → AllRows (ofStore s ∷ es) rows → valueFits (s .address) (nextOf (rows StoreAddress (s .port)) filled)
 store-fits s es rows filled h =
     fed-fits (s .address) (Row (given StoreAddress (s .port)) es) (rows StoreAddress (s .port)) filled
     (rw (eqb-self (s .port)) at (h StoreAddress (s .port)))
 
-pub word-fits : (s : Store) (es : List Entry) (rows : Rows) (filled : ℕ) → AllRows (ofStore s ∷ es) rows → fits (s .word) (nextOf (rows StoreData (s .port)) filled)
+pub word-fits : (s : Store) (es : List LogEntry) (rows : Rows) (filled : ℕ) → AllRows (ofStore s ∷ es) rows → valueFits (s .word) (nextOf (rows StoreData (s .port)) filled)
 word-fits s es rows filled h =
     fed-fits (s .word) (Row (given StoreData (s .port)) es) (rows StoreData (s .port)) filled
     (rw (eqb-self (s .port)) at (h StoreData (s .port)))

@@ -29,14 +29,14 @@ use Rattle.queue.specs.Ready.{ready}
 use Rattle.queue.specs.Counts.{counted}
 use Rattle.queue.specs.Outcome.{Moves, Takes, Serves, Writes, Opens, withCounts}
 use Rattle.queue.specs.Parts.{queueOf, answered}
-use Rattle.queue.proofs.Lists.{and-left, and-right}
+use Rattle.number.proofs.Both.{and-left, and-right}
 use Rattle.queue.proofs.SoundLaws.{within-most}
 use Rattle.sequential.specs.Calls.{Call, Activate, Give, Serve, Write, Take, Ready}
-use Rattle.sequential.specs.Call.{Machine, Step, Answered, moved, served, written, taken, step}
-use Rattle.sequential.specs.Records.{logged, Hands, done, next, machineOf, OpenedRecord}
+use Rattle.sequential.specs.Answers.{Machine, Response, Answered, moveResponse, serveResponse, writeResponse, takeResponse, step, machine}
+use Rattle.sequential.specs.Records.{answeredWith, Hands, run-none, run-one, machineOf, OpenedRecord}
 use Rattle.sequential.specs.Demand3.{Opening}
-use Rattle.sequential.specs.RunsExist.{fits, argumentFits, StoredEntries, Stored, StoredOutcome, Throughout, SomeRun, RunsExist, OpeningsExist}
-use Rattle.sequential.proofs.State.{Limits, State}
+use Rattle.sequential.specs.RunsExist.{bitsFit, argumentFits, StoredEntries, Stored, StoredOutcome, Throughout, SomeRun, RunsExist, OpeningsExist}
+use Rattle.sequential.proofs.Invariant.{Limits, Invariant}
 use Rattle.sequential.proofs.Run.{limits-opened, opening-state, step-keeps}
 use Rattle.sequential.proofs.ReachedSound.{holds-sound}
 use Rattle.sequential.proofs.RecordsDemand3.{Same, hands-same, open-refuses, opening}
@@ -45,7 +45,7 @@ use Rattle.sequential.proofs.Fits.{Fits, Fitting, step-fits}
 
 -- ---- one call
 -- something that it may hand over: the queue that follows is the very one, or the record of what the definitions' step leaves
-record Next (q : Queue) (s : Step) (Given : Outcome → List ℕ → Type 0) : Type 0 where
+record Next (q : Queue) (s : Response) (Given : Outcome → List ℕ → Type 0) : Type 0 where
   outcome : Outcome
   left : List ℕ
   given : Given outcome left
@@ -53,10 +53,10 @@ record Next (q : Queue) (s : Step) (Given : Outcome → List ℕ → Type 0) : T
 
 module _ (q : Queue) (m : List ℕ) where
   -- the record of what the step leaves holds it
-  abbrev Packed : Step → Type 0
+  abbrev Packed : Response → Type 0
   Packed s = contentsOf (recordOf (q .frame .table) (s .machine .queue)) ≡ s .machine .queue
 
-  moves-next : (rule : Ruled Contents) → Packed (moved (machineOf q m) rule) → Next q (moved (machineOf q m) rule) (λ r left. Moves q rule r × (left ≡ m))
+  moves-next : (rule : Ruled Contents) → Packed (moveResponse (machineOf q m) rule) → Next q (moveResponse (machineOf q m) rule) (λ r left. Moves q rule r × (left ≡ m))
   moves-next (refuse n) p = record { outcome = answered n q; left = m; given = (refl, refl); kept = inl refl }
   moves-next (accept c) p = record {
     outcome = record { answer = 0; value = Nothing; queue = recordOf (q .frame .table) c };
@@ -65,7 +65,7 @@ module _ (q : Queue) (m : List ℕ) where
     kept = inr refl;
   }
 
-  takes-next : (rule : Ruled Taken) → Packed (taken (machineOf q m) rule) → Next q (taken (machineOf q m) rule) (λ r left. Takes q rule r × (left ≡ m))
+  takes-next : (rule : Ruled Taken) → Packed (takeResponse (machineOf q m) rule) → Next q (takeResponse (machineOf q m) rule) (λ r left. Takes q rule r × (left ≡ m))
   takes-next (refuse n) p = record { outcome = answered n q; left = m; given = (refl, refl); kept = inl refl }
   takes-next (accept t) p = record {
     outcome = record { answer = 0; value = Word (t .value); queue = recordOf (q .frame .table) (t .queue) };
@@ -74,8 +74,8 @@ module _ (q : Queue) (m : List ℕ) where
     kept = inr refl;
   }
 
-  serves-next : (lent : Counts) (rule : Ruled Served) → Packed (served (machineOf q m) rule)
-      → Next q (served (machineOf q m) rule) (λ r left. ((counts : Counts) × Serves q lent rule (withCounts r counts)) × (left ≡ m))
+  serves-next : (lent : Counts) (rule : Ruled Served) → Packed (serveResponse (machineOf q m) rule)
+      → Next q (serveResponse (machineOf q m) rule) (λ r left. ((counts : Counts) × Serves q lent rule (withCounts r counts)) × (left ≡ m))
   serves-next lent (refuse n) p = record { outcome = answered n q; left = m; given = ((lent, refl), refl); kept = inl refl }
   serves-next lent (accept s) p = record {
     outcome = record { answer = 0; value = Word (s .value); queue = recordOf (q .frame .table) (s .queue) };
@@ -84,7 +84,7 @@ module _ (q : Queue) (m : List ℕ) where
     kept = inr refl;
   }
 
-  writes-next : (rule : Ruled Written) → Packed (written (machineOf q m) rule) → Next q (written (machineOf q m) rule) (Writes q m rule)
+  writes-next : (rule : Ruled Written) → Packed (writeResponse (machineOf q m) rule) → Next q (writeResponse (machineOf q m) rule) (Writes q m rule)
   writes-next (refuse n) p = record { outcome = answered n q; left = m; given = record { outcome = refl; memory-is = refl }; kept = inl refl }
   writes-next (accept w) p = record {
     outcome = record { answer = 0; value = Nothing; queue = recordOf (q .frame .table) (w .queue) };
@@ -105,19 +105,16 @@ groups-held : (q : Queue) → groupsOf (q .frame .table) ≡ contentsOf q .group
 unfolding contentsOf
 groups-held q = refl
 
-abbrev machine : Contents → List ℕ → Machine
-machine q m = record { queue = q; memory = m }
-
 -- ---- a call that a list has come to
 module _ (groups : List GroupPairs) (memory : List ℕ) (before : List Answered) (q : Queue) (m : List ℕ)
-    (st : State groups memory before (machineOf q m)) (f : Fits (machineOf q m)) (c : Call) (h : argumentFits c ≡ true) where
-  abbrev after : Step
+    (st : Invariant groups memory before (machineOf q m)) (f : Fits (machineOf q m)) (c : Call) (h : argumentFits c ≡ true) where
+  abbrev after : Response
   after = step (machineOf q m) c
 
   abbrev soFar : List Answered
   soFar = before ++ record { call = c; number = after .number; value = after .value } ∷ []
 
-  state : State groups memory soFar (after .machine)
+  state : Invariant groups memory soFar (after .machine)
   state = step-keeps groups memory before (machineOf q m) st c
 
   fitting : Fitting after
@@ -169,29 +166,29 @@ module _ (groups : List GroupPairs) (memory : List ℕ) (before : List Answered)
   -- a run of the calls that follow makes one of them all
   one-more : (calls : List Call) → SomeRun (chosen .outcome .queue) (chosen .left) calls → SomeRun q m (c ∷ calls)
   one-more calls rest = record {
-    log = logged c (chosen .outcome) ∷ rest .log;
+    log = answeredWith c (chosen .outcome) ∷ rest .log;
     last = rest .last;
     left = rest .left;
-    run = next (chosen .outcome) (chosen .given) (rest .run);
+    run = run-one (chosen .outcome) (chosen .given) (rest .run);
     stored = λ s. (handed s, subst (λ (t : Table). Throughout (StoredOutcome t) (rest .run)) table-kept (rest .stored (queue-stored s)));
   }
 
 -- ---- a list of calls
 some-run : (groups : List GroupPairs) (memory : List ℕ) (before : List Answered) (q : Queue) (m : List ℕ)
-    → State groups memory before (machineOf q m) → Fits (machineOf q m) → (calls : List Call) → allOf argumentFits calls ≡ true → SomeRun q m calls
-some-run groups memory before q m st f [] h = record { log = []; last = q; left = m; run = done; stored = λ s. tt }
+    → Invariant groups memory before (machineOf q m) → Fits (machineOf q m) → (calls : List Call) → allOf argumentFits calls ≡ true → SomeRun q m calls
+some-run groups memory before q m st f [] h = record { log = []; last = q; left = m; run = run-none; stored = λ s. tt }
 some-run groups memory before q m st f (c ∷ calls) h =
     let k : argumentFits c ≡ true = and-left (argumentFits c) (allOf argumentFits calls) h in
     let n : Next q (step (machineOf q m) c) (Hands q m c) = chosen groups memory before q m st f c k in
     let e : step (machineOf q m) c .machine ≡ machineOf (n .outcome .queue) (n .left) = is-machine groups memory before q m st f c k in
     one-more groups memory before q m st f c k calls
     (some-run groups memory (soFar groups memory before q m st f c k) (n .outcome .queue) (n .left)
-    (subst (State groups memory (soFar groups memory before q m st f c k)) e (state groups memory before q m st f c k))
+    (subst (Invariant groups memory (soFar groups memory before q m st f c k)) e (state groups memory before q m st f c k))
     (subst Fits e (fitting groups memory before q m st f c k .left))
     calls (and-right (argumentFits c) (allOf argumentFits calls) h))
 
 -- the opening: no entry yet
-opening-fits : {groups : List GroupPairs} {memory : List ℕ} {m : Machine} → Opening groups memory m → allOf (fits 32) memory ≡ true → Fits m
+opening-fits : {groups : List GroupPairs} {memory : List ℕ} {m : Machine} → Opening groups memory m → allOf (bitsFit 32) memory ≡ true → Fits m
 opening-fits {groups} {memory} {m} o words =
     let (limits, queue-is) = limits-opened groups (o .loadDepth) (o .storeDepth) (o .first) (length memory) (m .queue) (o .accepted) in
     subst Fits (ap₂ machine queue-is (sym (o .lent)))

@@ -19,10 +19,10 @@ use Rattle.queue.specs.Ready.{ready, Readies}
 use Rattle.queue.specs.Parts.{queueOf, whole, readiedOf, OpensFrame}
 use Rattle.queue.proofs.PartsLaws.{both-whole}
 use Rattle.sequential.specs.Calls.{Call, Activate, Give, Serve, Write, Take, Ready}
-use Rattle.sequential.specs.Call.{Answered}
-use Rattle.sequential.specs.Records.{Hands, Runs, done, next}
+use Rattle.sequential.specs.Answers.{Answered}
+use Rattle.sequential.specs.Records.{Hands, Runs, run-none, run-one}
 use Rattle.sequential.specs.RunsExist.{StoredEntries, Stored, StoredOutcome, Throughout, SomeRun}
-use Rattle.sequential.specs.RunsOnParts.{onEntries, HandsOnParts, RunsOnParts, ended, more, ThroughoutParts}
+use Rattle.sequential.specs.RunsOnParts.{onEntries, HandsOnParts, RunsOnParts, parts-none, parts-one, ThroughoutParts}
 use Rattle.sequential.specs.RunsOnParts.{ServeInHands, ReadyInHands, PartsAreRecords, PartsDemand3, RunsOnPartsExist}
 use Rattle.sequential.proofs.Run.{limits-opened}
 use Rattle.sequential.proofs.RecordsDemand3.{open-refuses, opened-frame, frames-demand3}
@@ -52,9 +52,9 @@ hands-on-record q m (Ready kind run) r left e w = rw e at w
 -- ---- a list of calls
 runs-on-record : {q q₂ : Queue} {m m₂ : List ℕ} {calls : List Call} {log : List Answered}
     → length (q .«load_entries») ≡ 64 → length (q .«store_entries») ≡ 64 → RunsOnParts q m calls log q₂ m₂ → Runs q m calls log q₂ m₂
-runs-on-record l s ended = done
-runs-on-record l s (more {q} {m = m} {m₁} {c = c} r h same k) =
-    next r
+runs-on-record l s parts-none = run-none
+runs-on-record l s (parts-one {q} {m = m} {m₁} {c = c} r h same k) =
+    run-one r
     (hands-on-record q m c r m₁ (both-whole (q .«load_entries») (q .«store_entries») l s) h)
     (runs-on-record (same .loads ∙ l) (same .stores ∙ s) k)
 
@@ -79,11 +79,11 @@ hands-on-parts q m (Ready kind run) r left e w = rw e w
 unfoldable runs-on-parts : {q q₂ : Queue} {m m₂ : List ℕ} {calls : List Call} {log : List Answered} (table : Table)
     → length (q .«load_entries») ≡ 64 → length (q .«store_entries») ≡ 64
     → (run : Runs q m calls log q₂ m₂) → Throughout (StoredOutcome table) run → RunsOnParts q m calls log q₂ m₂
-runs-on-parts table l s done t = ended
-runs-on-parts table l s (next {q} {m = m} {m₁} {c = c} r h k) (held, t) =
+runs-on-parts table l s run-none t = parts-none
+runs-on-parts table l s (run-one {q} {m = m} {m₁} {c = c} r h k) (held, t) =
     let l₁ : length (r .queue .«load_entries») ≡ 64 = held .queue .loadEntries .places in
     let s₁ : length (r .queue .«store_entries») ≡ 64 = held .queue .storeEntries .places in
-    more r
+    parts-one r
     (hands-on-parts q m c r m₁ (both-whole (q .«load_entries») (q .«store_entries») l s) h)
     (record { loads = l₁ ∙ sym l; stores = s₁ ∙ sym s })
     (runs-on-parts table l₁ s₁ k t)
@@ -92,8 +92,8 @@ parts-stored : {q q₂ : Queue} {m m₂ : List ℕ} {calls : List Call} {log : L
     (l : length (q .«load_entries») ≡ 64) (s : length (q .«store_entries») ≡ 64)
     (run : Runs q m calls log q₂ m₂) (t : Throughout (StoredOutcome table) run) → ThroughoutParts (StoredOutcome table) (runs-on-parts table l s run t)
 unfolding runs-on-parts
-parts-stored table l s done t = tt
-parts-stored table l s (next r h k) (held, t) = (held, parts-stored table (held .queue .loadEntries .places) (held .queue .storeEntries .places) k t)
+parts-stored table l s run-none t = tt
+parts-stored table l s (run-one r h k) (held, t) = (held, parts-stored table (held .queue .loadEntries .places) (held .queue .storeEntries .places) k t)
 
 -- an opened frame, with any two runs of 64 numbers, is one that a program holds
 frame-stored : (table : Table) (loadDepth storeDepth first : ℕ) (memory : List ℕ) (o : OpenedFrame) → first < 2 ^ 32

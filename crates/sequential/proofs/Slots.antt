@@ -11,13 +11,13 @@ use Rattle.queue.specs.Ruled.{isSome}
 use Rattle.queue.specs.Contents.{Load}
 use Rattle.queue.specs.Arguments.{loadWithAddress, storeWithAddress, storeWithWord}
 use Rattle.sequential.specs.Plain.{sameKind}
-use Rattle.sequential.proofs.Log.{Entry, ofLoad, ofStore, Kind, loads, stores}
+use Rattle.sequential.proofs.Log.{LogEntry, ofLoad, ofStore, LogKind, loads, stores}
 use Rattle.sequential.proofs.Rows.{given, valueTaken, cellFor}
 use Rattle.sequential.proofs.PlainRun.{accessOf}
-use Rattle.sequential.proofs.State.{served, written}
+use Rattle.sequential.proofs.Invariant.{isServed, isWritten}
 
 -- the place of an argument in the entries of a kind
-pub record Slot {A : Type 0} (K : Kind A) : Type 0 where
+pub record Slot {A : Type 0} (K : LogKind A) : Type 0 where
   pub kind : Argument
   pub port : A → ℕ
   pub has : A → Option ℕ
@@ -25,18 +25,18 @@ pub record Slot {A : Type 0} (K : Kind A) : Type 0 where
   -- its cell is what it has, and other cells are as they were
   pub cell : (p : ℕ) (a : A) → given kind p (K .put a) ≡ cellFor (eqb (port a) p) (has a)
   pub cellFilled : (p x : ℕ) (a : A) → given kind p (K .put (fill x a)) ≡ cellFor (eqb (port a) p) (some x)
-  pub cellOther : (p : ℕ) (e : Entry) → K .own e ≡ none → given kind p e ≡ none
+  pub cellOther : (p : ℕ) (e : LogEntry) → K .own e ≡ none → given kind p e ≡ none
   pub kindSame : sameKind kind kind ≡ true
   pub kindOther : (k : Argument) → (k ≡ kind) ⊎ ((sameKind kind k ≡ false) × ((p x : ℕ) (a : A) → given k p (K .put a) ≡ given k p (K .put (fill x a))))
   pub valueSame : (p x : ℕ) (a : A) → valueTaken p (K .put a) ≡ valueTaken p (K .put (fill x a))
   pub accessSame : (x : ℕ) (a : A) → accessOf (K .put (fill x a)) ≡ accessOf (K .put a)
-  pub servedSame : (x : ℕ) (a : A) → served (K .put (fill x a)) ≡ served (K .put a)
-  pub writtenSame : (x : ℕ) (a : A) → written (K .put (fill x a)) ≡ written (K .put a)
+  pub servedSame : (x : ℕ) (a : A) → isServed (K .put (fill x a)) ≡ isServed (K .put a)
+  pub writtenSame : (x : ℕ) (a : A) → isWritten (K .put (fill x a)) ≡ isWritten (K .put a)
   pub portBlind : (n : ℕ) (a : A) → port (K .remember n a) ≡ port a
   pub hasBlind : (n : ℕ) (a : A) → has (K .remember n a) ≡ has a
 
-abbrev pub lacks : {A : Type 0} {K : Kind A} → Slot K → ℕ → A → Bool
-lacks S p a = eqb (S .port a) p && not (isSome (S .has a))
+abbrev pub slotLacks : {A : Type 0} {K : LogKind A} → Slot K → ℕ → A → Bool
+slotLacks S p a = eqb (S .port a) p && not (isSome (S .has a))
 
 unfoldable pub loadAddresses : Slot loads
 loadAddresses = record {
@@ -57,12 +57,12 @@ loadAddresses = record {
   hasBlind = λ n l. refl;
 }
   where
-    other : (p : ℕ) (e : Entry) → loads .own e ≡ none → given LoadAddress p e ≡ none
+    other : (p : ℕ) (e : LogEntry) → loads .own e ≡ none → given LoadAddress p e ≡ none
     other p (ofLoad l) h = cc
     other p (ofStore s) h = refl
 
 -- where no entry of the kind stands, a store's slots have no cell
-pub store-other : (kind : Argument) → ((p : ℕ) (l : Load) → given kind p (ofLoad l) ≡ none) → (p : ℕ) (e : Entry) → stores .own e ≡ none → given kind p e ≡ none
+pub store-other : (kind : Argument) → ((p : ℕ) (l : Load) → given kind p (ofLoad l) ≡ none) → (p : ℕ) (e : LogEntry) → stores .own e ≡ none → given kind p e ≡ none
 store-other kind h p (ofLoad l) e = h p l
 store-other kind h p (ofStore s) e = cc
 

@@ -20,17 +20,18 @@ use Rattle.queue.specs.Ruled.{isSome}
 use Rattle.queue.specs.Entry.{numberOf, bit, Small}
 use Rattle.queue.specs.Contents.{Load, Store, Contents, loadOf, storeOf, loadIn, storeIn, contentsOf}
 use Rattle.queue.specs.Sound.{depthRight, memoryRight, addressRight, loadRight, storeRight, sound}
-use Rattle.queue.proofs.Lists.{and-left, and-right, all-join, all-weaken₂, all-map}
+use Rattle.number.proofs.Both.{and-left, and-right}
+use Rattle.queue.proofs.Lists.{all-join, all-weaken₂, all-map}
 use Rattle.queue.proofs.EntryLaws.{bit-small, entry-number}
 use Rattle.queue.proofs.SoundLaws.{within-most, Parts, parts}
-use Rattle.sequential.specs.RunsExist.{fits, wordFits, StoredEntries, Stored}
+use Rattle.sequential.specs.RunsExist.{bitsFit, wordFits, StoredEntries, Stored}
 
 -- what is true of every entry beside what a sound queue says: its port has five bits, and its word has 32
 abbrev pub loadFits : Load → Bool
-loadFits l = fits 5 (l .port) && wordFits (l .value)
+loadFits l = bitsFit 5 (l .port) && wordFits (l .value)
 
 abbrev pub storeFits : Store → Bool
-storeFits s = fits 5 (s .port) && wordFits (s .word)
+storeFits s = bitsFit 5 (s .port) && wordFits (s .word)
 
 -- ---- an entry of a load, of a store
 abbrev numberIn : Option ℕ → ℕ
@@ -81,21 +82,21 @@ address-small words (some a) m h = omega (arith, ltb-true a words h)
 module _ (words others : ℕ) (few : words ≤ 4096) (most : others ≤ 64) where
   load-small : (l : Load) → loadRight words others l ≡ true → loadFits l ≡ true → Small (entryOfLoad l)
   load-small l right h = record {
-    port = ltb-true (l .port) 32 (and-left (fits 5 (l .port)) (wordFits (l .value)) h);
+    port = ltb-true (l .port) 32 (and-left (bitsFit 5 (l .port)) (wordFits (l .value)) h);
     before = omega (arith, leb-true (l .before) others (and-left (leb (l .before) others) _ right));
     address = address-small words (l .address) few (and-right (leb (l .before) others) _ right);
-    word = word-small (l .value) (and-right (fits 5 (l .port)) (wordFits (l .value)) h);
+    word = word-small (l .value) (and-right (bitsFit 5 (l .port)) (wordFits (l .value)) h);
   }
 
   store-small : (s : Store) → storeRight words others s ≡ true → storeFits s ≡ true → Small (entryOfStore s)
   store-small s right h = record {
-    port = ltb-true (s .port) 32 (and-left (fits 5 (s .port)) (wordFits (s .word)) h);
+    port = ltb-true (s .port) 32 (and-left (bitsFit 5 (s .port)) (wordFits (s .word)) h);
     before = omega (arith, leb-true (s .before) others (and-left (leb (s .before) others) _ right));
     address = address-small words (s .address) few (and-right (leb (s .before) others) _ right);
-    word = word-small (s .word) (and-right (fits 5 (s .port)) (wordFits (s .word)) h);
+    word = word-small (s .word) (and-right (bitsFit 5 (s .port)) (wordFits (s .word)) h);
   }
 
-number-small : (e : Entry) → Small e → fits 64 (numberOf e) ≡ true
+number-small : (e : Entry) → Small e → bitsFit 64 (numberOf e) ≡ true
 unfolding numberOf
 number-small e s =
     lt-ltb (numberOf e) (2 ^ 64)
@@ -110,7 +111,7 @@ number-small e s =
 abbrev padded : List ℕ → List ℕ
 padded l = l ++ replicate (64 - length l) 0
 
-zeros-fit : (n : ℕ) → allOf (fits 64) (replicate n 0) ≡ true
+zeros-fit : (n : ℕ) → allOf (bitsFit 64) (replicate n 0) ≡ true
 zeros-fit zero = refl
 zeros-fit (suc n) = zeros-fit n
 
@@ -127,15 +128,15 @@ module _ {A : Type 0} (f : A → ℕ) (g : ℕ → A) (p r : A → Bool) where
       let m : length l ≤ length (padded (map f l)) = rw (length-append (map f l) (replicate (64 - length (map f l)) 0)) (omega arith) in
       ap (map g) (held-few 0 (length l) (padded (map f l)) m ∙ take-at (map f l) _ (length l) n) ∙ map-back back l h k
 
-  side-stored : ((x : A) → p x ≡ true → r x ≡ true → fits 64 (f x) ≡ true) → (l : List A) → length l ≤ 64 → allOf p l ≡ true → allOf r l ≡ true
+  side-stored : ((x : A) → p x ≡ true → r x ≡ true → bitsFit 64 (f x) ≡ true) → (l : List A) → length l ≤ 64 → allOf p l ≡ true → allOf r l ≡ true
       → StoredEntries (padded (map f l))
   side-stored small l few h k = record {
     places =
         rw (length-append (map f l) (replicate (64 - length (map f l)) 0), length-replicate {A = ℕ} (64 - length (map f l)) 0, length-map l f)
         (omega arith);
     numbers =
-        all-join (fits 64) (map f l) _
-        (all-map (fits 64) (λ x. fits 64 (f x)) f (λ x. refl) l ∙ all-weaken₂ p r (λ x. fits 64 (f x)) small l h k)
+        all-join (bitsFit 64) (map f l) _
+        (all-map (bitsFit 64) (λ x. bitsFit 64 (f x)) f (λ x. refl) l ∙ all-weaken₂ p r (λ x. bitsFit 64 (f x)) small l h k)
         (zeros-fit (64 - length (map f l)));
   }
 

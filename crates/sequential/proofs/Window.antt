@@ -20,47 +20,47 @@ use Rattle.queue.proofs.Lists.{false-true, all-left, all-right, all-join, all-t
 use Rattle.queue.proofs.Lists.{getElem?-map, map-same, failing-behind, getElem?-split, getElem?-seam, updateAt-seam}
 use Rattle.queue.proofs.Lists.{all-frontWhile, afterWhile-map, length-frontWhile-map}
 use Rattle.sequential.specs.Plain.{consOption}
-use Rattle.sequential.proofs.Log.{Entry, Kind, Opposite, Placed, place, entryOf, side, ownIn}
+use Rattle.sequential.proofs.Log.{LogEntry, LogKind, Opposite, Placed, place, placedEntry, side, ownIn}
 use Rattle.sequential.proofs.Log.{others, counting, side-append, map-side, side-length, side-before, side-split}
 
 -- an entry as the queue shows it, where `gone` of the other side have left
-abbrev pub shown : {A : Type 0} → Kind A → ℕ → Placed A → A
-shown K out x = K .remember (x .before - out) (x .entry)
+abbrev pub remembering : {A : Type 0} → LogKind A → ℕ → Placed A → A
+remembering K out x = K .remember (x .before - out) (x .entry)
 
-abbrev pub over : {A : Type 0} → Kind A → Placed A → Bool
-over K x = K .finished (x .entry)
+abbrev pub isOver : {A : Type 0} → LogKind A → Placed A → Bool
+isOver K x = K .finished (x .entry)
 
 -- one side, where `gone` of its own and `out` of the other side have left
-pub record Window {A : Type 0} (K : Kind A) (log : List Entry) (gone out : ℕ) (held : List A) : Type 0 where
+pub record Window {A : Type 0} (K : LogKind A) (log : List LogEntry) (gone out : ℕ) (held : List A) : Type 0 where
   pub old : List (Placed A)
   pub live : List (Placed A)
   pub parts : side K 0 log ≡ old ++ live
   pub many : length old ≡ gone
-  pub ended : allOf (over K) old ≡ true
-  pub shows : held ≡ map (shown K out) live
+  pub ended : allOf (isOver K) old ≡ true
+  pub shows : held ≡ map (remembering K out) live
 
 -- both sides
-pub record Windows {A B : Type 0} (K : Kind A) (K′ : Kind B) (log : List Entry) (held : List A) (held′ : List B) : Type 0 where
+pub record Windows {A B : Type 0} (K : LogKind A) (K′ : LogKind B) (log : List LogEntry) (held : List A) (held′ : List B) : Type 0 where
   pub gone : ℕ
   pub gone′ : ℕ
   pub ours : Window K log gone gone′ held
   pub theirs : Window K′ log gone′ gone held′
 
-pub turned : {A B : Type 0} {K : Kind A} {K′ : Kind B} {log : List Entry} {held : List A} {held′ : List B} → Windows K K′ log held held′ → Windows K′ K log held′ held
+pub turned : {A B : Type 0} {K : LogKind A} {K′ : LogKind B} {log : List LogEntry} {held : List A} {held′ : List B} → Windows K K′ log held held′ → Windows K′ K log held′ held
 turned w = record { gone = w .gone′; gone′ = w .gone; ours = w .theirs; theirs = w .ours }
 
 -- The entries of a kind in the first part of the log, beside those of them that are still queued: the others are finished.
-pub record Before {A : Type 0} (K : Kind A) (queued : List A) (pre : List Entry) : Type 0 where
+pub record Before {A : Type 0} (K : LogKind A) (queued : List A) (pre : List LogEntry) : Type 0 where
   pub out : ℕ
   pub past : List (Placed A)
   pub rest : List (Placed A)
-  pub parts : ownIn K pre ≡ map entryOf past ++ map entryOf rest
-  pub ended : allOf (over K) past ≡ true
-  pub shows : queued ≡ map (shown K out) rest
+  pub parts : ownIn K pre ≡ map placedEntry past ++ map placedEntry rest
+  pub ended : allOf (isOver K) past ≡ true
+  pub shows : queued ≡ map (remembering K out) rest
 
 -- A queued entry and its place in the log: all that the calls need of the window.
-pub record Located {A B : Type 0} (K : Kind A) (K′ : Kind B) (log : List Entry) (held : List A) (held′ : List B)
-    (i : ℕ) (pre : List Entry) (it : A) (post : List Entry) : Type 0 where
+pub record Located {A B : Type 0} (K : LogKind A) (K′ : LogKind B) (log : List LogEntry) (held : List A) (held′ : List B)
+    (i : ℕ) (pre : List LogEntry) (it : A) (post : List LogEntry) : Type 0 where
   pub log-is : log ≡ pre ++ K .put it ∷ post
   -- the queue shows it with this remembered number
   pub number : ℕ
@@ -73,32 +73,32 @@ pub record Located {A B : Type 0} (K : Kind A) (K′ : Kind B) (log : List Entry
 
 -- ---- what a test says of the queue's part it says of the log's, and back
 
-module _ {A : Type 0} {K : Kind A} {queued : List A} {pre : List Entry} (b : Before K queued pre) (p : A → Bool) (blind : (n : ℕ) (a : A) → p (K .remember n a) ≡ p a) where
+module _ {A : Type 0} {K : LogKind A} {queued : List A} {pre : List LogEntry} (b : Before K queued pre) (p : A → Bool) (blind : (n : ℕ) (a : A) → p (K .remember n a) ≡ p a) where
   -- the queue's part, for a test that does not look at remembered numbers
   queued-all : allOf p queued ≡ allOf (λ x. p (x .entry)) (b .rest)
-  queued-all = rw (b .shows) (all-map p (λ x. p (x .entry)) (shown K (b .out)) (λ x. blind (x .before - b .out) (x .entry)) (b .rest))
+  queued-all = rw (b .shows) (all-map p (λ x. p (x .entry)) (remembering K (b .out)) (λ x. blind (x .before - b .out) (x .entry)) (b .rest))
 
-  rest-all : allOf p (map entryOf (b .rest)) ≡ allOf (λ x. p (x .entry)) (b .rest)
-  rest-all = all-map p (λ x. p (x .entry)) entryOf (λ x. refl) (b .rest)
+  rest-all : allOf p (map placedEntry (b .rest)) ≡ allOf (λ x. p (x .entry)) (b .rest)
+  rest-all = all-map p (λ x. p (x .entry)) placedEntry (λ x. refl) (b .rest)
 
   -- from the log to the queue
   pub before-queued : allOf p (ownIn K pre) ≡ true → allOf p queued ≡ true
-  before-queued h = queued-all ∙ sym rest-all ∙ all-right p (map entryOf (b .past)) (map entryOf (b .rest)) (rw (b .parts) at h)
+  before-queued h = queued-all ∙ sym rest-all ∙ all-right p (map placedEntry (b .past)) (map placedEntry (b .rest)) (rw (b .parts) at h)
 
   -- what has left passes since it is finished, and right
   module _ (right : A → Bool) (w : (a : A) → right a ≡ true → K .finished a ≡ true → p a ≡ true) (h : allOf right (ownIn K pre) ≡ true) where
-    pub past-passes : allOf p (map entryOf (b .past)) ≡ true
+    pub past-passes : allOf p (map placedEntry (b .past)) ≡ true
     past-passes =
-        all-weaken₂ right (K .finished) p w (map entryOf (b .past)) (all-left right (map entryOf (b .past)) (map entryOf (b .rest)) (rw (b .parts) at h))
-        (all-map (K .finished) (over K) entryOf (λ x. refl) (b .past) ∙ b .ended)
+        all-weaken₂ right (K .finished) p w (map placedEntry (b .past)) (all-left right (map placedEntry (b .past)) (map placedEntry (b .rest)) (rw (b .parts) at h))
+        (all-map (K .finished) (isOver K) placedEntry (λ x. refl) (b .past) ∙ b .ended)
 
     -- from the queue to the log
     pub before-log : allOf p queued ≡ true → allOf p (ownIn K pre) ≡ true
-    before-log k = rw (b .parts) (all-join p (map entryOf (b .past)) (map entryOf (b .rest)) past-passes (rest-all ∙ sym queued-all ∙ k))
+    before-log k = rw (b .parts) (all-join p (map placedEntry (b .past)) (map placedEntry (b .rest)) past-passes (rest-all ∙ sym queued-all ∙ k))
 
-module _ {A B : Type 0} (K : Kind A) (K′ : Kind B) (opposite : Opposite K K′) where
+module _ {A B : Type 0} (K : LogKind A) (K′ : LogKind B) (opposite : Opposite K K′) where
   -- as many others as the other kind has
-  pub others-length : (es : List Entry) → others K es ≡ length (ownIn K′ es)
+  pub others-length : (es : List LogEntry) → others K es ≡ length (ownIn K′ es)
   others-length [] = refl
   others-length (e ∷ es) = go (K .own e) (K′ .own e) (opposite e) (others-length es)
     where
@@ -115,16 +115,16 @@ module _ {A B : Type 0} (K : Kind A) (K′ : Kind B) (opposite : Opposite K K′
       go none t = refl
       go (some b) t = false-true (sym t)
 
-  side-put : (n : ℕ) (a : A) (es : List Entry) → side K n (K .put a ∷ es) ≡ place n a ∷ side K n es
+  side-put : (n : ℕ) (a : A) (es : List LogEntry) → side K n (K .put a ∷ es) ≡ place n a ∷ side K n es
   side-put n a es = rw (K .own-put a)
 
   -- the other side does not see which entry of this kind it is
-  side′-put : (a a′ : A) (pre post : List Entry) → side K′ 0 (pre ++ K .put a ∷ post) ≡ side K′ 0 (pre ++ K .put a′ ∷ post)
+  side′-put : (a a′ : A) (pre post : List LogEntry) → side K′ 0 (pre ++ K .put a ∷ post) ≡ side K′ 0 (pre ++ K .put a′ ∷ post)
   side′-put a a′ pre post = rw (side-append K′ 0 pre (K .put a ∷ post), side-append K′ 0 pre (K .put a′ ∷ post), put-other a, put-other a′)
 
   -- ---- a queued entry, located
 
-  module _ {log : List Entry} (pre post : List Entry) (it : A) (log-is : log ≡ pre ++ K .put it ∷ post)
+  module _ {log : List LogEntry} (pre post : List LogEntry) (it : A) (log-is : log ≡ pre ++ K .put it ∷ post)
       {gone gone′ : ℕ} {held : List A} {held′ : List B} (w : Window K log gone gone′ held) (w′ : Window K′ log gone′ gone held′)
       (near : List (Placed A)) (pre-is : side K 0 pre ≡ w .old ++ near) where
     side-is : (a : A) → side K 0 (pre ++ K .put a ∷ post) ≡ w .old ++ (near ++ place (others K pre) a ∷ side K (others K pre) post)
@@ -135,23 +135,23 @@ module _ {A B : Type 0} (K : Kind A) (K′ : Kind B) (opposite : Opposite K K′
     live-is : w .live ≡ near ++ place (others K pre) it ∷ side K (others K pre) post
     live-is = append-cancel-left (w .old) (w .live) (near ++ place (others K pre) it ∷ side K (others K pre) post) (sym (w .parts) ∙ ap (side K 0) log-is ∙ side-is it)
 
-    held-is : held ≡ map (shown K gone′) near ++ shown K gone′ (place (others K pre) it) ∷ map (shown K gone′) (side K (others K pre) post)
-    held-is = rw (w .shows, live-is) (map-append (shown K gone′) near (place (others K pre) it ∷ side K (others K pre) post))
+    held-is : held ≡ map (remembering K gone′) near ++ remembering K gone′ (place (others K pre) it) ∷ map (remembering K gone′) (side K (others K pre) post)
+    held-is = rw (w .shows, live-is) (map-append (remembering K gone′) near (place (others K pre) it ∷ side K (others K pre) post))
 
-    i-is : length (map (shown K gone′) near) ≡ length near
-    i-is = length-map near (shown K gone′)
+    i-is : length (map (remembering K gone′) near) ≡ length near
+    i-is = length-map near (remembering K gone′)
 
-    located-at : getElem? held (length near) ≡ some (shown K gone′ (place (others K pre) it))
-    located-at = rw (held-is, ← i-is) (getElem?-seam (map (shown K gone′) near) (shown K gone′ (place (others K pre) it)) (map (shown K gone′) (side K (others K pre) post)))
+    located-at : getElem? held (length near) ≡ some (remembering K gone′ (place (others K pre) it))
+    located-at = rw (held-is, ← i-is) (getElem?-seam (map (remembering K gone′) near) (remembering K gone′ (place (others K pre) it)) (map (remembering K gone′) (side K (others K pre) post)))
 
     located-before : Before K (take (length near) held) pre
     located-before = record {
       out = gone′;
       past = w .old;
       rest = near;
-      parts = sym (map-side K 0 pre) ∙ ap (map entryOf) pre-is ∙ map-append entryOf (w .old) near;
+      parts = sym (map-side K 0 pre) ∙ ap (map placedEntry) pre-is ∙ map-append placedEntry (w .old) near;
       ended = w .ended;
-      shows = rw held-is (take-at (map (shown K gone′) near) (shown K gone′ (place (others K pre) it) ∷ map (shown K gone′) (side K (others K pre) post)) (length near) i-is);
+      shows = rw held-is (take-at (map (remembering K gone′) near) (remembering K gone′ (place (others K pre) it) ∷ map (remembering K gone′) (side K (others K pre) post)) (length near) i-is);
     }
 
     -- the other side's entries of the first part
@@ -167,16 +167,16 @@ module _ {A B : Type 0} (K : Kind A) (K′ : Kind B) (opposite : Opposite K K′
       out = gone;
       past = take (others K pre) (w′ .old);
       rest = take (others K pre - gone′) (w′ .live);
-      parts = sym (map-side K′ 0 pre) ∙ ap (map entryOf) side′-pre ∙ map-append entryOf (take (others K pre) (w′ .old)) (take (others K pre - gone′) (w′ .live));
-      ended = all-take (over K′) (others K pre) (w′ .old) (w′ .ended);
-      shows = rw (w′ .shows) (take-map (shown K′ gone) (others K pre - gone′) (w′ .live));
+      parts = sym (map-side K′ 0 pre) ∙ ap (map placedEntry) side′-pre ∙ map-append placedEntry (take (others K pre) (w′ .old)) (take (others K pre - gone′) (w′ .live));
+      ended = all-take (isOver K′) (others K pre) (w′ .old) (w′ .ended);
+      shows = rw (w′ .shows) (take-map (remembering K′ gone) (others K pre - gone′) (w′ .live));
     }
 
     updated : (f : A → A) → ((n : ℕ) (a : A) → f (K .remember n a) ≡ K .remember n (f a))
-        → updateAt f (length (map (shown K gone′) near)) (map (shown K gone′) near ++ shown K gone′ (place (others K pre) it) ∷ map (shown K gone′) (side K (others K pre) post))
-        ≡ map (shown K gone′) near ++ shown K gone′ (place (others K pre) (f it)) ∷ map (shown K gone′) (side K (others K pre) post)
+        → updateAt f (length (map (remembering K gone′) near)) (map (remembering K gone′) near ++ remembering K gone′ (place (others K pre) it) ∷ map (remembering K gone′) (side K (others K pre) post))
+        ≡ map (remembering K gone′) near ++ remembering K gone′ (place (others K pre) (f it)) ∷ map (remembering K gone′) (side K (others K pre) post)
     updated f blind =
-        updateAt-seam f (map (shown K gone′) near) (shown K gone′ (place (others K pre) it)) (map (shown K gone′) (side K (others K pre) post))
+        updateAt-seam f (map (remembering K gone′) near) (remembering K gone′ (place (others K pre) it)) (map (remembering K gone′) (side K (others K pre) post))
         ∙ rw (blind (others K pre - gone′) it)
 
     located-anew : (f : A → A) → ((n : ℕ) (a : A) → f (K .remember n a) ≡ K .remember n (f a)) → Windows K K′ (pre ++ K .put (f it) ∷ post) (updateAt f (length near) held) held′
@@ -189,7 +189,7 @@ module _ {A B : Type 0} (K : Kind A) (K′ : Kind B) (opposite : Opposite K K′
         parts = side-is (f it);
         many = w .many;
         ended = w .ended;
-        shows = rw (held-is, map-append (shown K gone′) near (place (others K pre) (f it) ∷ side K (others K pre) post), ← i-is) (updated f blind);
+        shows = rw (held-is, map-append (remembering K gone′) near (place (others K pre) (f it) ∷ side K (others K pre) post), ← i-is) (updated f blind);
       };
       theirs = record {
         old = w′ .old;
@@ -212,28 +212,28 @@ module _ {A B : Type 0} (K : Kind A) (K′ : Kind B) (opposite : Opposite K K′
     }
 
   -- the entry at a place of the queue
-  pub locate : {log : List Entry} {held : List A} {held′ : List B} → Windows K K′ log held held′ → (i : ℕ) {x : A} → getElem? held i ≡ some x
-      → (pre : List Entry) × (it : A) × (post : List Entry) × Located K K′ log held held′ i pre it post
-  locate {log} {held} {held′} w i {x} h = at-live (getElem?-map (shown K (w .gone′)) (w .ours .live) i (rw (w .ours .shows) at h))
+  pub locate : {log : List LogEntry} {held : List A} {held′ : List B} → Windows K K′ log held held′ → (i : ℕ) {x : A} → getElem? held i ≡ some x
+      → (pre : List LogEntry) × (it : A) × (post : List LogEntry) × Located K K′ log held held′ i pre it post
+  locate {log} {held} {held′} w i {x} h = at-live (getElem?-map (remembering K (w .gone′)) (w .ours .live) i (rw (w .ours .shows) at h))
     where
       at-log : (near far : List (Placed A)) (y : Placed A) → w .ours .live ≡ near ++ y ∷ far → length near ≡ i
-          → ((pre post : List Entry) × (log ≡ pre ++ K .put (y .entry) ∷ post) × (side K 0 pre ≡ w .ours .old ++ near))
-          → (pre : List Entry) × (it : A) × (post : List Entry) × Located K K′ log held held′ i pre it post
+          → ((pre post : List LogEntry) × (log ≡ pre ++ K .put (y .entry) ∷ post) × (side K 0 pre ≡ w .ours .old ++ near))
+          → (pre : List LogEntry) × (it : A) × (post : List LogEntry) × Located K K′ log held held′ i pre it post
       at-log near far y e l (pre, post, log-is, pre-is) = (pre, y .entry, post, rw l at (located pre post (y .entry) log-is (w .ours) (w .theirs) near pre-is))
 
       at-place : (y : Placed A) → ((near far : List (Placed A)) × (w .ours .live ≡ near ++ y ∷ far) × (length near ≡ i))
-          → (pre : List Entry) × (it : A) × (post : List Entry) × Located K K′ log held held′ i pre it post
+          → (pre : List LogEntry) × (it : A) × (post : List LogEntry) × Located K K′ log held held′ i pre it post
       at-place y (near, far, e, l) =
           at-log near far y e l (side-split K 0 log (w .ours .old ++ near) y far (w .ours .parts ∙ rw e (sym (append-assoc (w .ours .old) near (y ∷ far)))))
 
-      at-live : (y : Placed A) × (getElem? (w .ours .live) i ≡ some y) → (pre : List Entry) × (it : A) × (post : List Entry) × Located K K′ log held held′ i pre it post
+      at-live : (y : Placed A) × (getElem? (w .ours .live) i ≡ some y) → (pre : List LogEntry) × (it : A) × (post : List LogEntry) × Located K K′ log held held′ i pre it post
       at-live (y, e) = at-place y (getElem?-split (w .ours .live) i e)
 
   -- an unfinished entry of the log has a place in the queue
-  pub unfinished-queued : {log : List Entry} {held : List A} {held′ : List B} → Windows K K′ log held held′ → (pre : List Entry) (it : A) (post : List Entry)
+  pub unfinished-queued : {log : List LogEntry} {held : List A} {held′ : List B} → Windows K K′ log held held′ → (pre : List LogEntry) (it : A) (post : List LogEntry)
       → log ≡ pre ++ K .put it ∷ post → K .finished it ≡ false → (i : ℕ) × Located K K′ log held held′ i pre it post
   unfinished-queued {log} {held} {held′} w pre it post log-is f =
-      go (failing-behind (over K) (side K 0 pre) (place (others K pre) it) (side K (others K pre) post) (w .ours .old) (w .ours .live) parts (w .ours .ended) f)
+      go (failing-behind (isOver K) (side K 0 pre) (place (others K pre) it) (side K (others K pre) post) (w .ours .old) (w .ours .live) parts (w .ours .ended) f)
     where
       parts : side K 0 pre ++ place (others K pre) it ∷ side K (others K pre) post ≡ w .ours .old ++ w .ours .live
       parts = sym (side-append K 0 pre (K .put it ∷ post) ∙ rw (zero-add (others K pre), side-put (others K pre) it post)) ∙ ap (side K 0) (sym log-is) ∙ w .ours .parts
@@ -244,28 +244,28 @@ module _ {A B : Type 0} (K : Kind A) (K′ : Kind B) (opposite : Opposite K K′
   -- ---- the whole window
 
   -- all of the log, beside all that is queued
-  pub window-before : {log : List Entry} {gone out : ℕ} {held : List A} → Window K log gone out held → Before K held log
+  pub window-before : {log : List LogEntry} {gone out : ℕ} {held : List A} → Window K log gone out held → Before K held log
   window-before {log} {out = out} w = record {
     out = out;
     past = w .old;
     rest = w .live;
-    parts = sym (map-side K 0 log) ∙ ap (map entryOf) (w .parts) ∙ map-append entryOf (w .old) (w .live);
+    parts = sym (map-side K 0 log) ∙ ap (map placedEntry) (w .parts) ∙ map-append placedEntry (w .old) (w .live);
     ended = w .ended;
     shows = w .shows;
   }
 
   -- of the other side `gone` have left, and the others are queued
-  pub others-queued : (log : List Entry) {gone gone′ : ℕ} {held′ : List B} → Window K′ log gone′ gone held′ → others K log ≡ gone′ + length held′
+  pub others-queued : (log : List LogEntry) {gone gone′ : ℕ} {held′ : List B} → Window K′ log gone′ gone held′ → others K log ≡ gone′ + length held′
   others-queued log {gone} {gone′} {held′} w =
       others-length log ∙ sym (side-length K′ 0 log) ∙ ap length (w .parts) ∙ length-append (w .old) (w .live)
-      ∙ rw (w .many, w .shows, length-map (w .live) (shown K′ gone))
+      ∙ rw (w .many, w .shows, length-map (w .live) (remembering K′ gone))
 
   -- no entry remembers more of the other kind than are held
-  pub remembered-held : (log : List Entry) {gone gone′ : ℕ} {held : List A} {held′ : List B} → Window K log gone gone′ held → Window K′ log gone′ gone held′
+  pub remembered-held : (log : List LogEntry) {gone gone′ : ℕ} {held : List A} {held′ : List B} → Window K log gone gone′ held → Window K′ log gone′ gone held′
       → allOf (λ a. leb (K .remembered a) (length held′)) held ≡ true
   remembered-held log {gone} {gone′} {held} {held′} w w′ =
       rw (w .shows)
-      (all-map (λ a. leb (K .remembered a) (length held′)) (λ x. leb (x .before - gone′) (length held′)) (shown K gone′)
+      (all-map (λ a. leb (K .remembered a) (length held′)) (λ x. leb (x .before - gone′) (length held′)) (remembering K gone′)
       (λ x. rw (K .remembered-remember (x .before - gone′) (x .entry))) (w .live)
       ∙ all-weaken (λ x. leb (x .before) (others K log)) (λ x. leb (x .before - gone′) (length held′)) lower (w .live) (all-right (λ x. leb (x .before) (others K log)) (w .old) (w .live) known))
     where
@@ -279,35 +279,35 @@ module _ {A B : Type 0} (K : Kind A) (K′ : Kind B) (opposite : Opposite K K′
           le-leb (x .before - gone′) (length held′) (omega arith)
 
   -- new entries at the end of the log
-  pub window-append : (log : List Entry) {gone gone′ : ℕ} {held : List A} {held′ : List B} → Window K log gone gone′ held → Window K′ log gone′ gone held′
-      → (new : List Entry) → Window K (log ++ new) gone gone′ (held ++ map (shown K gone′) (side K (gone′ + length held′) new))
+  pub window-append : (log : List LogEntry) {gone gone′ : ℕ} {held : List A} {held′ : List B} → Window K log gone gone′ held → Window K′ log gone′ gone held′
+      → (new : List LogEntry) → Window K (log ++ new) gone gone′ (held ++ map (remembering K gone′) (side K (gone′ + length held′) new))
   window-append log {gone} {gone′} {held} {held′} w w′ new = record {
     old = w .old;
     live = w .live ++ side K (gone′ + length held′) new;
     parts = side-append K 0 log new ∙ rw (zero-add (others K log), others-queued log w′, w .parts) (append-assoc (w .old) (w .live) (side K (gone′ + length held′) new));
     many = w .many;
     ended = w .ended;
-    shows = rw (w .shows) (sym (map-append (shown K gone′) (w .live) (side K (gone′ + length held′) new)));
+    shows = rw (w .shows) (sym (map-append (remembering K gone′) (w .live) (side K (gone′ + length held′) new)));
   }
 
   -- finished entries leave this side, and j the other
   pub window-leave : (leave : ℕ → A → A) → ((j n : ℕ) (a : A) → leave j (K .remember n a) ≡ K .remember (n - j) a)
-      → {log : List Entry} {gone out : ℕ} {held : List A} → Window K log gone out held → (j : ℕ)
+      → {log : List LogEntry} {gone out : ℕ} {held : List A} → Window K log gone out held → (j : ℕ)
       → Window K log (gone + length (frontWhile (K .finished) held)) (out + j) (map (leave j) (afterWhile (K .finished) held))
   window-leave leave lowers {log} {gone} {out} {held} w j = record {
-    old = w .old ++ frontWhile (over K) (w .live);
-    live = afterWhile (over K) (w .live);
+    old = w .old ++ frontWhile (isOver K) (w .live);
+    live = afterWhile (isOver K) (w .live);
     parts =
-        w .parts ∙ ap (λ (l : List (Placed A)). w .old ++ l) (sym (frontWhile-afterWhile (over K) (w .live)))
-        ∙ sym (append-assoc (w .old) (frontWhile (over K) (w .live)) (afterWhile (over K) (w .live)));
+        w .parts ∙ ap (λ (l : List (Placed A)). w .old ++ l) (sym (frontWhile-afterWhile (isOver K) (w .live)))
+        ∙ sym (append-assoc (w .old) (frontWhile (isOver K) (w .live)) (afterWhile (isOver K) (w .live)));
     many =
-        length-append (w .old) (frontWhile (over K) (w .live))
-        ∙ rw (w .many, w .shows, length-frontWhile-map (K .finished) (over K) (shown K out) (λ x. K .finished-remember (x .before - out) (x .entry)) (w .live));
-    ended = all-join (over K) (w .old) (frontWhile (over K) (w .live)) (w .ended) (all-frontWhile (over K) (w .live));
+        length-append (w .old) (frontWhile (isOver K) (w .live))
+        ∙ rw (w .many, w .shows, length-frontWhile-map (K .finished) (isOver K) (remembering K out) (λ x. K .finished-remember (x .before - out) (x .entry)) (w .live));
+    ended = all-join (isOver K) (w .old) (frontWhile (isOver K) (w .live)) (w .ended) (all-frontWhile (isOver K) (w .live));
     shows =
-        rw (w .shows, afterWhile-map (K .finished) (over K) (shown K out) (λ x. K .finished-remember (x .before - out) (x .entry)) (w .live))
-        (map-map (leave j) (shown K out) (afterWhile (over K) (w .live)) ∙ map-same (λ x. leave j (shown K out x)) (shown K (out + j)) lower (afterWhile (over K) (w .live)));
+        rw (w .shows, afterWhile-map (K .finished) (isOver K) (remembering K out) (λ x. K .finished-remember (x .before - out) (x .entry)) (w .live))
+        (map-map (leave j) (remembering K out) (afterWhile (isOver K) (w .live)) ∙ map-same (λ x. leave j (remembering K out x)) (remembering K (out + j)) lower (afterWhile (isOver K) (w .live)));
   }
     where
-      lower : (x : Placed A) → leave j (shown K out x) ≡ shown K (out + j) x
+      lower : (x : Placed A) → leave j (remembering K out x) ≡ remembering K (out + j) x
       lower x = lowers j (x .before - out) (x .entry) ∙ ap (λ (n : ℕ). K .remember n (x .entry)) (omega arith)

@@ -23,8 +23,8 @@ use Rattle.queue.specs.Open.{openQueue}
 use Rattle.queue.specs.Serve.{serve}
 use Rattle.queue.specs.Write.{write}
 use Rattle.sequential.specs.Calls.{Call, Activate, Give, Serve, Write, Take, Ready}
-use Rattle.sequential.specs.Call.{Machine, Answered, answers, leaves}
-use Rattle.sequential.specs.Plain.{Told, Filling, gather, groupIn, rowsOf, accesses, consOption, plainLoads, plainMemory}
+use Rattle.sequential.specs.Answers.{Machine, Answered, answers, machineAfter}
+use Rattle.sequential.specs.Plain.{Told, Filling, gather, activationOf, rowsOf, accesses, consOption, plainLoads, plainMemory}
 
 -- which calls were answered 0: all that the plain run is told of the answers
 abbrev pub tell : Answered → Told
@@ -50,21 +50,21 @@ takenAt port (a ∷ rest) =
     (takenAt port rest)
 
 -- the serves and the writes among the accepted calls
-abbrev pub serveIn : Call → Option ℕ
-serveIn (Activate g) = none
-serveIn (Give kind p x) = none
-serveIn (Serve c s) = some s
-serveIn (Write s) = none
-serveIn (Take p) = none
-serveIn (Ready kind run) = none
+abbrev pub serveOf : Call → Option ℕ
+serveOf (Activate g) = none
+serveOf (Give kind p x) = none
+serveOf (Serve c s) = some s
+serveOf (Write s) = none
+serveOf (Take p) = none
+serveOf (Ready kind run) = none
 
-abbrev pub writeIn : Call → Option ℕ
-writeIn (Activate g) = none
-writeIn (Give kind p x) = none
-writeIn (Serve c s) = none
-writeIn (Write s) = some s
-writeIn (Take p) = none
-writeIn (Ready kind run) = none
+abbrev pub writeOf : Call → Option ℕ
+writeOf (Activate g) = none
+writeOf (Give kind p x) = none
+writeOf (Serve c s) = none
+writeOf (Write s) = some s
+writeOf (Take p) = none
+writeOf (Ready kind run) = none
 
 -- the loads and the stores among accesses
 abbrev pub isLoad : Access → Bool
@@ -87,13 +87,13 @@ uses StoreData port (store p) = eqb p port
 -- "A load is unserved while accepted serves are fewer than the loads of the accepted activations; a store is unwritten while
 -- accepted writes are fewer than their stores, and every store is written when they are as many."
 abbrev pub someUnserved : List GroupPairs → List Told → Type 0
-someUnserved groups ts = length (gather serveIn ts) < countWhere isLoad (accesses groups ts)
+someUnserved groups ts = length (gather serveOf ts) < countWhere isLoad (accesses groups ts)
 
 abbrev pub someUnwritten : List GroupPairs → List Told → Type 0
-someUnwritten groups ts = length (gather writeIn ts) < countWhere isStore (accesses groups ts)
+someUnwritten groups ts = length (gather writeOf ts) < countWhere isStore (accesses groups ts)
 
 abbrev pub allWritten : List GroupPairs → List Told → Type 0
-allWritten groups ts = length (gather writeIn ts) ≡ countWhere isStore (accesses groups ts)
+allWritten groups ts = length (gather writeOf ts) ≡ countWhere isStore (accesses groups ts)
 
 -- "All accesses have their arguments when each row is as long as its port has accesses in these activations."
 abbrev pub allArguments : List GroupPairs → List Told → Type 0
@@ -125,18 +125,18 @@ abbrev pub Demand3 : Type 0
 Demand3 =
     (groups : List GroupPairs) (memory : List ℕ) (m : Machine) → Opening groups memory m →
     (calls : List Call) (fill : Filling) → ((k : ℕ) → fill .address k < length memory) →
-    Sequential groups memory (answers m calls) (leaves m calls) fill
+    Sequential groups memory (answers m calls) (machineAfter m calls) fill
 
 -- No queue that a list of calls leads to is refused for its record: none of them gets 40.
 abbrev pub ReachedSound : Type 0
 ReachedSound =
     (groups : List GroupPairs) (memory : List ℕ) (m : Machine) → Opening groups memory m →
-    (calls : List Call) → sound (leaves m calls .queue) ≡ true
+    (calls : List Call) → sound (machineAfter m calls .queue) ≡ true
 
 -- "So two lists alike in table, opening memory, accepted activations and each port's accepted arguments give a port's nth
 -- take the same value, where both have one." The depths and first serials may differ, and so may all else in the lists.
 pub record Alike (a b : List Told) : Type 0 where
-  pub activations : gather groupIn a ≡ gather groupIn b
+  pub activations : gather activationOf a ≡ gather activationOf b
   pub arguments : (kind : Argument) (port : ℕ) → rowsOf a kind port ≡ rowsOf b kind port
 
 abbrev pub AlikeLists : Type 0

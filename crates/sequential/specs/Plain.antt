@@ -27,13 +27,13 @@ gather reading [] = []
 gather reading (t ∷ ts) = pick (t .accepted) (consOption (reading (t .call)) (gather reading ts)) (gather reading ts)
 
 -- the group of an activation
-abbrev pub groupIn : Call → Option ℕ
-groupIn (Activate g) = some g
-groupIn (Give kind p x) = none
-groupIn (Serve c s) = none
-groupIn (Write s) = none
-groupIn (Take p) = none
-groupIn (Ready kind run) = none
+abbrev pub activationOf : Call → Option ℕ
+activationOf (Activate g) = some g
+activationOf (Give kind p x) = none
+activationOf (Serve c s) = none
+activationOf (Write s) = none
+activationOf (Take p) = none
+activationOf (Ready kind run) = none
 
 -- is it this kind of argument
 abbrev pub sameKind : Argument → Argument → Bool
@@ -48,13 +48,13 @@ sameKind StoreData StoreAddress = false
 sameKind StoreData StoreData = true
 
 -- the argument of this kind for this port
-abbrev pub givenIn : Argument → ℕ → Call → Option ℕ
-givenIn kind port (Activate g) = none
-givenIn kind port (Give k p x) = pick (sameKind k kind && eqb p port) (some x) none
-givenIn kind port (Serve c s) = none
-givenIn kind port (Write s) = none
-givenIn kind port (Take p) = none
-givenIn kind port (Ready k run) = none
+abbrev pub argumentOf : Argument → ℕ → Call → Option ℕ
+argumentOf kind port (Activate g) = none
+argumentOf kind port (Give k p x) = pick (sameKind k kind && eqb p port) (some x) none
+argumentOf kind port (Serve c s) = none
+argumentOf kind port (Write s) = none
+argumentOf kind port (Take p) = none
+argumentOf kind port (Ready k run) = none
 
 -- "First it gathers rows in list order: accepted addresses for each load port, accepted addresses and accepted data for each
 -- store port." A row for each kind of argument and each port.
@@ -62,7 +62,7 @@ abbrev pub Rows : Type 0
 Rows = Argument → ℕ → List ℕ
 
 abbrev pub rowsOf : List Told → Rows
-rowsOf ts kind port = gather (givenIn kind port) ts
+rowsOf ts kind port = gather (argumentOf kind port) ts
 
 -- "It goes through the accepted activations in list order, and through each group's accesses in program order."
 abbrev pub accessesOf : Option GroupPairs → List Access
@@ -74,7 +74,7 @@ inOrder groups [] = []
 inOrder groups (g ∷ gs) = accessesOf (getElem? groups g) ++ inOrder groups gs
 
 abbrev pub accesses : List GroupPairs → List Told → List Access
-accesses groups ts = inOrder groups (gather groupIn ts)
+accesses groups ts = inOrder groups (gather activationOf ts)
 
 -- "Where a row has run out, any address below the memory length, or any word, is filled in, each chosen freely": what is
 -- chosen for the run's kth access.
@@ -92,50 +92,50 @@ abbrev pub usedUp : Argument → ℕ → Rows → Rows
 usedUp kind port rows k p = pick (sameKind k kind && eqb p port) (tail (rows k p)) (rows k p)
 
 -- "Its state is then a memory and what is left of the rows."
-pub record State : Type 0 where
+pub record PlainState : Type 0 where
   pub memory : List ℕ
   pub rows : Rows
 
 -- a value that a port loads
-pub record Loaded : Type 0 where
+pub record PortValue : Type 0 where
   pub port : ℕ
   pub value : ℕ
 
 -- "A load uses up the next address of its port's row; the memory word there is the next value its port loads."
-abbrev pub loadedAt : State → ℕ → ℕ → ℕ
+abbrev pub loadedAt : PlainState → ℕ → ℕ → ℕ
 loadedAt s port filled = getD (s .memory) (nextOf (s .rows LoadAddress port) filled) 0
 
-abbrev pub afterLoad : State → ℕ → State
+abbrev pub afterLoad : PlainState → ℕ → PlainState
 afterLoad s port = record { memory = s .memory; rows = usedUp LoadAddress port (s .rows) }
 
 -- "A store uses up the next address and the next data of its port's rows and puts the data there."
-abbrev pub afterStore : State → ℕ → ℕ → ℕ → State
+abbrev pub afterStore : PlainState → ℕ → ℕ → ℕ → PlainState
 afterStore s port filledAddress filledWord = record {
   memory = set (s .memory) (nextOf (s .rows StoreAddress port) filledAddress) (nextOf (s .rows StoreData port) filledWord);
   rows = usedUp StoreData port (usedUp StoreAddress port (s .rows));
 }
 
 -- The values loaded, and the memory at the end, of the accesses from the kth on.
-abbrev pub loadedFrom : Filling → ℕ → State → List Access → List Loaded
-loadedFrom fill k s [] = []
-loadedFrom fill k s (load p ∷ rest) = record { port = p; value = loadedAt s p (fill .address k) } ∷ loadedFrom fill (suc k) (afterLoad s p) rest
-loadedFrom fill k s (store p ∷ rest) = loadedFrom fill (suc k) (afterStore s p (fill .address k) (fill .word k)) rest
+abbrev pub valuesFrom : Filling → ℕ → PlainState → List Access → List PortValue
+valuesFrom fill k s [] = []
+valuesFrom fill k s (load p ∷ rest) = record { port = p; value = loadedAt s p (fill .address k) } ∷ valuesFrom fill (suc k) (afterLoad s p) rest
+valuesFrom fill k s (store p ∷ rest) = valuesFrom fill (suc k) (afterStore s p (fill .address k) (fill .word k)) rest
 
-abbrev pub memoryFrom : Filling → ℕ → State → List Access → List ℕ
+abbrev pub memoryFrom : Filling → ℕ → PlainState → List Access → List ℕ
 memoryFrom fill k s [] = s .memory
 memoryFrom fill k s (load p ∷ rest) = memoryFrom fill (suc k) (afterLoad s p) rest
 memoryFrom fill k s (store p ∷ rest) = memoryFrom fill (suc k) (afterStore s p (fill .address k) (fill .word k)) rest
 
-abbrev pub startOf : List ℕ → List Told → State
-startOf memory ts = record { memory = memory; rows = rowsOf ts }
+abbrev pub plainStart : List ℕ → List Told → PlainState
+plainStart memory ts = record { memory = memory; rows = rowsOf ts }
 
 -- The plain run: the values that a port loads, in order, and the memory that it leaves.
-abbrev pub valuesAt : ℕ → List Loaded → List ℕ
+abbrev pub valuesAt : ℕ → List PortValue → List ℕ
 valuesAt port [] = []
 valuesAt port (l ∷ ls) = pick (eqb (l .port) port) (l .value ∷ valuesAt port ls) (valuesAt port ls)
 
 unfoldable pub plainLoads : List GroupPairs → List ℕ → List Told → Filling → ℕ → List ℕ
-plainLoads groups memory ts fill port = valuesAt port (loadedFrom fill 0 (startOf memory ts) (accesses groups ts))
+plainLoads groups memory ts fill port = valuesAt port (valuesFrom fill 0 (plainStart memory ts) (accesses groups ts))
 
 unfoldable pub plainMemory : List GroupPairs → List ℕ → List Told → Filling → List ℕ
-plainMemory groups memory ts fill = memoryFrom fill 0 (startOf memory ts) (accesses groups ts)
+plainMemory groups memory ts fill = memoryFrom fill 0 (plainStart memory ts) (accesses groups ts)

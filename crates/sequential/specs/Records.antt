@@ -30,13 +30,13 @@ use Rattle.queue.specs.Ready.{ready, Readies, Fronts}
 use Rattle.queue.specs.Parts.{queueOf, answered, OpensFrame}
 use Rattle.queue.specs.Sound.{sound}
 use Rattle.sequential.specs.Calls.{Call, Activate, Give, Serve, Write, Take, Ready}
-use Rattle.sequential.specs.Call.{Machine, Answered}
+use Rattle.sequential.specs.Answers.{Machine, Answered}
 use Rattle.sequential.specs.Plain.{Filling}
 use Rattle.sequential.specs.Demand3.{told, takenAt, Sequential, Alike}
 
 -- a call with the answer and the value that it handed back
-abbrev pub logged : Call → Outcome → Answered
-logged c r = record { call = c; number = r .answer; value = valueIn (r .value) }
+abbrev pub answeredWith : Call → Outcome → Answered
+answeredWith c r = record { call = c; number = r .answer; value = valueIn (r .value) }
 
 -- What each call hands over, as its contract says: its answer, its value and the queue that follows, and beside them the memory
 -- that it leaves. "A call that isn't lent the memory leaves it as it was." Of the counts that a serve leaves, and of the run of
@@ -51,9 +51,9 @@ Hands q m (Ready kind run) r left = (handed r ≡ noValue (number (ready kind (c
 
 -- Calls on a queue and a memory, with their answers, up to the queue and the memory that they leave.
 pub data Runs : Queue → List ℕ → List Call → List Answered → Queue → List ℕ → Type 0 where
-  done : {q : Queue} {m : List ℕ} → Runs q m [] [] q m
-  next : {q q₂ : Queue} {m m₁ m₂ : List ℕ} {c : Call} {cs : List Call} {log : List Answered} (r : Outcome)
-      → Hands q m c r m₁ → Runs (r .queue) m₁ cs log q₂ m₂ → Runs q m (c ∷ cs) (logged c r ∷ log) q₂ m₂
+  run-none : {q : Queue} {m : List ℕ} → Runs q m [] [] q m
+  run-one : {q q₂ : Queue} {m m₁ m₂ : List ℕ} {c : Call} {cs : List Call} {log : List Answered} (r : Outcome)
+      → Hands q m c r m₁ → Runs (r .queue) m₁ cs log q₂ m₂ → Runs q m (c ∷ cs) (answeredWith c r ∷ log) q₂ m₂
 
 -- Two calls serve, and two tell what is ready; both contracts give the same premise. The contracts' own words stand before the
 -- last arrow: of `serve_counted`, of `serve`, of `ready_into` and of `ready`. The proofs are in proofs/RecordsDemand3.antt.

@@ -18,21 +18,21 @@ use Rattle.queue.specs.Ruled.{number}
 use Rattle.queue.specs.Open.{openQueue, noQueue}
 use Rattle.queue.specs.Outcome.{valueIn, Opens}
 use Rattle.sequential.specs.Calls.{Call, Activate, Give, Serve, Write, Take, Ready}
-use Rattle.sequential.specs.Call.{Answered}
-use Rattle.sequential.specs.Records.{Runs, done, next, OpenedRecord}
+use Rattle.sequential.specs.Answers.{Answered}
+use Rattle.sequential.specs.Records.{Runs, run-none, run-one, OpenedRecord}
 
 -- a number below 2 to the power `bits`; a word of 32 bits, where there is one
-abbrev pub fits : ℕ → ℕ → Bool
-fits bits n = ltb n (2 ^ bits)
+abbrev pub bitsFit : ℕ → ℕ → Bool
+bitsFit bits n = ltb n (2 ^ bits)
 
 abbrev pub wordFits : Option ℕ → Bool
 wordFits none = true
-wordFits (some w) = fits 32 w
+wordFits (some w) = bitsFit 32 w
 
 -- Of a call's numbers a queue keeps only an argument, which is of 32 bits. The others may be any numbers.
 abbrev pub argumentFits : Call → Bool
 argumentFits (Activate g) = true
-argumentFits (Give kind port x) = fits 32 x
+argumentFits (Give kind port x) = bitsFit 32 x
 argumentFits (Serve c s) = true
 argumentFits (Write s) = true
 argumentFits (Take p) = true
@@ -46,7 +46,7 @@ pub record StoredSide (s : Side) : Type 0 where
 
 pub record StoredEntries (l : List ℕ) : Type 0 where
   pub places : length l ≡ 64
-  pub numbers : allOf (fits 64) l ≡ true
+  pub numbers : allOf (bitsFit 64) l ≡ true
 
 pub record Stored (q : Queue) : Type 0 where
   pub words : q .frame .words < 2 ^ 16
@@ -61,13 +61,13 @@ pub record StoredOutcome (table : Table) (r : Outcome) (memory : List ℕ) : Typ
   pub value : wordFits (valueIn (r .value)) ≡ true
   pub queue : Stored (r .queue)
   pub table-is : r .queue .frame .table ≡ table
-  pub words : allOf (fits 32) memory ≡ true
+  pub words : allOf (bitsFit 32) memory ≡ true
 
 -- so it is after every call of a run
 abbrev pub Throughout : (Outcome → List ℕ → Type 0) → {q q₂ : Queue} {m m₂ : List ℕ} {calls : List Call} {log : List Answered} →
     Runs q m calls log q₂ m₂ → Type 0
-Throughout P done = Unit {0}
-Throughout P (next {m₁ = m₁} r hands run) = P r m₁ × Throughout P run
+Throughout P run-none = Unit {0}
+Throughout P (run-one {m₁ = m₁} r hands run) = P r m₁ × Throughout P run
 
 -- some run of these calls; where the first record is one that a program holds, so is all that the run hands over
 pub record SomeRun (q : Queue) (memory : List ℕ) (calls : List Call) : Type 0 where
@@ -89,6 +89,6 @@ OpeningsExist =
 -- A run exists: after an accepted opening, with any memory of the length opened for whose words are of 32 bits.
 abbrev pub RunsExist : Type 0
 RunsExist =
-    (table : Table) (memory : List ℕ) (o : Opened) → OpenedRecord table memory o → allOf (fits 32) memory ≡ true →
+    (table : Table) (memory : List ℕ) (o : Opened) → OpenedRecord table memory o → allOf (bitsFit 32) memory ≡ true →
     (calls : List Call) → allOf argumentFits calls ≡ true →
     SomeRun (o .queue) memory calls

@@ -28,11 +28,11 @@ use Rattle.queue.specs.Outcome.{handed, noValue, Moves, Takes, Serves, Writes, 
 use Rattle.queue.specs.Ready.{ready, Readies}
 use Rattle.queue.specs.Parts.{queueOf, onParts, answered, countedOf, readiedOf, OpensFrame}
 use Rattle.sequential.specs.Calls.{Call, Activate, Give, Serve, Write, Take, Ready}
-use Rattle.sequential.specs.Call.{Answered}
+use Rattle.sequential.specs.Answers.{Answered}
 use Rattle.sequential.specs.Plain.{Filling}
 use Rattle.sequential.specs.Demand3.{Sequential}
-use Rattle.sequential.specs.Records.{logged, machineOf, Runs}
-use Rattle.sequential.specs.RunsExist.{fits, argumentFits, StoredEntries, StoredOutcome}
+use Rattle.sequential.specs.Records.{answeredWith, machineOf, Runs}
+use Rattle.sequential.specs.RunsExist.{bitsFit, argumentFits, StoredEntries, StoredOutcome}
 
 -- a rule, on the runs of entries of the record that the parts make
 abbrev pub onEntries : {A : Type 0} → Queue → Ruled A → Ruled A
@@ -56,10 +56,10 @@ pub record SameLengths (q r : Queue) : Type 0 where
 
 -- Calls on the parts of a queue and a memory, with their answers, up to the parts and the memory that they leave.
 pub data RunsOnParts : Queue → List ℕ → List Call → List Answered → Queue → List ℕ → Type 0 where
-  ended : {q : Queue} {m : List ℕ} → RunsOnParts q m [] [] q m
-  more : {q q₂ : Queue} {m m₁ m₂ : List ℕ} {c : Call} {cs : List Call} {log : List Answered} (r : Outcome)
+  parts-none : {q : Queue} {m : List ℕ} → RunsOnParts q m [] [] q m
+  parts-one : {q q₂ : Queue} {m m₁ m₂ : List ℕ} {c : Call} {cs : List Call} {log : List Answered} (r : Outcome)
       → HandsOnParts q m c r m₁ → SameLengths q (r .queue) → RunsOnParts (r .queue) m₁ cs log q₂ m₂
-      → RunsOnParts q m (c ∷ cs) (logged c r ∷ log) q₂ m₂
+      → RunsOnParts q m (c ∷ cs) (answeredWith c r ∷ log) q₂ m₂
 
 -- The contracts of `serve_in` and of `ready_in` give what is handed over; those of the others say it as it stands.
 abbrev pub ServeInHands : Type 0
@@ -98,8 +98,8 @@ PartsDemand3 =
 -- so it is after every call of such a list
 abbrev pub ThroughoutParts : (Outcome → List ℕ → Type 0) → {q q₂ : Queue} {m m₂ : List ℕ} {calls : List Call} {log : List Answered} →
     RunsOnParts q m calls log q₂ m₂ → Type 0
-ThroughoutParts P ended = Unit {0}
-ThroughoutParts P (more {m₁ = m₁} r hands same run) = P r m₁ × ThroughoutParts P run
+ThroughoutParts P parts-none = Unit {0}
+ThroughoutParts P (parts-one {m₁ = m₁} r hands same run) = P r m₁ × ThroughoutParts P run
 
 -- And there is such a list of calls, as there is a run of records (`RunsExist`): all that it hands over is what a program holds.
 pub record SomeRunOnParts (q : Queue) (memory : List ℕ) (calls : List Call) : Type 0 where
@@ -116,6 +116,6 @@ RunsOnPartsExist =
     (freshFrame table loadDepth storeDepth first (length memory))
     (openQueue (groupsOf table) loadDepth storeDepth first (length memory))
     o → o .answer ≡ 0 →
-    (loads stores : List ℕ) → StoredEntries loads → StoredEntries stores → allOf (fits 32) memory ≡ true →
+    (loads stores : List ℕ) → StoredEntries loads → StoredEntries stores → allOf (bitsFit 32) memory ≡ true →
     (calls : List Call) → allOf argumentFits calls ≡ true →
     SomeRunOnParts (queueOf (o .frame) loads stores) memory calls

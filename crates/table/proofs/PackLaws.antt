@@ -13,7 +13,7 @@ use lib.Seq.{take-at, drop-at, set-at, append-snoc, drop-append-add, drop-drop}
 use Rattle.table.specs.declared.Pair.{Pair}
 use Rattle.table.specs.declared.read.NewGroup.{NewGroup}
 use Rattle.table.specs.declared.Table.{Table}
-use Rattle.number.specs.Basics.{pick, held, countWhere, flat, within, check}
+use Rattle.number.specs.Basics.{pick, held, countWhere, flatMap, within, check}
 use Rattle.number.specs.Refusal.{badGroupCount, badCounts}
 use Rattle.table.specs.Packed.{pairIn, packedPair, groupIn, packedGroup, SmallPair, SmallSpan}
 use Rattle.table.specs.Group.{GroupPairs, listOf, beforeStore}
@@ -194,9 +194,9 @@ spans-snoc load store [] g = rw (add-zero, add-zero)
 spans-snoc load store (x ∷ gs) g =
     rw (length-append, length-append, ← add-assoc, ← add-assoc, spans-snoc (load + length (x .loads)) (store + length (x .stores)) gs g)
 
-flat-snoc : {A B : Type 0} (f : A → List B) (xs : List A) (x : A) → flat f (xs ++ x ∷ []) ≡ flat f xs ++ f x
+flat-snoc : {A B : Type 0} (f : A → List B) (xs : List A) (x : A) → flatMap f (xs ++ x ∷ []) ≡ flatMap f xs ++ f x
 flat-snoc f [] x = append-nil (f x)
-flat-snoc f (y ∷ xs) x = rw (flat-snoc f xs x) (sym (append-assoc (f y) (flat f xs) (f x)))
+flat-snoc f (y ∷ xs) x = rw (flat-snoc f xs x) (sym (append-assoc (f y) (flatMap f xs) (f x)))
 
 drop-replicate : {A : Type 0} (n m : ℕ) (a : A) → drop n (replicate m a) ≡ replicate (m - n) a
 drop-replicate zero m a = rw sub-zero

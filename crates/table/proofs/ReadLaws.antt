@@ -16,12 +16,12 @@ use Rattle.table.specs.declared.read.PairsRead.{PairsRead}
 use Rattle.table.specs.declared.read.GroupRead.{GroupRead}
 use Rattle.table.specs.declared.read.GroupsRead.{GroupsRead}
 use Rattle.number.specs.Refusal.{badCounts}
-use Rattle.number.specs.Number.{Got, got, bad, andThen, require, readNumber, placeOf, accepts, refuses, reading, readIn, before}
+use Rattle.number.specs.Number.{Got, got, bad, thenRead, require, readNumber, placeOf, accepts, refuses, reading, readIn, before}
 use Rattle.table.specs.Packed.{pairIn, packedPair, SmallPair}
 use Rattle.table.specs.Group.{GroupPairs}
 use Rattle.table.specs.Table.{loadRule, storeRule, pairFault, pairsFault, seeing, countsRight, Seen, noneSeen, seenAfter, groupFault}
 use Rattle.table.specs.TableBytes.{unless, pair, readPairs, readGroup, readGroups, pack}
-use Rattle.table.specs.Internal.{Two, two, readTwo, pairsIn, packPairs, PairsFound, PairsResult, found, pairs-none, seenOf, groupMade, GroupFound}
+use Rattle.table.specs.Internal.{Two, twoNumbers, readTwo, pairsIn, packPairs, PairsFound, PairsResult, found, pairs-none, seenOf, groupMade, GroupFound}
 use Rattle.table.specs.Internal.{GroupResult, group-found, group-none, Growing, Grown, GroupsFound, GroupsResult, groups-found, groups-none}
 use Rattle.number.proofs.NumberLaws.{NumberGot, number-got, number-refused}
 use Rattle.table.proofs.PackedLaws.{pairs-read-back, map-append}
@@ -29,21 +29,21 @@ use Rattle.table.proofs.CheckLaws.{held-few}
 use Rattle.table.proofs.PackLaws.{Marks, marks-none, marks-room, marks-more, Packed, packed-none, packed-more}
 
 -- ---- two numbers
-pub two-step : {A : Type 0} (s : List ℕ) (k : ℕ → ℕ → List ℕ → Got A) → (andThen (readNumber s) λ x s₁. andThen (readNumber s₁) λ y s₂. k x y s₂) ≡ (andThen (readTwo s) λ t s₂. k (t .first) (t .second) s₂)
+pub two-step : {A : Type 0} (s : List ℕ) (k : ℕ → ℕ → List ℕ → Got A) → (thenRead (readNumber s) λ x s₁. thenRead (readNumber s₁) λ y s₂. k x y s₂) ≡ (thenRead (readTwo s) λ t s₂. k (t .first) (t .second) s₂)
 unfolding readTwo
 two-step {A} s k = first (readNumber s)
   where
-    second : (x : ℕ) (h : Got ℕ) → (andThen h λ y s₂. k x y s₂) ≡ (andThen (andThen h λ y s₂. got (two x y) s₂) λ t s₂. k (t .first) (t .second) s₂)
+    second : (x : ℕ) (h : Got ℕ) → (thenRead h λ y s₂. k x y s₂) ≡ (thenRead (thenRead h λ y s₂. got (twoNumbers x y) s₂) λ t s₂. k (t .first) (t .second) s₂)
     second x (got y s₂) = refl
     second x (bad n) = refl
 
-    first : (g : Got ℕ) → (andThen g λ x s₁. andThen (readNumber s₁) λ y s₂. k x y s₂) ≡ (andThen (andThen g λ x s₁. andThen (readNumber s₁) λ y s₂. got (two x y) s₂) λ t s₂. k (t .first) (t .second) s₂)
+    first : (g : Got ℕ) → (thenRead g λ x s₁. thenRead (readNumber s₁) λ y s₂. k x y s₂) ≡ (thenRead (thenRead g λ x s₁. thenRead (readNumber s₁) λ y s₂. got (twoNumbers x y) s₂) λ t s₂. k (t .first) (t .second) s₂)
     first (got x s₁) = second x (readNumber s₁)
     first (bad n) = refl
 
 -- what a call that read two numbers says of the bytes
 pub record TwoGot (s : List ℕ) (place x y next : ℕ) : Type 0 where
-  pub is : readTwo (drop place s) ≡ got (two x y) (drop next s)
+  pub is : readTwo (drop place s) ≡ got (twoNumbers x y) (drop next s)
   pub inside : next ≤ length s
 
 pub two-got : (s : List ℕ) (place : ℕ) {x y middle next : ℕ} → NumberGot s place x middle → NumberGot s middle y next → TwoGot s place x y next
@@ -51,27 +51,27 @@ unfolding readTwo
 two-got s place a b = record { is = rw (a .is, b .is); inside = b .inside }
 
 -- the same, read off the call's answer
-pub two-answer : (s : List ℕ) (place : ℕ) {x y next : ℕ} → accepts (reading (two x y) next) ≡ readIn s (readTwo (drop place s)) → TwoGot s place x y next
+pub two-answer : (s : List ℕ) (place : ℕ) {x y next : ℕ} → accepts (reading (twoNumbers x y) next) ≡ readIn s (readTwo (drop place s)) → TwoGot s place x y next
 unfolding readTwo
 two-answer s place {x} {y} {next} e = first (readNumber (drop place s)) refl e
   where
-    both : (a b m n : ℕ) → NumberGot s place a m → NumberGot s m b n → accepts (reading (two x y) next) ≡ accepts (reading (two a b) n) → TwoGot s place x y next
+    both : (a b m n : ℕ) → NumberGot s place a m → NumberGot s m b n → accepts (reading (twoNumbers x y) next) ≡ accepts (reading (twoNumbers a b) n) → TwoGot s place x y next
     both a b m n f g d =
-        let t : two x y ≡ two a b = cc in
+        let t : twoNumbers x y ≡ twoNumbers a b = cc in
         let p : x ≡ a = ap (λ (w : Two). w .first) t in
         let q : y ≡ b = ap (λ (w : Two). w .second) t in
         let r : next ≡ n = cc in
         rw (p, q, r) (two-got s place f g)
 
-    second : (a m : ℕ) → NumberGot s place a m → (h : Got ℕ) → readNumber (drop m s) ≡ h → accepts (reading (two x y) next) ≡ readIn s (andThen h λ b s₂. got (two a b) s₂) → TwoGot s place x y next
+    second : (a m : ℕ) → NumberGot s place a m → (h : Got ℕ) → readNumber (drop m s) ≡ h → accepts (reading (twoNumbers x y) next) ≡ readIn s (thenRead h λ b s₂. got (twoNumbers a b) s₂) → TwoGot s place x y next
     second a m f (got b s₂) g d = both a b m (placeOf s s₂) f (number-got s m (sym (ap (readIn s) g))) d
     second a m f (bad n) g d = let z : _≡_ {A = ℕ} 0 1 = cc in absurd (omega arith)
 
-    first : (g : Got ℕ) → readNumber (drop place s) ≡ g → accepts (reading (two x y) next) ≡ readIn s (andThen g λ a s₁. andThen (readNumber s₁) λ b s₂. got (two a b) s₂) → TwoGot s place x y next
+    first : (g : Got ℕ) → readNumber (drop place s) ≡ g → accepts (reading (twoNumbers x y) next) ≡ readIn s (thenRead g λ a s₁. thenRead (readNumber s₁) λ b s₂. got (twoNumbers a b) s₂) → TwoGot s place x y next
     first (got a s₁) f d =
         let w = number-got s place (sym (ap (readIn s) f)) in
         let t : s₁ ≡ drop (placeOf s s₁) s = cc (w .is) in
-        second a (placeOf s s₁) w (readNumber (drop (placeOf s s₁) s)) refl (d ∙ ap (λ l. readIn s (andThen (readNumber l) λ b s₂. got (two a b) s₂)) t)
+        second a (placeOf s s₁) w (readNumber (drop (placeOf s s₁) s)) refl (d ∙ ap (λ l. readIn s (thenRead (readNumber l) λ b s₂. got (twoNumbers a b) s₂)) t)
     first (bad n) f d = let z : _≡_ {A = ℕ} 0 1 = cc in absurd (omega arith)
 
 pub two-bad : (s : List ℕ) (place : ℕ) {k : ℕ} → refuses k ≡ readIn s (readTwo (drop place s)) → readTwo (drop place s) ≡ bad k
@@ -85,11 +85,11 @@ pub two-refused : (s : List ℕ) {k : ℕ} → readTwo s ≡ bad k → k ≡ 0 �
 unfolding readTwo
 two-refused s {k} e z = first (readNumber s) refl e
   where
-    second : (a : ℕ) (s₁ : List ℕ) (h : Got ℕ) → readNumber s₁ ≡ h → (andThen h λ b s₂. got (two a b) s₂) ≡ bad k → ⊥
+    second : (a : ℕ) (s₁ : List ℕ) (h : Got ℕ) → readNumber s₁ ≡ h → (thenRead h λ b s₂. got (twoNumbers a b) s₂) ≡ bad k → ⊥
     second a s₁ (got b s₂) f d = let q : _≡_ {A = ℕ} 0 1 = cc in omega arith
     second a s₁ (bad n) f d = let q : n ≡ k = cc in number-refused 4 15 s₁ f (q ∙ z)
 
-    first : (g : Got ℕ) → readNumber s ≡ g → (andThen g λ a s₁. andThen (readNumber s₁) λ b s₂. got (two a b) s₂) ≡ bad k → ⊥
+    first : (g : Got ℕ) → readNumber s ≡ g → (thenRead g λ a s₁. thenRead (readNumber s₁) λ b s₂. got (twoNumbers a b) s₂) ≡ bad k → ⊥
     first (got a s₁) f d = second a s₁ (readNumber s₁) refl d
     first (bad n) f d = let q : n ≡ k = cc in number-refused 4 15 s f (q ∙ z)
 
@@ -114,7 +114,7 @@ seeing-snoc [] p seen = refl
 seeing-snoc (q ∷ ps) p seen = seeing-snoc ps p (set seen (q .port) true)
 
 -- i of n pairs have been read into `places`, the rest of which is 0
-pub record Reading (rule : ℕ → ℕ → ℕ → Bool) (n : ℕ) (seen : List Bool) (s : List ℕ) (start i low : ℕ) (marks : List Bool) (place : ℕ) (places : List ℕ) : Type 0 where
+pub record PairsReading (rule : ℕ → ℕ → ℕ → Bool) (n : ℕ) (seen : List Bool) (s : List ℕ) (start i low : ℕ) (marks : List Bool) (place : ℕ) (places : List ℕ) : Type 0 where
   pub is : readPairs rule n 0 0 seen (drop start s) ≡ after (map pairIn (take i places)) (readPairs rule (n - i) low i marks (drop place s))
   pub packs : map packedPair (map pairIn (take i places)) ≡ take i places
   pub blank : drop i places ≡ replicate (32 - i) 0
@@ -122,7 +122,7 @@ pub record Reading (rule : ℕ → ℕ → ℕ → Bool) (n : ℕ) (seen : List 
   pub marks-are : marks ≡ seeing (map pairIn (take i places)) seen
   pub inside : place ≤ length s
 
-pub reading-none : {rule : ℕ → ℕ → ℕ → Bool} {n : ℕ} {seen : List Bool} {s : List ℕ} {start : ℕ} {places : List ℕ} → start ≤ length s → places ≡ replicate 32 0 → Reading rule n seen s start 0 0 seen start places
+pub reading-none : {rule : ℕ → ℕ → ℕ → Bool} {n : ℕ} {seen : List Bool} {s : List ℕ} {start : ℕ} {places : List ℕ} → start ≤ length s → places ≡ replicate 32 0 → PairsReading rule n seen s start 0 0 seen start places
 unfolding seeing
 reading-none {rule} {n} {seen} {s} {start} h e = record {
   is = rw sub-zero (after-nil (readPairs rule n 0 0 seen (drop start s)));
@@ -133,13 +133,13 @@ reading-none {rule} {n} {seen} {s} {start} h e = record {
   inside = h;
 }
 
-module _ {rule : ℕ → ℕ → ℕ → Bool} {n : ℕ} {seen : List Bool} {s : List ℕ} {start i low : ℕ} {marks : List Bool} {place : ℕ} {places : List ℕ} (w : Reading rule n seen s start i low marks place places) where
+module _ {rule : ℕ → ℕ → ℕ → Bool} {n : ℕ} {seen : List Bool} {s : List ℕ} {start i low : ℕ} {marks : List Bool} {place : ℕ} {places : List ℕ} (w : PairsReading rule n seen s start i low marks place places) where
   module _ (h : i < n) where
     one-less : n - i ≡ suc (n - (i + 1))
     one-less = omega arith
 
     -- what is left to read is a pair and the pairs after it
-    pub next-pair : readPairs rule (n - i) low i marks (drop place s) ≡ (andThen (readTwo (drop place s)) λ t s₂. unless (pairFault (rule low i (t .first)) marks (t .second)) (before (pair (t .first) (t .second)) (readPairs rule (n - (i + 1)) (t .first) (suc i) (set marks (t .second) true) s₂)))
+    pub next-pair : readPairs rule (n - i) low i marks (drop place s) ≡ (thenRead (readTwo (drop place s)) λ t s₂. unless (pairFault (rule low i (t .first)) marks (t .second)) (before (pair (t .first) (t .second)) (readPairs rule (n - (i + 1)) (t .first) (suc i) (set marks (t .second) true) s₂)))
     unfolding readPairs
     next-pair = rw one-less (two-step (drop place s) (λ x y s₂. unless (pairFault (rule low i x) marks y) (before (pair x y) (readPairs rule (n - (i + 1)) x (suc i) (set marks y true) s₂))))
 
@@ -150,7 +150,7 @@ module _ {rule : ℕ → ℕ → ℕ → Bool} {n : ℕ} {seen : List Bool} {s :
       pub reading-fault : {k : ℕ} → k ≡ pairFault (rule low i x) marks y → (k ≡ 0 → ⊥) → readPairs rule n 0 0 seen (drop start s) ≡ bad k
       reading-fault {k} e z = w .is ∙ rw (next-pair, g .is, ← e, ne-eqb k 0 z)
 
-      pub reading-more : n ≤ 16 → pairFault (rule low i x) marks y ≡ 0 → SmallPair (pair x y) → (number : ℕ) → number ≡ packedPair (pair x y) → Reading rule n seen s start (i + 1) x (set marks y true) next (set places i number)
+      pub reading-more : n ≤ 16 → pairFault (rule low i x) marks y ≡ 0 → SmallPair (pair x y) → (number : ℕ) → number ≡ packedPair (pair x y) → PairsReading rule n seen s start (i + 1) x (set marks y true) next (set places i number)
       reading-more few e small number is-packed =
           let l : i < length places = omega (arith, w .long) in
           let p : Pair = pair x y in
@@ -240,7 +240,7 @@ read-right rule (suc n) low i seen s {ps} {rest} e =
         let u : bad (suc k) ≡ got ps rest = rw t at d in
         let z : _≡_ {A = ℕ} 0 1 = cc in absurd (omega arith)
 
-    both : (g : Got Two) → ((x y : ℕ) (s₂ : List ℕ) (l : List Pair) (r : List ℕ) → readPairs rule n x (suc i) (set seen y true) s₂ ≡ got l r → (pairsFault rule x (suc i) (set seen y true) l ≡ 0) × (length l ≡ n)) → (andThen g λ t s₂. unless (pairFault (rule low i (t .first)) seen (t .second)) (before (pair (t .first) (t .second)) (readPairs rule n (t .first) (suc i) (set seen (t .second) true) s₂))) ≡ got ps rest → (pairsFault rule low i seen ps ≡ 0) × (length ps ≡ suc n)
+    both : (g : Got Two) → ((x y : ℕ) (s₂ : List ℕ) (l : List Pair) (r : List ℕ) → readPairs rule n x (suc i) (set seen y true) s₂ ≡ got l r → (pairsFault rule x (suc i) (set seen y true) l ≡ 0) × (length l ≡ n)) → (thenRead g λ t s₂. unless (pairFault (rule low i (t .first)) seen (t .second)) (before (pair (t .first) (t .second)) (readPairs rule n (t .first) (suc i) (set seen (t .second) true) s₂))) ≡ got ps rest → (pairsFault rule low i seen ps ≡ 0) × (length ps ≡ suc n)
     both (got t s₂) ih d = check-pair (t .first) (t .second) (readPairs rule n (t .first) (suc i) (set seen (t .second) true) s₂) (ih (t .first) (t .second) s₂) (pairFault (rule low i (t .first)) seen (t .second)) refl d
     both (bad k) ih d = let z : _≡_ {A = ℕ} 0 1 = cc in absurd (omega arith)
 
@@ -252,11 +252,11 @@ groupOf ls ss = record { loads = ls; stores = ss }
 abbrev groupRest : Seen → ℕ → ℕ → List ℕ → Got GroupPairs
 groupRest seen x y s₂ =
     require (countsRight x y) badCounts
-    (andThen (readPairs (loadRule y) x 0 0 (seen .loads) s₂) λ ls s₃.
-    andThen (readPairs (storeRule ls) y 0 0 (seen .stores) s₃) λ ss s₄.
+    (thenRead (readPairs (loadRule y) x 0 0 (seen .loads) s₂) λ ls s₃.
+    thenRead (readPairs (storeRule ls) y 0 0 (seen .stores) s₃) λ ss s₄.
     got (groupOf ls ss) s₄)
 
-group-two : (seen : Seen) (s : List ℕ) → readGroup seen s ≡ (andThen (readTwo s) λ t s₂. groupRest seen (t .first) (t .second) s₂)
+group-two : (seen : Seen) (s : List ℕ) → readGroup seen s ≡ (thenRead (readTwo s) λ t s₂. groupRest seen (t .first) (t .second) s₂)
 unfolding readGroup
 group-two seen s = two-step s (groupRest seen)
 
@@ -298,7 +298,7 @@ group-got (group-found {g} {rest} f) z = record { group = g; rest = rest; is = r
 group-got (group-none f) z = absurd (f .some (sym (f .is) ∙ z))
 
 -- the first i of n groups have been read into the table, which has `loads` and `stores` of them
-pub record Gathering (n : ℕ) (s : List ℕ) (start i : ℕ) (seen : Seen) (place : ℕ) (table : Table) (loads stores : ℕ) : Type 0 where
+pub record PairsGathering (n : ℕ) (s : List ℕ) (start i : ℕ) (seen : Seen) (place : ℕ) (table : Table) (loads stores : ℕ) : Type 0 where
   pub done : List GroupPairs
   pub is : readGroups n noneSeen (drop start s) ≡ after done (readGroups (n - i) seen (drop place s))
   pub many : length done ≡ i
@@ -306,7 +306,7 @@ pub record Gathering (n : ℕ) (s : List ℕ) (start i : ℕ) (seen : Seen) (pla
   pub marks : Marks seen loads stores
   pub inside : place ≤ length s
 
-pub gathering-none : {n : ℕ} {s : List ℕ} {start : ℕ} {table : Table} → start ≤ length s → table ≡ pack [] → Gathering n s start 0 noneSeen start table 0 0
+pub gathering-none : {n : ℕ} {s : List ℕ} {start : ℕ} {table : Table} → start ≤ length s → table ≡ pack [] → PairsGathering n s start 0 noneSeen start table 0 0
 gathering-none {n} {s} {start} h e = record {
   done = [];
   is = rw sub-zero (after-nil (readGroups n noneSeen (drop start s)));
@@ -316,8 +316,8 @@ gathering-none {n} {s} {start} h e = record {
   inside = h;
 }
 
-module _ {n : ℕ} {s : List ℕ} {start i : ℕ} {seen : Seen} {place : ℕ} {table : Table} {loads stores : ℕ} (w : Gathering n s start i seen place table loads stores) where
-  next-group : i < n → readGroups (n - i) seen (drop place s) ≡ (andThen (readGroup seen (drop place s)) λ g s₁. before g (readGroups (n - (i + 1)) (seenAfter g seen) s₁))
+module _ {n : ℕ} {s : List ℕ} {start i : ℕ} {seen : Seen} {place : ℕ} {table : Table} {loads stores : ℕ} (w : PairsGathering n s start i seen place table loads stores) where
+  next-group : i < n → readGroups (n - i) seen (drop place s) ≡ (thenRead (readGroup seen (drop place s)) λ g s₁. before g (readGroups (n - (i + 1)) (seenAfter g seen) s₁))
   unfolding readGroups
   next-group h = let e : n - i ≡ suc (n - (i + 1)) = omega arith in rw e
 
@@ -341,7 +341,7 @@ module _ {n : ℕ} {s : List ℕ} {start i : ℕ} {seen : Seen} {place : ℕ} {t
           stores-room = rw stores-count (m .1);
         }
 
-    pub gathering-more : {t : Table} → Grown table loads stores (r .group) t → Gathering n s start (i + 1) (seenOf (r .seen)) (r .next) t (loads + r .group .loads .count) (stores + r .group .stores .count)
+    pub gathering-more : {t : Table} → Grown table loads stores (r .group) t → PairsGathering n s start (i + 1) (seenOf (r .seen)) (r .next) t (loads + r .group .loads .count) (stores + r .group .stores .count)
     gathering-more v = record {
       done = w .done ++ g .group ∷ [];
       is = w .is ∙ rw (next-group h, g .is, g .told .rest-is, ← g .told .marks) (after-before (w .done) (g .group) (readGroups (n - (i + 1)) (seenOf (r .seen)) (drop (r .next) s)));

@@ -15,7 +15,7 @@ use Rattle.table.specs.declared.read.NewGroup.{NewGroup}
 use Rattle.table.specs.declared.read.PairsRead.{PairsRead}
 use Rattle.table.specs.declared.read.GroupRead.{GroupRead}
 use Rattle.table.specs.declared.read.GroupsRead.{GroupsRead}
-use Rattle.number.specs.Number.{Got, got, bad, andThen, readNumber, Reply, accepts, refuses, replyNumber, Reading, reading}
+use Rattle.number.specs.Number.{Got, got, bad, thenRead, readNumber, Reply, accepts, refuses, replyNumber, Reading, reading}
 use Rattle.table.specs.TableBytes.{filled, pack}
 use Rattle.table.specs.Packed.{packedGroup}
 use Rattle.number.specs.Basics.{pick}
@@ -61,15 +61,15 @@ pub record Two : Type 0 where
   pub first : ℕ
   pub second : ℕ
 
-abbrev pub two : ℕ → ℕ → Two
-two x y = record { first = x; second = y }
+abbrev pub twoNumbers : ℕ → ℕ → Two
+twoNumbers x y = record { first = x; second = y }
 
 unfoldable pub readTwo : List ℕ → Got Two
-readTwo s = andThen (readNumber s) λ x s₁. andThen (readNumber s₁) λ y s₂. got (two x y) s₂
+readTwo s = thenRead (readNumber s) λ x s₁. thenRead (readNumber s₁) λ y s₂. got (twoNumbers x y) s₂
 
 -- the number and the values of each case of `TwoRead`
 abbrev pub twoReply : TwoRead → Reply (Reading Two)
-twoReply (TwoRead.Two x y next) = accepts (reading (two x y) next)
+twoReply (TwoRead.Two x y next) = accepts (reading (twoNumbers x y) next)
 twoReply (TwoRead.NoTwo k) = refuses k
 
 -- its number: 0 where both were read

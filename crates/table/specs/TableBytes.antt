@@ -9,9 +9,9 @@ use Rattle.table.specs.declared.Pair.{Pair}
 use Rattle.table.specs.declared.Group.{Group}
 use Rattle.table.specs.declared.Table.{Table}
 use Rattle.table.specs.declared.TableRead.{TableRead}
-use Rattle.number.specs.Basics.{pick, flat, within}
+use Rattle.number.specs.Basics.{pick, flatMap, within}
 use Rattle.number.specs.Refusal.{badFields, badGroupCount, badCounts, leftOver}
-use Rattle.number.specs.Number.{Got, got, bad, andThen, require, readNumber, bytesOf, Wrote, wrote, unwritten, before}
+use Rattle.number.specs.Number.{Got, got, bad, thenRead, require, readNumber, bytesOf, Wrote, wrote, unwritten, before}
 use Rattle.table.specs.Packed.{packedPair, packedGroup}
 use Rattle.table.specs.Group.{GroupPairs}
 use Rattle.table.specs.Table.{loadRule, storeRule, pairFault, countsRight, Seen, noneSeen, seenAfter, tableFault}
@@ -27,33 +27,33 @@ pair offset port = record { offset = offset; port = port }
 unfoldable pub readPairs : (ℕ → ℕ → ℕ → Bool) → ℕ → ℕ → ℕ → List Bool → List ℕ → Got (List Pair)
 readPairs rule zero low i seen s = got [] s
 readPairs rule (suc n) low i seen s =
-    andThen (readNumber s) λ offset s₁.
-    andThen (readNumber s₁) λ port s₂.
+    thenRead (readNumber s) λ offset s₁.
+    thenRead (readNumber s₁) λ port s₂.
     unless (pairFault (rule low i offset) seen port)
     (before (pair offset port) (readPairs rule n offset (suc i) (set seen port true) s₂))
 
 -- a group: both counts, 5, its loads, its stores
 unfoldable pub readGroup : Seen → List ℕ → Got GroupPairs
 readGroup seen s =
-    andThen (readNumber s) λ loads s₁.
-    andThen (readNumber s₁) λ stores s₂.
+    thenRead (readNumber s) λ loads s₁.
+    thenRead (readNumber s₁) λ stores s₂.
     require (countsRight loads stores) badCounts
-    (andThen (readPairs (loadRule stores) loads 0 0 (seen .loads) s₂) λ ls s₃.
-    andThen (readPairs (storeRule ls) stores 0 0 (seen .stores) s₃) λ ss s₄.
+    (thenRead (readPairs (loadRule stores) loads 0 0 (seen .loads) s₂) λ ls s₃.
+    thenRead (readPairs (storeRule ls) stores 0 0 (seen .stores) s₃) λ ss s₄.
     got (record { loads = ls; stores = ss }) s₄)
 
 unfoldable pub readGroups : ℕ → Seen → List ℕ → Got (List GroupPairs)
 readGroups zero seen s = got [] s
-readGroups (suc n) seen s = andThen (readGroup seen s) λ g s₁. before g (readGroups n (seenAfter g seen) s₁)
+readGroups (suc n) seen s = thenRead (readGroup seen s) λ g s₁. before g (readGroups n (seenAfter g seen) s₁)
 
 -- "Reading a table, number by number: 1 or 2 for the number; 3 fields not 2; 4 group count; .. at the end 9 bytes left over."
 unfoldable pub readTable : List ℕ → Got (List GroupPairs)
 readTable s =
-    andThen (readNumber s) λ fields s₁.
+    thenRead (readNumber s) λ fields s₁.
     require (eqb fields 2) badFields
-    (andThen (readNumber s₁) λ count s₂.
+    (thenRead (readNumber s₁) λ count s₂.
     require (within 1 16 count) badGroupCount
-    (andThen (readGroups count noneSeen s₂) λ gs s₃.
+    (thenRead (readGroups count noneSeen s₂) λ gs s₃.
     require (eqb (length s₃) 0) leftOver (got gs s₃)))
 
 -- The record of a table: each group's accesses stand behind those of the groups before it. Places that no group has, which
@@ -70,10 +70,10 @@ spans load store [] = []
 spans load store (g ∷ gs) = packedGroup (placed load store g) ∷ spans (load + length (g .loads)) (store + length (g .stores)) gs
 
 abbrev pub loadsIn : List GroupPairs → List Pair
-loadsIn gs = flat (λ (g : GroupPairs). g .loads) gs
+loadsIn gs = flatMap (λ (g : GroupPairs). g .loads) gs
 
 abbrev pub storesIn : List GroupPairs → List Pair
-storesIn gs = flat (λ (g : GroupPairs). g .stores) gs
+storesIn gs = flatMap (λ (g : GroupPairs). g .stores) gs
 
 abbrev pub pack : List GroupPairs → Table
 pack gs = record { count = length gs; groups = spans 0 0 gs ++ replicate (16 - length gs) 0; loads = filled (loadsIn gs); stores = filled (storesIn gs) }
@@ -88,10 +88,10 @@ abbrev pub pairNumbers : Pair → List ℕ
 pairNumbers p = p .offset ∷ p .port ∷ []
 
 abbrev pub groupNumbers : GroupPairs → List ℕ
-groupNumbers g = length (g .loads) ∷ length (g .stores) ∷ flat pairNumbers (g .loads) ++ flat pairNumbers (g .stores)
+groupNumbers g = length (g .loads) ∷ length (g .stores) ∷ flatMap pairNumbers (g .loads) ++ flatMap pairNumbers (g .stores)
 
 abbrev pub tableNumbers : List GroupPairs → List ℕ
-tableNumbers gs = 2 ∷ length gs ∷ flat groupNumbers gs
+tableNumbers gs = 2 ∷ length gs ∷ flatMap groupNumbers gs
 
 abbrev pub tableBytes : List GroupPairs → List ℕ
 tableBytes gs = bytesOf (tableNumbers gs)

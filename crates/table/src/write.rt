@@ -2,7 +2,7 @@
 ghost use mathlib.Core.Path.{_≡_};
 ghost use Prim.Native.Nat.{_+_, _≤_};
 ghost use lib.ListN.{length};
-ghost use Rattle.number.specs.Basics.{flat, splice};
+ghost use Rattle.number.specs.Basics.{flatMap, splice};
 ghost use Rattle.number.specs.Number.{bytesOf, HasWritten, PutAt};
 ghost use Rattle.table.specs.Group.{listOf, pairsOf, Inside};
 ghost use Rattle.table.specs.Table.{groupsIn, groupsOf};
@@ -22,7 +22,7 @@ use number::writing::put_number;
 // How many bytes a group's pairs of one kind take.
 fn pairs_length(places: &[u16; 32], pairs: Span) -> usize
     requires { ⌜ Inside pairs ⌝ }
-    ensures { λ r. ⌜ (r ≡ length (bytesOf (flat pairNumbers (listOf (now (places .entry)) pairs)))) × (r ≤ 320) ⌝ }
+    ensures { λ r. ⌜ (r ≡ length (bytesOf (flatMap pairNumbers (listOf (now (places .entry)) pairs)))) × (r ≤ 320) ⌝ }
 {
     let first = pairs.first as usize;
     let count = pairs.count as usize;
@@ -70,8 +70,8 @@ fn table_length<'a>(
 
 // Puts a group's pairs of one kind at a place where they fit, and says where they end.
 fn put_pairs(places: &[u16; 32], pairs: Span, out: &mut [u8], at: usize) -> usize
-    requires { ⌜ Inside pairs × (at + length (bytesOf (flat pairNumbers (listOf (now places) pairs))) ≤ length (now out)) ⌝ }
-    ensures { λ r. ⌜ PutAt (now (out .entry)) at (bytesOf (flat pairNumbers (listOf (now (places .entry)) pairs))) r (now (out .exit)) ⌝ }
+    requires { ⌜ Inside pairs × (at + length (bytesOf (flatMap pairNumbers (listOf (now places) pairs))) ≤ length (now out)) ⌝ }
+    ensures { λ r. ⌜ PutAt (now (out .entry)) at (bytesOf (flatMap pairNumbers (listOf (now (places .entry)) pairs))) r (now (out .exit)) ⌝ }
 {
     let first = pairs.first as usize;
     let count = pairs.count as usize;

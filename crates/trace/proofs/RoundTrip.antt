@@ -9,7 +9,7 @@ use borrow.Author.Tests.{leb-true}
 use Rattle.trace.specs.declared.Event.the-variants.{Activate, LoadAddress, StoreAddress, StoreData, Serve, Write, Take}
 use Rattle.number.specs.Basics.{pick}
 use Rattle.number.specs.Refusal.{badKind}
-use Rattle.number.specs.Number.{Got, got, bad, andThen, require, readNumber, Spelled, nothing, next}
+use Rattle.number.specs.Number.{Got, got, bad, thenRead, require, readNumber, Spelled, spells-none, spells-one}
 use Rattle.trace.specs.Event.{eventNumbers, hasSecond, eventOf, readKind, readEvent, readHeader}
 use Rattle.trace.specs.RoundTrip.{EventsAreSpelled, OnlySpelledEvents, HeadersAreSpelled, OnlySpelledHeaders}
 use Rattle.number.proofs.Both.{and-right}
@@ -22,7 +22,7 @@ pub record TakenBefore (bytes rest : List ℕ) (n : ℕ) (ns : List ℕ) : Type 
   pub others : Spelled left ns
 
 take-before : {bytes : List ℕ} (rest : List ℕ) {n : ℕ} {ns : List ℕ} → Spelled bytes (n ∷ ns) → TakenBefore bytes rest n ns
-take-before rest (next bytes {rest = left} e w) = record { left = left; is = rw (append-assoc bytes left rest) (spelled-up-to 4 15 bytes (left ++ rest) e); others = w }
+take-before rest (spells-one bytes {rest = left} e w) = record { left = left; is = rw (append-assoc bytes left rest) (spelled-up-to 4 15 bytes (left ++ rest) e); others = w }
 
 -- an event of one number, of two, whose kind is known
 one-number : (kind x : ℕ) (bytes rest : List ℕ) → leb kind 6 ≡ true → hasSecond kind ≡ false → Spelled bytes (kind ∷ x ∷ []) → readEvent (bytes ++ rest) ≡ got (eventOf kind x 0) rest
@@ -86,7 +86,7 @@ spelling-before : (s rest : List ℕ) (n : ℕ) → readNumber s ≡ got n rest 
 spelling-before s rest n e = go (only-up-to 4 15 s n rest e)
   where
     go : Spelling 4 15 s n rest → (bytes : List ℕ) × (s ≡ bytes ++ rest) × ((l ns : List ℕ) → Spelled l ns → Spelled (bytes ++ l) (n ∷ ns))
-    go k = (k .bytes, k .whole, λ l ns w. rw (← k .value) (next (k .bytes) (k .spell) w))
+    go k = (k .bytes, k .whole, λ l ns w. rw (← k .value) (spells-one (k .bytes) (k .spell) w))
 
 abbrev SpelledBefore : List ℕ → List ℕ → List ℕ → Type 0
 SpelledBefore s rest ns = (bytes : List ℕ) × (s ≡ bytes ++ rest) × Spelled bytes ns
@@ -102,7 +102,7 @@ unfolding readEvent
 only-spelled-events s rest e d = first (readNumber s) refl d
   where
     here : SpelledBefore rest rest []
-    here = ([], refl, nothing)
+    here = ([], refl, spells-none)
 
     single : (kind x : ℕ) (s₁ s₂ : List ℕ) → readNumber s ≡ got kind s₁ → readNumber s₁ ≡ got x s₂ → leb kind 6 ≡ true → hasSecond kind ≡ false → got (eventOf kind x 0) s₂ ≡ got e rest → SpelledBefore s rest (eventNumbers e)
     single kind x s₁ s₂ a b h k f =
@@ -116,23 +116,23 @@ only-spelled-events s rest e d = first (readNumber s) refl d
         let q : s₃ ≡ rest = cc in
         rw (← p, numbers-of-two kind x y k) (cons-before s s₁ rest kind (x ∷ y ∷ []) a (cons-before s₁ s₂ rest x (y ∷ []) b (cons-before s₂ rest rest y [] (c ∙ rw q) here)))
 
-    third : (kind x : ℕ) (s₁ s₂ : List ℕ) → readNumber s ≡ got kind s₁ → readNumber s₁ ≡ got x s₂ → hasSecond kind ≡ true → (g : Got ℕ) → readNumber s₂ ≡ g → (andThen g λ y s₃. got (eventOf kind x y) s₃) ≡ got e rest → SpelledBefore s rest (eventNumbers e)
+    third : (kind x : ℕ) (s₁ s₂ : List ℕ) → readNumber s ≡ got kind s₁ → readNumber s₁ ≡ got x s₂ → hasSecond kind ≡ true → (g : Got ℕ) → readNumber s₂ ≡ g → (thenRead g λ y s₃. got (eventOf kind x y) s₃) ≡ got e rest → SpelledBefore s rest (eventNumbers e)
     third kind x s₁ s₂ a b k (got y s₃) c f = double kind x y s₁ s₂ s₃ a b c k f
     third kind x s₁ s₂ a b k (bad n) c f = let z : _≡_ {A = ℕ} 0 1 = cc in absurd (omega arith)
 
-    kinds : (kind x : ℕ) (s₁ s₂ : List ℕ) → readNumber s ≡ got kind s₁ → readNumber s₁ ≡ got x s₂ → leb kind 6 ≡ true → (t : Bool) → hasSecond kind ≡ t → pick t (andThen (readNumber s₂) λ y s₃. got (eventOf kind x y) s₃) (got (eventOf kind x 0) s₂) ≡ got e rest → SpelledBefore s rest (eventNumbers e)
+    kinds : (kind x : ℕ) (s₁ s₂ : List ℕ) → readNumber s ≡ got kind s₁ → readNumber s₁ ≡ got x s₂ → leb kind 6 ≡ true → (t : Bool) → hasSecond kind ≡ t → pick t (thenRead (readNumber s₂) λ y s₃. got (eventOf kind x y) s₃) (got (eventOf kind x 0) s₂) ≡ got e rest → SpelledBefore s rest (eventNumbers e)
     kinds kind x s₁ s₂ a b h true k f = third kind x s₁ s₂ a b k (readNumber s₂) refl f
     kinds kind x s₁ s₂ a b h false k f = single kind x s₁ s₂ a b h k f
 
-    second : (kind : ℕ) (s₁ : List ℕ) → readNumber s ≡ got kind s₁ → leb kind 6 ≡ true → (g : Got ℕ) → readNumber s₁ ≡ g → (andThen g λ x s₂. pick (hasSecond kind) (andThen (readNumber s₂) λ y s₃. got (eventOf kind x y) s₃) (got (eventOf kind x 0) s₂)) ≡ got e rest → SpelledBefore s rest (eventNumbers e)
+    second : (kind : ℕ) (s₁ : List ℕ) → readNumber s ≡ got kind s₁ → leb kind 6 ≡ true → (g : Got ℕ) → readNumber s₁ ≡ g → (thenRead g λ x s₂. pick (hasSecond kind) (thenRead (readNumber s₂) λ y s₃. got (eventOf kind x y) s₃) (got (eventOf kind x 0) s₂)) ≡ got e rest → SpelledBefore s rest (eventNumbers e)
     second kind s₁ a h (got x s₂) b f = kinds kind x s₁ s₂ a b h (hasSecond kind) refl f
     second kind s₁ a h (bad n) b f = let z : _≡_ {A = ℕ} 0 1 = cc in absurd (omega arith)
 
-    known : (kind : ℕ) (s₁ : List ℕ) → readNumber s ≡ got kind s₁ → (t : Bool) → leb kind 6 ≡ t → require t badKind (andThen (readNumber s₁) λ x s₂. pick (hasSecond kind) (andThen (readNumber s₂) λ y s₃. got (eventOf kind x y) s₃) (got (eventOf kind x 0) s₂)) ≡ got e rest → SpelledBefore s rest (eventNumbers e)
+    known : (kind : ℕ) (s₁ : List ℕ) → readNumber s ≡ got kind s₁ → (t : Bool) → leb kind 6 ≡ t → require t badKind (thenRead (readNumber s₁) λ x s₂. pick (hasSecond kind) (thenRead (readNumber s₂) λ y s₃. got (eventOf kind x y) s₃) (got (eventOf kind x 0) s₂)) ≡ got e rest → SpelledBefore s rest (eventNumbers e)
     known kind s₁ a true h f = second kind s₁ a h (readNumber s₁) refl f
     known kind s₁ a false h f = let z : _≡_ {A = ℕ} 0 1 = cc in absurd (omega arith)
 
-    first : (g : Got ℕ) → readNumber s ≡ g → andThen g readKind ≡ got e rest → SpelledBefore s rest (eventNumbers e)
+    first : (g : Got ℕ) → readNumber s ≡ g → thenRead g readKind ≡ got e rest → SpelledBefore s rest (eventNumbers e)
     first (got kind s₁) a f = known kind s₁ a (leb kind 6) refl f
     first (bad n) a f = let z : _≡_ {A = ℕ} 0 1 = cc in absurd (omega arith)
 
@@ -157,10 +157,10 @@ headers-are-spelled h bytes rest w = first (take-before rest w)
     first t = second (t .left) (t .is) (take-before rest (t .others))
 
 -- a number was read, and what follows was read too
-then-read : {A : Type 0} (s : List ℕ) (k : ℕ → List ℕ → Got A) {a : A} {rest : List ℕ} → andThen (readNumber s) k ≡ got a rest → (n : ℕ) × (t : List ℕ) × (readNumber s ≡ got n t) × (k n t ≡ got a rest)
+then-read : {A : Type 0} (s : List ℕ) (k : ℕ → List ℕ → Got A) {a : A} {rest : List ℕ} → thenRead (readNumber s) k ≡ got a rest → (n : ℕ) × (t : List ℕ) × (readNumber s ≡ got n t) × (k n t ≡ got a rest)
 then-read {A} s k {a} {rest} e = go (readNumber s) refl e
   where
-    go : (g : Got ℕ) → readNumber s ≡ g → andThen g k ≡ got a rest → (n : ℕ) × (t : List ℕ) × (readNumber s ≡ got n t) × (k n t ≡ got a rest)
+    go : (g : Got ℕ) → readNumber s ≡ g → thenRead g k ≡ got a rest → (n : ℕ) × (t : List ℕ) × (readNumber s ≡ got n t) × (k n t ≡ got a rest)
     go (bad n) d f = let z : _≡_ {A = ℕ} 0 1 = cc in absurd (omega arith)
     go (got n t) d f = (n, t, d, f)
 
@@ -173,4 +173,4 @@ only-spelled-headers s rest h e =
     let (d, s₄, d₄, e₄) = then-read s₃ _ e₃ in
     let x : record { loads = a; stores = b; serial = c; words = d } ≡ h = cc in
     let y : s₄ ≡ rest = cc in
-    rw (← x) (cons-before s s₁ rest a (b ∷ c ∷ d ∷ []) d₁ (cons-before s₁ s₂ rest b (c ∷ d ∷ []) d₂ (cons-before s₂ s₃ rest c (d ∷ []) d₃ (cons-before s₃ s₄ rest d [] d₄ ([], y, nothing)))))
+    rw (← x) (cons-before s s₁ rest a (b ∷ c ∷ d ∷ []) d₁ (cons-before s₁ s₂ rest b (c ∷ d ∷ []) d₂ (cons-before s₂ s₃ rest c (d ∷ []) d₃ (cons-before s₃ s₄ rest d [] d₄ ([], y, spells-none)))))

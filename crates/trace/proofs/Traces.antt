@@ -8,8 +8,8 @@ use lib.Seq.{drop-at, drop-append-seam}
 use Rattle.trace.specs.declared.Event.{Event}
 use Rattle.trace.specs.declared.Event.the-variants.{Activate, LoadAddress, StoreAddress, StoreData, Serve, Write, Take}
 use Rattle.trace.specs.declared.Header.{Header}
-use Rattle.number.specs.Basics.{flat}
-use Rattle.number.specs.Number.{Got, got, bad, andThen, placeOf, spells, accepts, reading, readIn, before, Spelled, nothing, next, Fit, fit-none, fit-one}
+use Rattle.number.specs.Basics.{flatMap}
+use Rattle.number.specs.Number.{Got, got, bad, thenRead, placeOf, spells, accepts, reading, readIn, before, Spelled, spells-none, spells-one, Fit, fit-none, fit-one}
 use Rattle.trace.specs.Event.{eventNumbers, readEvent, eventAt, eventBytes, eventsBytes, headerNumbers, headerBytes, readHeader, yielded}
 use Rattle.trace.specs.Trace.{Trace, eventsUpTo, readEvents, readTrace, traceBytes}
 use Rattle.trace.specs.RoundTrip.{TracesAreSpelled, OnlySpelledTraces, TracesReadBack}
@@ -25,20 +25,20 @@ pub record Split (s a b : List ℕ) : Type 0 where
   pub others : Spelled rest b
 
 spelled-split : {s : List ℕ} (a : List ℕ) {b : List ℕ} → Spelled s (a ++ b) → Split s a b
-spelled-split {s} [] w = record { front = []; rest = s; whole = refl; first = nothing; others = w }
-spelled-split (n ∷ ns) (next bytes {rest} e w) =
+spelled-split {s} [] w = record { front = []; rest = s; whole = refl; first = spells-none; others = w }
+spelled-split (n ∷ ns) (spells-one bytes {rest} e w) =
     let k = spelled-split ns w in
     record {
       front = bytes ++ k .front;
       rest = k .rest;
       whole = ap (λ (l : List ℕ). bytes ++ l) (k .whole) ∙ sym (append-assoc bytes (k .front) (k .rest));
-      first = next bytes e (k .first);
+      first = spells-one bytes e (k .first);
       others = k .others;
     }
 
 spelled-append : {s t a b : List ℕ} → Spelled s a → Spelled t b → Spelled (s ++ t) (a ++ b)
-spelled-append nothing w = w
-spelled-append {t = t} (next bytes {rest} e k) w = rw (append-assoc bytes rest t) (next bytes e (spelled-append k w))
+spelled-append spells-none w = w
+spelled-append {t = t} (spells-one bytes {rest} e k) w = rw (append-assoc bytes rest t) (spells-one bytes e (spelled-append k w))
 
 fit-split : (a : List ℕ) {b : List ℕ} → Fit (a ++ b) → Fit a × Fit b
 fit-split [] w = (fit-none, w)
@@ -47,9 +47,9 @@ fit-split (n ∷ ns) (fit-one h w) = let k = fit-split ns w in (fit-one h (k .0)
 -- a number is spelled by a byte at least
 spelled-few : {s ns : List ℕ} → Spelled s ns → length ns ≤ length s
 unfolding spells
-spelled-few nothing = omega arith
-spelled-few (next [] e w) = let z : _≡_ {A = ℕ} 0 1 = cc in absurd (omega arith)
-spelled-few (next (b ∷ bs) {rest} e w) = omega (arith, spelled-few w, length-append bs rest)
+spelled-few spells-none = omega arith
+spelled-few (spells-one [] e w) = let z : _≡_ {A = ℕ} 0 1 = cc in absurd (omega arith)
+spelled-few (spells-one (b ∷ bs) {rest} e w) = omega (arith, spelled-few w, length-append bs rest)
 
 numbers-some : (e : Event) → 0 < length (eventNumbers e)
 numbers-some (Activate g) = omega arith
@@ -99,7 +99,7 @@ enough-step m (suc n) (b ∷ s) ih h k = go (readEvent (b ∷ s)) refl
     upTo : ℕ → Event → List ℕ → Got (List Event)
     upTo most e rest = before e (eventsUpTo most rest)
 
-    go : (g : Got Event) → readEvent (b ∷ s) ≡ g → andThen g (upTo m) ≡ andThen g (upTo n)
+    go : (g : Got Event) → readEvent (b ∷ s) ≡ g → thenRead g (upTo m) ≡ thenRead g (upTo n)
     go (bad k) d = refl
     go (got e rest) d =
         let w = event-shorter (b ∷ s) rest e d in
@@ -126,8 +126,8 @@ unfolding eventsUpTo
 events-bad b s k h = rw h
 
 -- ---- events that are spelled are read
-spelled-events-read : (es : List Event) {s : List ℕ} → Spelled s (flat eventNumbers es) → readEvents s ≡ got es []
-spelled-events-read [] nothing = events-end 0
+spelled-events-read : (es : List Event) {s : List ℕ} → Spelled s (flatMap eventNumbers es) → readEvents s ≡ got es []
+spelled-events-read [] spells-none = events-end 0
 spelled-events-read (e ∷ es) {s} w =
     let k = spelled-split (eventNumbers e) w in
     rw (k .whole) (more (k .front) (k .rest) (events-are-spelled e (k .front) (k .rest) (k .first)) (spelled-events-read es (k .others)))
@@ -138,13 +138,13 @@ spelled-events-read (e ∷ es) {s} w =
 -- and events that were read were spelled, to the end of the bytes
 pub record EventsPut (s : List ℕ) (es : List Event) (rest : List ℕ) : Type 0 where
   pub left : rest ≡ []
-  pub spelled : Spelled s (flat eventNumbers es)
+  pub spelled : Spelled s (flatMap eventNumbers es)
 
 put-none : (most : ℕ) {es : List Event} {rest : List ℕ} → eventsUpTo most [] ≡ got es rest → EventsPut [] es rest
 put-none most {es} {rest} h =
     let d : got [] [] ≡ got es rest = sym (events-end most) ∙ h in
     let x : [] ≡ es = cc in
-    record { left = cc; spelled = rw (← x) nothing }
+    record { left = cc; spelled = rw (← x) spells-none }
 
 abbrev PutUpTo : ℕ → Type 0
 PutUpTo most = (s : List ℕ) (es : List Event) (rest : List ℕ) → eventsUpTo most s ≡ got es rest → EventsPut s es rest
@@ -167,7 +167,7 @@ put-events (suc most) (b ∷ s) es rest h = go (readEvent (b ∷ s)) refl (put-e
         record { left = sym y ∙ w .left; spelled = rw (← x, is) (spelled-append spelled (w .spelled)) }
 
     go : (g : Got Event) → readEvent (b ∷ s) ≡ g → PutUpTo most →
-        andThen g (λ e t. before e (eventsUpTo most t)) ≡ got es rest → EventsPut (b ∷ s) es rest
+        thenRead g (λ e t. before e (eventsUpTo most t)) ≡ got es rest → EventsPut (b ∷ s) es rest
     go (bad k) d ih f = let z : _≡_ {A = ℕ} 0 1 = cc in absurd (omega arith)
     go (got e t) d ih f = more e t d (eventsUpTo most t) (ih t) f
 
@@ -178,9 +178,9 @@ read-events-spelled s rest es h = put-events (length s) s es rest h
 pub events-few : (s : List ℕ) {es : List Event} {rest : List ℕ} → readEvents s ≡ got es rest → length es ≤ length s
 events-few s {es} {rest} h = omega (arith, spelled-few (read-events-spelled s rest es h .spelled), go es)
   where
-    go : (l : List Event) → length l ≤ length (flat eventNumbers l)
+    go : (l : List Event) → length l ≤ length (flatMap eventNumbers l)
     go [] = omega arith
-    go (e ∷ l) = omega (arith, length-append (eventNumbers e) (flat eventNumbers l), numbers-some e, go l)
+    go (e ∷ l) = omega (arith, length-append (eventNumbers e) (flatMap eventNumbers l), numbers-some e, go l)
 
 -- ---- traces
 -- what a trace that was read is: its leading numbers, and the events of the rest
@@ -202,7 +202,7 @@ unfolding readTrace
 trace-parts s left t e = go (readHeader s) refl e
   where
     more : (h : Header) (rest : List ℕ) → readHeader s ≡ got h rest → (g : Got (List Event)) → readEvents rest ≡ g →
-        (andThen g λ es l. got (traceOf h es) l) ≡ got t left → TraceParts s t × (left ≡ [])
+        (thenRead g λ es l. got (traceOf h es) l) ≡ got t left → TraceParts s t × (left ≡ [])
     more h rest d (bad k) f q = let z : _≡_ {A = ℕ} 0 1 = cc in absurd (omega arith)
     more h rest d (got es l) f q =
         let n : l ≡ [] = read-events-spelled rest l es f .left in
@@ -211,7 +211,7 @@ trace-parts s left t e = go (readHeader s) refl e
         (rw (← x) (record { rest = rest; header = d; events = f ∙ ap (got es) n }), sym y ∙ n)
 
     go : (g : Got Header) → readHeader s ≡ g →
-        (andThen g λ h rest. andThen (readEvents rest) λ es l. got (traceOf h es) l) ≡ got t left → TraceParts s t × (left ≡ [])
+        (thenRead g λ h rest. thenRead (readEvents rest) λ es l. got (traceOf h es) l) ≡ got t left → TraceParts s t × (left ≡ [])
     go (bad k) d f = let z : _≡_ {A = ℕ} 0 1 = cc in absurd (omega arith)
     go (got h rest) d f = more h rest d (readEvents rest) refl f
 
@@ -228,8 +228,8 @@ only-spelled-traces s rest t e =
     (n, rw is (spelled-append spelled (read-events-spelled (w .rest) [] (t .events) (w .events) .spelled)))
 
 -- ---- the writer spells
-events-written : (es : List Event) → Fit (flat eventNumbers es) → Spelled (eventsBytes es) (flat eventNumbers es)
-events-written [] f = nothing
+events-written : (es : List Event) → Fit (flatMap eventNumbers es) → Spelled (eventsBytes es) (flatMap eventNumbers es)
+events-written [] f = spells-none
 events-written (e ∷ es) f = let k = fit-split (eventNumbers e) f in spelled-append (written (k .0)) (events-written es (k .1))
 
 pub traces-read-back : TracesReadBack

@@ -14,9 +14,9 @@ use Rattle.trace.specs.declared.HeaderRead.the-variants.{Leading, NoHead
 use Rattle.trace.specs.declared.EventRead.{EventRead}
 use Rattle.trace.specs.declared.EventRead.the-variants.{Found, End, NoEvent}
 use Rattle.trace.specs.declared.Stepped.{Stepped}
-use Rattle.number.specs.Basics.{pick, flat, within}
+use Rattle.number.specs.Basics.{pick, flatMap, within}
 use Rattle.number.specs.Refusal.{badKind}
-use Rattle.number.specs.Number.{Got, got, bad, andThen, require, readNumber, placeOf, Reply, accepts, refuses, Reading, reading, bytesOf, Wrote, wrote}
+use Rattle.number.specs.Number.{Got, got, bad, thenRead, require, readNumber, placeOf, Reply, accepts, refuses, Reading, reading, bytesOf, Wrote, wrote}
 use Rattle.number.specs.Number.{unwritten}
 use Rattle.trace.specs.declared.reading.Reader.{Reader}
 
@@ -50,14 +50,14 @@ eventOf kind x y =
 abbrev pub readKind : ℕ → List ℕ → Got Event
 readKind kind s =
     require (leb kind 6) badKind
-    (andThen (readNumber s) λ x s₁.
+    (thenRead (readNumber s) λ x s₁.
     pick (hasSecond kind)
-    (andThen (readNumber s₁) λ y s₂. got (eventOf kind x y) s₂)
+    (thenRead (readNumber s₁) λ y s₂. got (eventOf kind x y) s₂)
     (got (eventOf kind x 0) s₁))
 
 -- "Reading an event: 1 or 2 for the kind, 35 kind above 6, 1 or 2 for the rest."
 unfoldable pub readEvent : List ℕ → Got Event
-readEvent s = andThen (readNumber s) readKind
+readEvent s = thenRead (readNumber s) readKind
 
 -- what a reader yields: an event and the place after it, or the end
 pub data Yield : Type 0 where
@@ -108,7 +108,7 @@ abbrev pub wroteEventOf : ℕ → ℕ → ℕ → List ℕ → Wrote
 wroteEventOf kind x y buffer = pick (leb kind 6) (wrote (eventBytes (eventOf kind x y)) buffer) (unwritten badKind buffer)
 
 abbrev pub eventsBytes : List Event → List ℕ
-eventsBytes = flat eventBytes
+eventsBytes = flatMap eventBytes
 
 -- the four leading numbers of a trace
 abbrev pub headerNumbers : Header → List ℕ
@@ -119,10 +119,10 @@ headerBytes h = bytesOf (headerNumbers h)
 
 unfoldable pub readHeader : List ℕ → Got Header
 readHeader s =
-    andThen (readNumber s) λ loads s₁.
-    andThen (readNumber s₁) λ stores s₂.
-    andThen (readNumber s₂) λ serial s₃.
-    andThen (readNumber s₃) λ words s₄.
+    thenRead (readNumber s) λ loads s₁.
+    thenRead (readNumber s₁) λ stores s₂.
+    thenRead (readNumber s₂) λ serial s₃.
+    thenRead (readNumber s₃) λ words s₄.
     got (record { loads = loads; stores = stores; serial = serial; words = words }) s₄
 
 -- the number and the values of each case of `HeaderRead`

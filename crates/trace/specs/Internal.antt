@@ -5,5 +5,5 @@ use lib.ListN.{take}
 use Rattle.trace.specs.declared.writing.Numbers.{Numbers}
 
 -- the numbers that are written together
-abbrev pub listed : Numbers → List ℕ
-listed ns = take (ns .count) (ns .values)
+abbrev pub numbersListed : Numbers → List ℕ
+numbersListed ns = take (ns .count) (ns .values)

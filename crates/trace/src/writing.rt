@@ -6,7 +6,7 @@ ghost use lib.ListN.{length};
 ghost use Rattle.number.specs.Number.{bytesOf, HasWritten, wrote};
 ghost use Rattle.trace.specs.Event.{headerBytes, eventNumbers, eventBytes, wroteEventOf};
 ghost use Rattle.number.specs.Basics.{splice};
-ghost use Rattle.trace.specs.Internal.{listed};
+ghost use Rattle.trace.specs.Internal.{numbersListed};
 use crate::Event;
 use crate::Header;
 use crate::reading::event_of;
@@ -25,7 +25,7 @@ pub(crate) struct Numbers {
 // How many bytes the numbers take.
 fn numbers_length(numbers: Numbers) -> usize
     requires { ⌜ numbers .count ≤ 4 ⌝ }
-    ensures { λ r. ⌜ r ≡ length (bytesOf (listed numbers)) ⌝ }
+    ensures { λ r. ⌜ r ≡ length (bytesOf (numbersListed numbers)) ⌝ }
 {
     let count = numbers.count;
     let mut total: usize = 0;
@@ -39,8 +39,8 @@ fn numbers_length(numbers: Numbers) -> usize
 
 // Puts the numbers' bytes at the front of a buffer where they fit.
 fn put_numbers(numbers: Numbers, out: &mut [u8])
-    requires { ⌜ (numbers .count ≤ 4) × (length (bytesOf (listed numbers)) ≤ length (now out)) ⌝ }
-    ensures { λ _. ⌜ now (out .exit) ≡ splice (now (out .entry)) 0 (bytesOf (listed numbers)) ⌝ }
+    requires { ⌜ (numbers .count ≤ 4) × (length (bytesOf (numbersListed numbers)) ≤ length (now out)) ⌝ }
+    ensures { λ _. ⌜ now (out .exit) ≡ splice (now (out .entry)) 0 (bytesOf (numbersListed numbers)) ⌝ }
 {
     let count = numbers.count;
     let mut place: usize = 0;
@@ -54,7 +54,7 @@ fn put_numbers(numbers: Numbers, out: &mut [u8])
 // Writes the numbers at the front of a buffer.
 fn write_numbers(numbers: Numbers, out: &mut [u8]) -> BytesWritten
     requires { ⌜ numbers .count ≤ 4 ⌝ }
-    ensures { λ r. ⌜ HasWritten (wrote (bytesOf (listed numbers)) (now (out .entry))) r (now (out .exit)) ⌝ }
+    ensures { λ r. ⌜ HasWritten (wrote (bytesOf (numbersListed numbers)) (now (out .entry))) r (now (out .exit)) ⌝ }
 {
     let length = numbers_length(numbers);
     if out.len() < length {
@@ -66,7 +66,7 @@ fn write_numbers(numbers: Numbers, out: &mut [u8]) -> BytesWritten
 
 // An event's numbers, its kind first.
 fn numbers_of(event: Event) -> Numbers
-    ensures { λ r. ⌜ (r .count ≤ 4) × (listed r ≡ eventNumbers event) ⌝ }
+    ensures { λ r. ⌜ (r .count ≤ 4) × (numbersListed r ≡ eventNumbers event) ⌝ }
 {
     match event {
         Event::Activate { group } => Numbers {

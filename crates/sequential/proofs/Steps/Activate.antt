@@ -17,28 +17,29 @@ use Rattle.queue.specs.Ruled.{accept}
 use Rattle.queue.specs.Contents.{Contents}
 use Rattle.queue.specs.Sound.{sound}
 use Rattle.queue.specs.Activate.{newLoads, newStores, room, withGroup, activate}
-use Rattle.queue.proofs.Lists.{and-left, and-right, all-join, count-append}
+use Rattle.number.proofs.Both.{and-left, and-right}
+use Rattle.queue.proofs.Lists.{all-join, count-append}
 use Rattle.queue.proofs.Refusals.{need-accepts, have-accepts}
 use Rattle.sequential.specs.Calls.{Activate}
-use Rattle.sequential.specs.Call.{Machine, Answered}
+use Rattle.sequential.specs.Answers.{Machine, Answered}
 use Rattle.sequential.specs.Plain.{rowsOf}
 use Rattle.sequential.specs.Demand3.{told, takenAt}
-use Rattle.sequential.proofs.Log.{Entry, loads, stores, side, ownIn, loads-stores, stores-loads, ownIn-append}
-use Rattle.sequential.proofs.Window.{shown, window-append}
+use Rattle.sequential.proofs.Log.{LogEntry, loads, stores, side, ownIn, loads-stores, stores-loads, ownIn-append}
+use Rattle.sequential.proofs.Window.{remembering, window-append}
 use Rattle.sequential.proofs.MemoryInvariant.{fresh, agree-append}
 use Rattle.sequential.proofs.Rows.{given, valueTaken, hasNone, cellFor, row-append}
 use Rattle.sequential.proofs.PlainRun.{accessOf}
-use Rattle.sequential.proofs.State.{State, Holds, Seen, rightLoad, rightStore, served, written, seen-more}
+use Rattle.sequential.proofs.Invariant.{Invariant, Holds, LogSeen, rightLoad, rightStore, isServed, isWritten, seen-more}
 
 -- the new entries that the queue shows are those of the log
-new-loads : (out n : ℕ) (new : List Access) → newLoads n new ≡ map (shown loads out) (side loads (out + n) (map fresh new))
+new-loads : (out n : ℕ) (new : List Access) → newLoads n new ≡ map (remembering loads out) (side loads (out + n) (map fresh new))
 new-loads out n [] = refl
 new-loads out n (load p ∷ new) = rw (add-sub-cancel-left out n, new-loads out n new)
-new-loads out n (store p ∷ new) = new-loads out (suc n) new ∙ ap (λ (k : ℕ). map (shown loads out) (side loads k (map fresh new))) (add-suc out n)
+new-loads out n (store p ∷ new) = new-loads out (suc n) new ∙ ap (λ (k : ℕ). map (remembering loads out) (side loads k (map fresh new))) (add-suc out n)
 
-new-stores : (out n : ℕ) (new : List Access) → newStores n new ≡ map (shown stores out) (side stores (out + n) (map fresh new))
+new-stores : (out n : ℕ) (new : List Access) → newStores n new ≡ map (remembering stores out) (side stores (out + n) (map fresh new))
 new-stores out n [] = refl
-new-stores out n (load p ∷ new) = new-stores out (suc n) new ∙ ap (λ (k : ℕ). map (shown stores out) (side stores k (map fresh new))) (add-suc out n)
+new-stores out n (load p ∷ new) = new-stores out (suc n) new ∙ ap (λ (k : ℕ). map (remembering stores out) (side stores k (map fresh new))) (add-suc out n)
 new-stores out n (store p ∷ new) = rw (add-sub-cancel-left out n, new-stores out n new)
 
 length-newLoads : (n : ℕ) (new : List Access) → length (newLoads n new) ≡ length (loadPorts new)
@@ -62,11 +63,11 @@ fresh-stores-right words [] = refl
 fresh-stores-right words (load p ∷ new) = fresh-stores-right words new
 fresh-stores-right words (store p ∷ new) = fresh-stores-right words new
 
-fresh-all : (p : Entry → Bool) → ((a : Access) → p (fresh a) ≡ true) → (new : List Access) → allOf p (map fresh new) ≡ true
+fresh-all : (p : LogEntry → Bool) → ((a : Access) → p (fresh a) ≡ true) → (new : List Access) → allOf p (map fresh new) ≡ true
 fresh-all p h [] = refl
 fresh-all p h (a ∷ new) = rw (h a) (fresh-all p h new)
 
-fresh-none : (p : Entry → Bool) → ((a : Access) → p (fresh a) ≡ false) → (new : List Access) → countWhere p (map fresh new) ≡ 0
+fresh-none : (p : LogEntry → Bool) → ((a : Access) → p (fresh a) ≡ false) → (new : List Access) → countWhere p (map fresh new) ≡ 0
 fresh-none p h [] = refl
 fresh-none p h (a ∷ new) = rw (h a) (fresh-none p h new)
 
@@ -91,8 +92,8 @@ fresh-value : (port : ℕ) (a : Access) → hasNone (valueTaken port (fresh a)) 
 fresh-value port (load p) = empty-cell (eqb p port)
 fresh-value port (store p) = refl
 
-module _ (groups : List GroupPairs) (memory : List ℕ) (answered : List Answered) (q : Contents) (m : List ℕ) (log : List Entry)
-    (table : q .groups ≡ groups) (h : Holds q m memory log) (seen : Seen groups answered log) (group : ℕ) (g : GroupPairs)
+module _ (groups : List GroupPairs) (memory : List ℕ) (answered : List Answered) (q : Contents) (m : List ℕ) (log : List LogEntry)
+    (table : q .groups ≡ groups) (h : Holds q m memory log) (seen : LogSeen groups answered log) (group : ℕ) (g : GroupPairs)
     (is : getElem? (q .groups) group ≡ some g) (fits : room q g ≡ true) where
   holds-group : Holds (withGroup q g) m memory (log ++ map fresh (order g))
   holds-group = record {
@@ -123,7 +124,7 @@ module _ (groups : List GroupPairs) (memory : List ℕ) (answered : List Answere
     agree = agree-append log (order g) m memory (h .agree);
   }
 
-  seen-group : Seen groups (answered ++ record { call = Activate group; number = 0; value = none } ∷ []) (log ++ map fresh (order g))
+  seen-group : LogSeen groups (answered ++ record { call = Activate group; number = 0; value = none } ∷ []) (log ++ map fresh (order g))
   seen-group =
       seen-more groups answered (record { call = Activate group; number = 0; value = none }) (log ++ map fresh (order g))
       (map-append accessOf log (map fresh (order g)) ∙ rw (seen .shape, fresh-access (order g), ← table, is, append-nil (order g)))
@@ -131,21 +132,21 @@ module _ (groups : List GroupPairs) (memory : List ℕ) (answered : List Answere
       (row-append (given kind port) (map fresh (order g)) (fresh-all (λ d. hasNone (given kind port d)) (fresh-given kind port) (order g)) log (rowsOf (told answered) kind port) (seen .rows kind port)))
       (λ port. rw (append-nil (takenAt port answered))
       (row-append (valueTaken port) (map fresh (order g)) (fresh-all (λ d. hasNone (valueTaken port d)) (fresh-value port) (order g)) log (takenAt port answered) (seen .takes port)))
-      (count-append served log (map fresh (order g)) ∙ rw (seen .serves, fresh-none served unserved (order g)))
-      (count-append written log (map fresh (order g)) ∙ rw (seen .writes, fresh-none written unwritten (order g)))
+      (count-append isServed log (map fresh (order g)) ∙ rw (seen .serves, fresh-none isServed unserved (order g)))
+      (count-append isWritten log (map fresh (order g)) ∙ rw (seen .writes, fresh-none isWritten unwritten (order g)))
     where
-      unserved : (a : Access) → served (fresh a) ≡ false
+      unserved : (a : Access) → isServed (fresh a) ≡ false
       unserved (load p) = refl
       unserved (store p) = refl
 
-      unwritten : (a : Access) → written (fresh a) ≡ false
+      unwritten : (a : Access) → isWritten (fresh a) ≡ false
       unwritten (load p) = refl
       unwritten (store p) = refl
 
 -- An accepted activation keeps the invariant.
-pub activate-keeps : (groups : List GroupPairs) (memory : List ℕ) (answered : List Answered) (m : Machine) → State groups memory answered m
+pub activate-keeps : (groups : List GroupPairs) (memory : List ℕ) (answered : List Answered) (m : Machine) → Invariant groups memory answered m
     → (group : ℕ) (q′ : Contents) → activate (m .queue) group ≡ accept q′
-    → State groups memory (answered ++ record { call = Activate group; number = 0; value = none } ∷ []) (record { queue = q′; memory = m .memory })
+    → Invariant groups memory (answered ++ record { call = Activate group; number = 0; value = none } ∷ []) (record { queue = q′; memory = m .memory })
 unfolding activate
 activate-keeps groups memory answered m st group q′ h₀ =
     let (t₁, h₁) = need-accepts (sound q) _ _ h₀ in
@@ -163,4 +164,4 @@ activate-keeps groups memory answered m st group q′ h₀ =
     q = m .queue
 
     Goal : Contents → Type 0
-    Goal q₁ = State groups memory (answered ++ record { call = Activate group; number = 0; value = none } ∷ []) (record { queue = q₁; memory = m .memory })
+    Goal q₁ = Invariant groups memory (answered ++ record { call = Activate group; number = 0; value = none } ∷ []) (record { queue = q₁; memory = m .memory })

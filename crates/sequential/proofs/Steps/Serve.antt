@@ -13,30 +13,31 @@ use Rattle.queue.specs.Contents.{Load, Store, Contents, loadPlace}
 use Rattle.queue.specs.Sound.{addressRight}
 use Rattle.queue.specs.Serve.{Served, fromMemory, hasAddress, source, loadWithValue, serve}
 use Rattle.queue.specs.declared.Counts.{Counts}
-use Rattle.queue.proofs.Lists.{is-none, and-left, and-both, or-right, implied, all-left, all-middle}
+use Rattle.number.proofs.Both.{and-left}
+use Rattle.queue.proofs.Lists.{is-none, and-both, or-right, implied, all-left, all-middle}
 use Rattle.queue.proofs.SourceLaws.{wordFrom, loaded-word, source-alike, source-written}
 use Rattle.queue.proofs.ServeLaws.{Serving, serve-accepts}
 use Rattle.sequential.specs.Calls.{Serve}
 use Rattle.queue.specs.declared.arguments.Argument.{Argument}
 use Rattle.queue.specs.declared.arguments.Argument.the-variants.{LoadAddress, StoreAddress, StoreData}
-use Rattle.sequential.specs.Call.{Machine, Answered}
+use Rattle.sequential.specs.Answers.{Machine, Answered}
 use Rattle.sequential.specs.Plain.{rowsOf}
 use Rattle.sequential.specs.Demand3.{told, takenAt}
-use Rattle.sequential.proofs.Log.{Entry, ofLoad, loads, stores, ownIn, loads-stores, entryOf, ownIn-append}
-use Rattle.sequential.proofs.Window.{Located, Before, locate, past-passes, shown}
-use Rattle.sequential.proofs.MemoryInvariant.{Agree, agree-serve}
+use Rattle.sequential.proofs.Log.{LogEntry, ofLoad, loads, stores, ownIn, loads-stores, placedEntry, ownIn-append}
+use Rattle.sequential.proofs.Window.{Located, Before, locate, past-passes, remembering}
+use Rattle.sequential.proofs.MemoryInvariant.{MemoriesAgree, agree-serve}
 use Rattle.sequential.proofs.Rows.{given, valueTaken}
-use Rattle.sequential.proofs.State.{State, Holds, Seen, rightLoad, rightStore, written-full, load-in-range, untaken-unserved}
+use Rattle.sequential.proofs.Invariant.{Invariant, Holds, LogSeen, rightLoad, rightStore, written-full, load-in-range, untaken-unserved}
 use Rattle.sequential.proofs.Anew.{holds-load, row-kept, seen-anew}
 
 -- ---- the queue's stores before the load give it the source that the log's do
 
-source-log : {queued : List Store} {pre : List Entry} → Before stores queued pre → (words : ℕ) → allOf (rightStore words) (ownIn stores pre) ≡ true
+source-log : {queued : List Store} {pre : List LogEntry} → Before stores queued pre → (words : ℕ) → allOf (rightStore words) (ownIn stores pre) ≡ true
     → (a : ℕ) → source a fromMemory queued ≡ source a fromMemory (ownIn stores pre)
 source-log {queued} {pre} b words right a =
     rw (b .shows, b .parts)
-    (source-alike (shown stores (b .out)) entryOf (λ x. refl) (λ x. refl) (λ x. refl) a fromMemory (b .rest)
-    ∙ sym (source-written a (map entryOf (b .past)) (map entryOf (b .rest))
+    (source-alike (remembering stores (b .out)) placedEntry (λ x. refl) (λ x. refl) (λ x. refl) a fromMemory (b .rest)
+    ∙ sym (source-written a (map placedEntry (b .past)) (map placedEntry (b .rest))
     (past-passes b (λ s. s .written) (λ n s. refl) (rightStore words) (λ s t f. f) right)
     (past-passes b hasAddress (λ n s. refl) (rightStore words) addressed right)))
   where
@@ -54,11 +55,11 @@ serve-given v l StoreData port = refl
 serve-taken : (v : ℕ) (l : Load) (port : ℕ) → l .taken ≡ false → valueTaken port (ofLoad l) ≡ valueTaken port (ofLoad (loadWithValue v l))
 serve-taken v l port e = rw e
 
-module _ (groups : List GroupPairs) (memory : List ℕ) (answered : List Answered) (q : Contents) (m : List ℕ) (log : List Entry)
-    (table : q .groups ≡ groups) (h : Holds q m memory log) (seen : Seen groups answered log) where
-  serve-at : (counts : Counts) (serial i : ℕ) (r : Served) (pre : List Entry) (it : Load) (post : List Entry) (l : Located loads stores log (q .loads) (q .stores) i pre it post)
+module _ (groups : List GroupPairs) (memory : List ℕ) (answered : List Answered) (q : Contents) (m : List ℕ) (log : List LogEntry)
+    (table : q .groups ≡ groups) (h : Holds q m memory log) (seen : LogSeen groups answered log) where
+  serve-at : (counts : Counts) (serial i : ℕ) (r : Served) (pre : List LogEntry) (it : Load) (post : List LogEntry) (l : Located loads stores log (q .loads) (q .stores) i pre it post)
       → Serving q m i r (loads .remember (l .number) it)
-      → State groups memory (answered ++ record { call = Serve counts serial; number = 0; value = some (r .value) } ∷ []) (record { queue = r .queue; memory = m })
+      → Invariant groups memory (answered ++ record { call = Serve counts serial; number = 0; value = some (r .value) } ∷ []) (record { queue = r .queue; memory = m })
   serve-at counts serial i r pre it post l s = rw (s .result) (record {
     log = pre ++ ofLoad (loadWithValue v it) ∷ post;
     table = table;
@@ -77,8 +78,8 @@ module _ (groups : List GroupPairs) (memory : List ℕ) (answered : List Answere
       a : ℕ
       a = s .may .address
 
-      seen′ : Seen groups answered (pre ++ ofLoad it ∷ post)
-      seen′ = subst (Seen groups answered) (l .log-is) seen
+      seen′ : LogSeen groups answered (pre ++ ofLoad it ∷ post)
+      seen′ = subst (LogSeen groups answered) (l .log-is) seen
 
       right-it : rightLoad (q .memoryLength) it ≡ true
       right-it = all-middle (rightLoad (q .memoryLength)) (ownIn loads pre) (ownIn loads post) it (rw (l .log-is, ownIn-append loads pre (ofLoad it ∷ post)) at (h .rightLoads))
@@ -108,13 +109,13 @@ module _ (groups : List GroupPairs) (memory : List ℕ) (answered : List Answere
           rw (← source-log (l .before′) (q .memoryLength) rightStores a)
           (loaded-word m a (source a fromMemory (take (l .number) (q .stores))) (s .loaded) (s .may .gives))
 
-      agree : Agree m memory (pre ++ ofLoad (loadWithValue v it) ∷ post)
+      agree : MemoriesAgree m memory (pre ++ ofLoad (loadWithValue v it) ∷ post)
       agree = agree-serve it post a v (getD m a 0) (s .may .addressed) unserved pre fromMemory m memory low (λ x e. cc) word (rw (l .log-is) at (h .agree))
 
 -- An accepted serve keeps the invariant.
-pub serve-keeps : (groups : List GroupPairs) (memory : List ℕ) (answered : List Answered) (m : Machine) → State groups memory answered m
+pub serve-keeps : (groups : List GroupPairs) (memory : List ℕ) (answered : List Answered) (m : Machine) → Invariant groups memory answered m
     → (counts : Counts) (serial : ℕ) (r : Served) → serve (m .queue) (m .memory) serial ≡ accept r
-    → State groups memory (answered ++ record { call = Serve counts serial; number = 0; value = some (r .value) } ∷ []) (record { queue = r .queue; memory = m .memory })
+    → Invariant groups memory (answered ++ record { call = Serve counts serial; number = 0; value = some (r .value) } ∷ []) (record { queue = r .queue; memory = m .memory })
 serve-keeps groups memory answered m st counts serial r h = at (serve-accepts q (m .memory) serial r h)
   where
     q : Contents
@@ -124,10 +125,10 @@ serve-keeps groups memory answered m st counts serial r h = at (serve-accepts q 
     i = loadPlace q serial
 
     Goal : Type 0
-    Goal = State groups memory (answered ++ record { call = Serve counts serial; number = 0; value = some (r .value) } ∷ []) (record { queue = r .queue; memory = m .memory })
+    Goal = Invariant groups memory (answered ++ record { call = Serve counts serial; number = 0; value = some (r .value) } ∷ []) (record { queue = r .queue; memory = m .memory })
 
     found : (l : Load) → getElem? (q .loads) i ≡ some l → Serving q (m .memory) i r l
-        → (pre : List Entry) × (it : Load) × (post : List Entry) × Located loads stores (st .log) (q .loads) (q .stores) i pre it post → Goal
+        → (pre : List LogEntry) × (it : Load) × (post : List LogEntry) × Located loads stores (st .log) (q .loads) (q .stores) i pre it post → Goal
     found l e s (pre, it, post, place) =
         let same : l ≡ loads .remember (place .number) it = cc (place .at) in
         serve-at groups memory answered q (m .memory) (st .log) (st .table) (st .holds) (st .seen) counts serial i r pre it post place (subst (Serving q (m .memory) i r) same s)

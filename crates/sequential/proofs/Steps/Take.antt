@@ -19,17 +19,18 @@ use Rattle.queue.specs.Sound.{sound}
 use Rattle.queue.specs.Arguments.{namesPort}
 use Rattle.queue.specs.Retire.{retire}
 use Rattle.queue.specs.Take.{Taken, untaken, loadTaken, takeRule}
-use Rattle.queue.proofs.Lists.{false-true, and-left, and-right, and-both, implies, all-left, all-middle, all-weaken₂, first-passes, first-before}
+use Rattle.number.proofs.Both.{and-left, and-right}
+use Rattle.queue.proofs.Lists.{false-true, and-both, implies, all-left, all-middle, all-weaken₂, first-passes, first-before}
 use Rattle.queue.proofs.Refusals.{need-accepts, have-accepts}
 use Rattle.sequential.specs.Calls.{Take}
-use Rattle.sequential.specs.Call.{Machine, Answered}
+use Rattle.sequential.specs.Answers.{Machine, Answered}
 use Rattle.sequential.specs.Plain.{rowsOf}
 use Rattle.sequential.specs.Demand3.{told, takenAt}
-use Rattle.sequential.proofs.Log.{Entry, ofLoad, ofStore, loads, stores, ownIn, loads-stores, ownIn-append}
+use Rattle.sequential.proofs.Log.{LogEntry, ofLoad, ofStore, loads, stores, ownIn, loads-stores, ownIn-append}
 use Rattle.sequential.proofs.Window.{Located, locate, before-log}
 use Rattle.sequential.proofs.MemoryInvariant.{agree-change}
 use Rattle.sequential.proofs.Rows.{given, valueTaken, cellFor, lacking, row-of-port, none-waits}
-use Rattle.sequential.proofs.State.{State, Holds, Seen, rightLoad, taken-served, served-addressed, load-in-range, served}
+use Rattle.sequential.proofs.Invariant.{Invariant, Holds, LogSeen, rightLoad, taken-served, served-addressed, load-in-range, isServed}
 use Rattle.sequential.proofs.Anew.{holds-load, holds-retired, row-kept, seen-anew}
 
 -- what an accepted take of this load says
@@ -66,12 +67,12 @@ waits-not words port l t r = go (eqb (l .port) port) (l .taken) (l .value) t (ta
     go true true none t₁ t₂ = false-true t₂
     go true true (some v) t₁ t₂ = refl
 
-module _ (groups : List GroupPairs) (memory : List ℕ) (answered : List Answered) (q : Contents) (m : List ℕ) (log : List Entry)
-    (table : q .groups ≡ groups) (h : Holds q m memory log) (seen : Seen groups answered log) where
-  take-at : (port i : ℕ) (r : Taken) (pre : List Entry) (it : Load) (post : List Entry) (l : Located loads stores log (q .loads) (q .stores) i pre it post)
+module _ (groups : List GroupPairs) (memory : List ℕ) (answered : List Answered) (q : Contents) (m : List ℕ) (log : List LogEntry)
+    (table : q .groups ≡ groups) (h : Holds q m memory log) (seen : LogSeen groups answered log) where
+  take-at : (port i : ℕ) (r : Taken) (pre : List LogEntry) (it : Load) (post : List LogEntry) (l : Located loads stores log (q .loads) (q .stores) i pre it post)
       → untaken port it ≡ true → allOf (λ x. not (untaken port x)) (lib.ListN.take i (q .loads)) ≡ true
       → Taking q i r (loads .remember (l .number) it)
-      → State groups memory (answered ++ record { call = Take port; number = 0; value = some (r .value) } ∷ []) (record { queue = r .queue; memory = m })
+      → Invariant groups memory (answered ++ record { call = Take port; number = 0; value = some (r .value) } ∷ []) (record { queue = r .queue; memory = m })
   take-at port i r pre it post l first earlier s = rw (s .result) (record {
     log = pre ++ ofLoad (loadTaken it) ∷ post;
     table = table;
@@ -80,15 +81,15 @@ module _ (groups : List GroupPairs) (memory : List ℕ) (answered : List Answere
         seen-anew groups answered (record { call = Take port; number = 0; value = some v }) pre (ofLoad it) (ofLoad (loadTaken it)) post seen′ refl refl
         (λ kind p. row-kept (given kind p) (ofLoad it) (ofLoad (loadTaken it)) (take-given it kind p) post pre (rowsOf (told answered) kind p) (seen′ .rows kind p))
         (row-of-port valueTaken (ofLoad it) (ofLoad (loadTaken it)) v port pre post waits filled none-waiting other (λ p. takenAt p answered) (seen′ .takes))
-        (sym (add-zero (countWhere served (ofLoad it ∷ []))))
+        (sym (add-zero (countWhere isServed (ofLoad it ∷ []))))
         refl;
   })
     where
       v : ℕ
       v = s .value
 
-      seen′ : Seen groups answered (pre ++ ofLoad it ∷ post)
-      seen′ = subst (Seen groups answered) (l .log-is) seen
+      seen′ : LogSeen groups answered (pre ++ ofLoad it ∷ post)
+      seen′ = subst (LogSeen groups answered) (l .log-is) seen
 
       same-port : eqb (it .port) port ≡ true
       same-port = and-left (eqb (it .port) port) (not (it .taken)) first
@@ -120,7 +121,7 @@ module _ (groups : List GroupPairs) (memory : List ℕ) (answered : List Answere
           (all-weaken₂ (λ x. not (untaken port x)) (rightLoad (q .memoryLength)) (λ x. not (lacking (valueTaken port (ofLoad x)))) (waits-not (q .memoryLength) port) (ownIn loads pre)
           (before-log (l .before) (λ x. not (untaken port x)) (λ n x. refl) (rightLoad (q .memoryLength)) (λ x t f. finished-taken x f) rightBefore earlier) rightBefore)
         where
-          store-waits-not : (e : Entry) → loads .own e ≡ none → not (lacking (valueTaken port e)) ≡ true
+          store-waits-not : (e : LogEntry) → loads .own e ≡ none → not (lacking (valueTaken port e)) ≡ true
           store-waits-not (ofLoad x) e = let z : false ≡ true = cc in false-true z
           store-waits-not (ofStore x) e = refl
 
@@ -135,9 +136,9 @@ module _ (groups : List GroupPairs) (memory : List ℕ) (answered : List Answere
       other p e = let f : eqb (it .port) p ≡ false = ap (λ (k : ℕ). eqb k p) (eqb-true (it .port) port same-port) ∙ e in rw f
 
 -- An accepted take keeps the invariant.
-pub take-keeps : (groups : List GroupPairs) (memory : List ℕ) (answered : List Answered) (m : Machine) → State groups memory answered m
+pub take-keeps : (groups : List GroupPairs) (memory : List ℕ) (answered : List Answered) (m : Machine) → Invariant groups memory answered m
     → (port : ℕ) (r : Taken) → takeRule (m .queue) port ≡ accept r
-    → State groups memory (answered ++ record { call = Take port; number = 0; value = some (r .value) } ∷ []) (record { queue = r .queue; memory = m .memory })
+    → Invariant groups memory (answered ++ record { call = Take port; number = 0; value = some (r .value) } ∷ []) (record { queue = r .queue; memory = m .memory })
 take-keeps groups memory answered m st port r h = at (take-accepts q port r h)
   where
     q : Contents
@@ -147,10 +148,10 @@ take-keeps groups memory answered m st port r h = at (take-accepts q port r h)
     i = firstPlace (untaken port) (q .loads)
 
     Goal : Type 0
-    Goal = State groups memory (answered ++ record { call = Take port; number = 0; value = some (r .value) } ∷ []) (record { queue = r .queue; memory = m .memory })
+    Goal = Invariant groups memory (answered ++ record { call = Take port; number = 0; value = some (r .value) } ∷ []) (record { queue = r .queue; memory = m .memory })
 
     found : (l : Load) → getElem? (q .loads) i ≡ some l → Taking q i r l
-        → (pre : List Entry) × (it : Load) × (post : List Entry) × Located loads stores (st .log) (q .loads) (q .stores) i pre it post → Goal
+        → (pre : List LogEntry) × (it : Load) × (post : List LogEntry) × Located loads stores (st .log) (q .loads) (q .stores) i pre it post → Goal
     found l e s (pre, it, post, place) =
         let same : l ≡ loads .remember (place .number) it = cc (place .at) in
         take-at groups memory answered q (m .memory) (st .log) (st .table) (st .holds) (st .seen) port i r pre it post place

@@ -12,18 +12,18 @@ use Rattle.queue.specs.declared.arguments.Argument.{Argument}
 use Rattle.queue.specs.declared.arguments.Argument.the-variants.{LoadAddress, StoreAddress, StoreData}
 use Rattle.queue.specs.Ruled.{accept, isSome}
 use Rattle.queue.specs.Contents.{Store, Contents, storePlace}
-use Rattle.queue.specs.Write.{Written, addressApart, loadGivesWay, storeGivesWay, storeDone, write}
+use Rattle.queue.specs.Write.{Written, addressApart, noLoadConflict, noStoreConflict, storeDone, write}
 use Rattle.queue.proofs.Lists.{and-both, or-left, implied, all-left, all-middle}
 use Rattle.queue.proofs.WriteLaws.{Writing, write-accepts}
 use Rattle.sequential.specs.Calls.{Write}
-use Rattle.sequential.specs.Call.{Machine, Answered}
+use Rattle.sequential.specs.Answers.{Machine, Answered}
 use Rattle.sequential.specs.Plain.{rowsOf}
 use Rattle.sequential.specs.Demand3.{told, takenAt}
-use Rattle.sequential.proofs.Log.{Entry, ofStore, loads, stores, ownIn, stores-loads, ownIn-append}
+use Rattle.sequential.proofs.Log.{LogEntry, ofStore, loads, stores, ownIn, stores-loads, ownIn-append}
 use Rattle.sequential.proofs.Window.{Located, turned, locate, before-log}
-use Rattle.sequential.proofs.MemoryInvariant.{Agree, agree-write}
+use Rattle.sequential.proofs.MemoryInvariant.{MemoriesAgree, agree-write}
 use Rattle.sequential.proofs.Rows.{given, valueTaken}
-use Rattle.sequential.proofs.State.{State, Holds, Seen, rightLoad, rightStore, taken-served, store-in-range}
+use Rattle.sequential.proofs.Invariant.{Invariant, Holds, LogSeen, rightLoad, rightStore, taken-served, store-in-range}
 use Rattle.sequential.proofs.Anew.{holds-store, holds-retired, row-kept, seen-anew}
 
 write-given : (s : Store) (kind : Argument) (port : ℕ) → given kind port (ofStore s) ≡ given kind port (ofStore (storeDone s))
@@ -31,11 +31,11 @@ write-given s LoadAddress port = refl
 write-given s StoreAddress port = refl
 write-given s StoreData port = refl
 
-module _ (groups : List GroupPairs) (memory : List ℕ) (answered : List Answered) (q : Contents) (m : List ℕ) (log : List Entry)
-    (table : q .groups ≡ groups) (h : Holds q m memory log) (seen : Seen groups answered log) where
-  write-at : (serial i : ℕ) (r : Written) (pre : List Entry) (it : Store) (post : List Entry) (l : Located stores loads log (q .stores) (q .loads) i pre it post)
+module _ (groups : List GroupPairs) (memory : List ℕ) (answered : List Answered) (q : Contents) (m : List ℕ) (log : List LogEntry)
+    (table : q .groups ≡ groups) (h : Holds q m memory log) (seen : LogSeen groups answered log) where
+  write-at : (serial i : ℕ) (r : Written) (pre : List LogEntry) (it : Store) (post : List LogEntry) (l : Located stores loads log (q .stores) (q .loads) i pre it post)
       → Writing q m i r (stores .remember (l .number) it)
-      → State groups memory (answered ++ record { call = Write serial; number = 0; value = none } ∷ []) (record { queue = r .queue; memory = r .memory })
+      → Invariant groups memory (answered ++ record { call = Write serial; number = 0; value = none } ∷ []) (record { queue = r .queue; memory = r .memory })
   write-at serial i r pre it post l s = rw (s .result) (record {
     log = pre ++ ofStore (storeDone it) ∷ post;
     table = table;
@@ -54,8 +54,8 @@ module _ (groups : List GroupPairs) (memory : List ℕ) (answered : List Answere
       w : ℕ
       w = s .put .word
 
-      seen′ : Seen groups answered (pre ++ ofStore it ∷ post)
-      seen′ = subst (Seen groups answered) (l .log-is) seen
+      seen′ : LogSeen groups answered (pre ++ ofStore it ∷ post)
+      seen′ = subst (LogSeen groups answered) (l .log-is) seen
 
       unwritten : it .written ≡ false
       unwritten = not-true (it .written) (s .may .unwritten)
@@ -71,24 +71,24 @@ module _ (groups : List GroupPairs) (memory : List ℕ) (answered : List Answere
           and-both {a = isSome (it .address) && isSome (it .word)} (rw (s .may .addressed, s .may .worded))
           (store-in-range (q .memoryLength) it (all-middle (rightStore (q .memoryLength)) (ownIn stores pre) (ownIn stores post) it rightStores))
 
-      loadsApart : allOf (loadGivesWay a) (ownIn loads pre) ≡ true
+      loadsApart : allOf (noLoadConflict a) (ownIn loads pre) ≡ true
       loadsApart =
-          before-log (l .before′) (loadGivesWay a) (λ n x. refl) (rightLoad (q .memoryLength))
+          before-log (l .before′) (noLoadConflict a) (λ n x. refl) (rightLoad (q .memoryLength))
           (λ x t f. or-left (isSome (x .value)) (addressApart a (x .address)) (implied (x .taken) (isSome (x .value)) (taken-served (q .memoryLength) x t) f))
           (all-left (rightLoad (q .memoryLength)) (ownIn loads pre) (ownIn loads post) rightLoads) (s .may .loadsApart)
 
-      storesApart : allOf (storeGivesWay a) (ownIn stores pre) ≡ true
+      storesApart : allOf (noStoreConflict a) (ownIn stores pre) ≡ true
       storesApart =
-          before-log (l .before) (storeGivesWay a) (λ n x. refl) (rightStore (q .memoryLength)) (λ x t f. or-left (x .written) (addressApart a (x .address)) f)
+          before-log (l .before) (noStoreConflict a) (λ n x. refl) (rightStore (q .memoryLength)) (λ x t f. or-left (x .written) (addressApart a (x .address)) f)
           (all-left (rightStore (q .memoryLength)) (ownIn stores pre) (it ∷ ownIn stores post) rightStores) (s .may .storesApart)
 
-      agree : Agree (set m a w) memory (pre ++ ofStore (storeDone it) ∷ post)
+      agree : MemoriesAgree (set m a w) memory (pre ++ ofStore (storeDone it) ∷ post)
       agree = agree-write it post a w (s .may .addressed) (s .may .worded) unwritten pre m memory loadsApart storesApart (rw (l .log-is) at (h .agree))
 
 -- An accepted write keeps the invariant.
-pub write-keeps : (groups : List GroupPairs) (memory : List ℕ) (answered : List Answered) (m : Machine) → State groups memory answered m
+pub write-keeps : (groups : List GroupPairs) (memory : List ℕ) (answered : List Answered) (m : Machine) → Invariant groups memory answered m
     → (serial : ℕ) (r : Written) → write (m .queue) (m .memory) serial ≡ accept r
-    → State groups memory (answered ++ record { call = Write serial; number = 0; value = none } ∷ []) (record { queue = r .queue; memory = r .memory })
+    → Invariant groups memory (answered ++ record { call = Write serial; number = 0; value = none } ∷ []) (record { queue = r .queue; memory = r .memory })
 write-keeps groups memory answered m st serial r h = at (write-accepts q (m .memory) serial r h)
   where
     q : Contents
@@ -98,10 +98,10 @@ write-keeps groups memory answered m st serial r h = at (write-accepts q (m .mem
     i = storePlace q serial
 
     Goal : Type 0
-    Goal = State groups memory (answered ++ record { call = Write serial; number = 0; value = none } ∷ []) (record { queue = r .queue; memory = r .memory })
+    Goal = Invariant groups memory (answered ++ record { call = Write serial; number = 0; value = none } ∷ []) (record { queue = r .queue; memory = r .memory })
 
     found : (s : Store) → getElem? (q .stores) i ≡ some s → Writing q (m .memory) i r s
-        → (pre : List Entry) × (it : Store) × (post : List Entry) × Located stores loads (st .log) (q .stores) (q .loads) i pre it post → Goal
+        → (pre : List LogEntry) × (it : Store) × (post : List LogEntry) × Located stores loads (st .log) (q .stores) (q .loads) i pre it post → Goal
     found s e facts (pre, it, post, place) =
         let same : s ≡ stores .remember (place .number) it = cc (place .at) in
         write-at groups memory answered q (m .memory) (st .log) (st .table) (st .holds) (st .seen) serial i r pre it post place (subst (Writing q (m .memory) i r) same facts)

@@ -4,7 +4,7 @@ use mathlib.Core.Path.{_≡_, refl, sym, ap, _∙_}
 use mathlib.Core.Bool.{true}
 use Rattle.queue.specs.Outcome.{Handed, handed}
 use Rattle.queue.specs.Parts.{frameOf, queueOf, outcomeOf}
-use Rattle.queue.proofs.PartsLaws.{Fit, fit, unfit}
+use Rattle.queue.proofs.PartsLaws.{PartsFit, fit, unfit}
 use borrow.Author.Needs.{needs}
 use borrow.Author.Tests.{not-true, not-false}
 use Rattle.table.specs.Group.{GroupPairs, pairsOf}
@@ -18,7 +18,7 @@ use Rattle.queue.specs.Contents.{contentsOf}
 use Rattle.number.specs.Refusal.{noPlace}
 use Rattle.queue.specs.Ruled.{accept, need}
 use Rattle.queue.specs.Activate.{room, withGroup, activate}
-use Rattle.queue.specs.InternalActivate.{PairsFit}
+use Rattle.queue.specs.Internal.{PairsFit}
 use Rattle.queue.proofs.SoundLaws.{table-right, loads-few, stores-few}
 use Rattle.queue.proofs.GroupLaws.{groups-few, group-right}
 use Rattle.queue.proofs.ActivateLaws.{with-group-is, room-record, appended-both, group-fits, activate-unsound, activate-no-group, activate-group}
@@ -43,7 +43,7 @@ abbrev queue : tie.After-sound-in → Queue
 queue c = queueIn (start c)
 
 -- the runs are whole and the queue is sound
-good : (c : tie.Else1) → Fit (queue (c .before))
+good : (c : tie.Else1) → PartsFit (queue (c .before))
 good c = fit (queue (c .before)) (c .before .sound-in .ensures) (c .if1 .left)
 
 -- where a group was chosen: the sound queue

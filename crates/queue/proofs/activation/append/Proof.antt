@@ -10,7 +10,7 @@ use Rattle.table.specs.declared.Pair.{Pair}
 use Rattle.table.specs.Group.{blankPair, listOf}
 use Rattle.table.proofs.CheckLaws.{view-length, view-at}
 use Rattle.queue.specs.Entry.{entryOf, numberOf}
-use Rattle.queue.specs.InternalActivate.{entryAfter}
+use Rattle.queue.specs.Internal.{entryAfter}
 use Rattle.queue.proofs.EntryLaws.{entry-number}
 use Rattle.queue.proofs.AppendLaws.{Pasted, pasted-none, pasted-more, side-appended}
 use Rattle.queue.proofs.activation.append.Statement.{statement}

@@ -10,14 +10,14 @@ use Rattle.queue.specs.declared.Kind.{Kind}
 use Rattle.queue.specs.declared.Frame.{Frame}
 use Rattle.queue.specs.declared.Queue.{Queue}
 use Rattle.queue.specs.declared.Side.{Side}
-use Rattle.queue.specs.Kind.{ofKind}
+use Rattle.queue.specs.Contents.{ofKind}
 use Rattle.queue.specs.Contents.{contentsOf}
 use Rattle.queue.specs.Sound.{sound}
 use Rattle.queue.specs.Arguments.{kindOf, namesPort, inRange, give}
 use Rattle.queue.specs.Parts.{frameOf, queueOfKind, whole}
 use Rattle.queue.proofs.SoundLaws.{table-right, words-most}
 use Rattle.queue.proofs.ArgumentLaws.{give-record, own-room, in-range-most, gives}
-use Rattle.queue.proofs.PartsLaws.{Fit, fit, unfit}
+use Rattle.queue.proofs.PartsLaws.{PartsFit, fit, unfit}
 use Rattle.queue.proofs.GroupLaws.{groups-few}
 use borrow.Author.Needs.{needs}
 use Rattle.queue.proofs.arguments.give_in.Statement.{statement}
@@ -44,7 +44,7 @@ soundBy s kind =
 checked : (c : tie.After-sound-of) → c .sound-of .result ≡ soundBy (start c) (kindOf (start c .args .argument))
 checked c = c .sound-of .ensures ∙ ap (soundBy (start c)) (c .before .before .kind-of .ensures)
 
-good : (c : tie.Else1) → Fit (queue (start (c .before)))
+good : (c : tie.Else1) → PartsFit (queue (start (c .before)))
 good c = fit (queue (start (c .before))) (checked (c .before)) (c .if1 .left)
 
 -- the port was looked up among those of the argument's kind

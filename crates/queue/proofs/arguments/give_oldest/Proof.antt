@@ -2,8 +2,8 @@ use mathlib.Core.Path.{_≡_, ap, _∙_}
 use borrow.Author.Tests.{lt-ltb, le-ltb}
 use Rattle.queue.specs.declared.entries.Mark.{Mark}
 use Rattle.queue.specs.Contents.{firstPlace}
-use Rattle.queue.specs.Internal.{lacks, entriesIn}
-use Rattle.queue.specs.InternalArguments.{waitingAt}
+use Rattle.queue.specs.Internal.{lacks, entriesHeld}
+use Rattle.queue.specs.Internal.{waitingAt}
 use borrow.Author.Needs.{needs}
 use Rattle.queue.proofs.arguments.give_oldest.Statement.{statement}
 use Rattle.queue.proofs.arguments.give_oldest.Tie as tie
@@ -13,7 +13,7 @@ place : (c : tie.After-oldest-without) → let s = c .before .before .before .be
 place c =
     let m = c .before .before in
     let a = m .before .before .args in
-    c .oldest-without .ensures ∙ ap (λ (mark : Mark). firstPlace (lacks mark (a .port)) (entriesIn (a .held) (a .entries .now))) (m .mark-of .ensures)
+    c .oldest-without .ensures ∙ ap (λ (mark : Mark). firstPlace (lacks mark (a .port)) (entriesHeld (a .held) (a .entries .now))) (m .mark-of .ensures)
 
 returns : tie.Need-returns
 returns c =

@@ -5,20 +5,20 @@ use native.Mathlib.Omega.{arith}
 use lib.ListN.{drop}
 use borrow.Author.Needs.{needs}
 use Rattle.queue.specs.Entry.{entryOf}
-use Rattle.queue.specs.Internal.{lacks, entriesIn}
+use Rattle.queue.specs.Internal.{lacks, entriesHeld}
 use Rattle.queue.proofs.ContentsLaws.{side-here, side-end}
 use Rattle.queue.proofs.WalkLaws.{Seeking, seeking-none, seeking-on, seeking-stop, seeking-end}
 use Rattle.queue.proofs.entries.oldest_without.Statement.{statement}
 use Rattle.queue.proofs.entries.oldest_without.Tie as tie
 
 abbrev Inv-loop : tie.InvT-loop
-Inv-loop entries held port mark count i₀ i = (i ≤ held) × Seeking (lacks mark port) (entriesIn held entries) i
+Inv-loop entries held port mark count i₀ i = (i ≤ held) × Seeking (lacks mark port) (entriesHeld held entries) i
 
 abbrev μ-loop : tie.MeasureT-loop
 μ-loop entries held port mark count i₀ i = count - i
 
 here : (c : tie.After-lacks Inv-loop μ-loop) → let l = c .before .before .before in let s = l .before .before .before in
-    drop (l .before .loop .i) (entriesIn (s .args .held) (s .args .entries .now)) ≡ c .before .unpack .result ∷ drop (l .before .loop .i + 1) (entriesIn (s .args .held) (s .args .entries .now))
+    drop (l .before .loop .i) (entriesHeld (s .args .held) (s .args .entries .now)) ≡ c .before .unpack .result ∷ drop (l .before .loop .i + 1) (entriesHeld (s .args .held) (s .args .entries .now))
 here c =
     let l = c .before .before .before in
     let s = l .before .before .before in

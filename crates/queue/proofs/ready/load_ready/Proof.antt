@@ -6,16 +6,16 @@ use Rattle.queue.specs.declared.serving.Source as coded
 use Rattle.queue.specs.Ruled.{accepted}
 use Rattle.queue.specs.Contents.{Store, loadOf}
 use Rattle.queue.specs.Serve.{loadedFrom}
-use Rattle.queue.specs.Internal.{storesIn}
-use Rattle.queue.specs.InternalServe.{sourceIn}
-use Rattle.queue.specs.InternalReady.{loadReady}
+use Rattle.queue.specs.Internal.{storesHeld}
+use Rattle.queue.specs.Internal.{sourceIn}
+use Rattle.queue.specs.Internal.{loadReady}
 use Rattle.queue.proofs.ServeLaws.{may-again, may-no-address, may-load}
 use Rattle.queue.proofs.ready.load_ready.Statement.{statement}
 use Rattle.queue.proofs.ready.load_ready.Tie as tie
 
 -- the stores before the load
 abbrev before : tie.Start → List Store
-before s = storesIn (s .args .load .before) (s .args .store-entries .now)
+before s = storesHeld (s .args .load .before) (s .args .store-entries .now)
 
 -- the source decides, once the load has an address and no value
 sourced : (c : tie.After-source-of) (x : coded.Source) → c .source-of .result ≡ x → let s = c .before .before .before .before .before .before in

@@ -5,14 +5,14 @@ use native.Mathlib.Omega.{arith}
 use lib.ListN.{length, length-set}
 use lib.Seq.{take-suc-set}
 use borrow.Author.Tests.{not-true, not-false}
-use Rattle.queue.specs.InternalReady.{listed}
+use Rattle.queue.specs.Internal.{serialsListed}
 use Rattle.table.proofs.CheckLaws.{long}
 use borrow.Author.Needs.{needs}
 use Rattle.queue.proofs.ready.noted.Statement.{statement}
 use Rattle.queue.proofs.ready.noted.Tie as tie
 
 returns : tie.Need-returns
-returns c = record { few = omega arith; long = refl; are = rw (not-true (c .before .args .ready) (c .if1 .taken)) (sym (append-nil (listed (c .before .args .t1)))) }
+returns c = record { few = omega arith; long = refl; are = rw (not-true (c .before .args .ready) (c .if1 .taken)) (sym (append-nil (serialsListed (c .before .args .t1)))) }
 
 returns-2 : tie.Need-returns-2
 returns-2 c =

@@ -4,7 +4,7 @@ use Rattle.queue.specs.Contents.{contentsOf}
 use Rattle.queue.specs.Ready.{ready}
 use Rattle.queue.specs.Parts.{frameOf, queueOf}
 use Rattle.queue.proofs.ReadyLaws.{ready-unsound, ready-sound, handed}
-use Rattle.queue.proofs.PartsLaws.{Fit, fit, unfit}
+use Rattle.queue.proofs.PartsLaws.{PartsFit, fit, unfit}
 use borrow.Author.Needs.{needs}
 use Rattle.queue.proofs.ready.ready_in.Statement.{statement}
 use Rattle.queue.proofs.ready.ready_in.Tie as tie
@@ -18,7 +18,7 @@ queue c =
     queueOf (frameOf (a .outline) (a .groups .now) (a .load-places .now) (a .store-places .now)) (a .load-entries .now) (a .store-entries .now)
 
 -- the runs are whole and the queue is sound
-good : (c : tie.Else1) → Fit (queue (c .before))
+good : (c : tie.Else1) → PartsFit (queue (c .before))
 good c = fit (queue (c .before)) (c .before .sound-in .ensures) (c .if1 .left)
 
 returns : tie.Need-returns

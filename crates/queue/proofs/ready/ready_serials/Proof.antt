@@ -9,15 +9,15 @@ use Rattle.queue.specs.Contents.{contentsOf, oldest}
 use Rattle.queue.specs.Ready.{oldestOf}
 use Rattle.queue.specs.Parts.{queueOf}
 use Rattle.queue.specs.Internal.{frameWith}
-use Rattle.queue.specs.InternalReady.{readyAt}
+use Rattle.queue.specs.Internal.{readyAt}
 use Rattle.queue.proofs.Serials.{oldest-small}
-use Rattle.queue.proofs.ReadyLaws.{Gathering, gathering-none, gathering-more, sideIn, oldest-in, side-most, in-reach, gathered}
+use Rattle.queue.proofs.ReadyLaws.{ReadyGathering, gathering-none, gathering-more, sideIn, oldest-in, side-most, in-reach, gathered}
 use Rattle.queue.proofs.ready.ready_serials.Statement.{statement}
 use Rattle.queue.proofs.ready.ready_serials.Tie as tie
 
 abbrev Inv-loop : tie.InvT-loop
 Inv-loop kind load-entries store-entries count found₀ serial₀ i₀ found serial i =
-    (i ≤ count) × Gathering (readyAt kind load-entries store-entries) serial₀ count i serial found
+    (i ≤ count) × ReadyGathering (readyAt kind load-entries store-entries) serial₀ count i serial found
 
 abbrev μ-loop : tie.MeasureT-loop
 μ-loop kind load-entries store-entries count found₀ serial₀ i₀ found serial i = count - i

@@ -6,21 +6,21 @@ use lib.ListN.{getD, drop}
 use borrow.Author.Needs.{needs}
 use borrow.Author.Tests.{not-true, not-false}
 use Rattle.queue.specs.Entry.{entryOf}
-use Rattle.queue.specs.Internal.{entriesIn, finished}
+use Rattle.queue.specs.Internal.{entriesHeld, finished}
 use Rattle.queue.proofs.ContentsLaws.{side-here, side-end}
 use Rattle.queue.proofs.WalkLaws.{Retiring, retiring-none, retiring-on, retiring-stop, retiring-end}
 use Rattle.queue.proofs.retiring.retiring.Statement.{statement}
 use Rattle.queue.proofs.retiring.retiring.Tie as tie
 
 abbrev Inv-loop : tie.InvT-loop
-Inv-loop entries held i₀ i = (i ≤ held) × Retiring finished (entriesIn held entries) i
+Inv-loop entries held i₀ i = (i ≤ held) × Retiring finished (entriesHeld held entries) i
 
 abbrev μ-loop : tie.MeasureT-loop
 μ-loop entries held i₀ i = held - i
 
 here : (l : tie.In-loop Inv-loop μ-loop) → let s = l .before .before .before in
-    drop (l .before .loop .i) (entriesIn (s .args .held) (s .args .entries .now))
-    ≡ entryOf (getD (s .args .entries .now) (l .before .loop .i) 0) ∷ drop (l .before .loop .i + 1) (entriesIn (s .args .held) (s .args .entries .now))
+    drop (l .before .loop .i) (entriesHeld (s .args .held) (s .args .entries .now))
+    ≡ entryOf (getD (s .args .entries .now) (l .before .loop .i) 0) ∷ drop (l .before .loop .i + 1) (entriesHeld (s .args .held) (s .args .entries .now))
 here l = side-here entryOf 0 _ _ _ (l .loop-test .taken)
 
 -- the entry that a turn looks at

@@ -5,8 +5,8 @@ use native.Mathlib.Omega.{arith}
 use lib.ListN.{length, getD, length-set}
 use borrow.Author.Needs.{needs}
 use Rattle.queue.specs.Entry.{entryOf, numberOf}
-use Rattle.queue.specs.Internal.{entriesIn}
-use Rattle.queue.specs.InternalRetire.{lowered}
+use Rattle.queue.specs.Internal.{entriesHeld}
+use Rattle.queue.specs.Internal.{lowered}
 use Rattle.queue.proofs.RetireLaws.{Moved, moved-none, moved-more, moved-side, lowered-number}
 use Rattle.queue.proofs.retiring.shift.Statement.{statement}
 use Rattle.queue.proofs.retiring.shift.Tie as tie
@@ -45,7 +45,7 @@ returns c =
     let n : ℕ = s .args .gone + s .args .left in
     let left : n - s .args .gone ≡ s .args .left = omega arith in
     record {
-      holds = ap (λ (m : ℕ). entriesIn m (c .before .loop .entries)) (sym left)
+      holds = ap (λ (m : ℕ). entriesHeld m (c .before .loop .entries)) (sym left)
           ∙ moved-side (i .1) entryOf 0 (lowered (s .args .others)) (lowered-number (s .args .others)) n (omega (arith, i .0, c .loop-test .left)) (omega arith) (omega (arith, s .pre));
     }
 

@@ -17,8 +17,8 @@ use Rattle.queue.specs.Contents.{Store, loadOf, contentsOf}
 use Rattle.queue.specs.Serve.{Served, Loaded, loadedFrom, mayServe, servedWith, serveAt}
 use Rattle.queue.specs.Outcome.{handedCounts}
 use Rattle.queue.specs.Parts.{queueOf, countedOf}
-use Rattle.queue.specs.Internal.{storesIn, frameWith}
-use Rattle.queue.specs.InternalServe.{sourceIn}
+use Rattle.queue.specs.Internal.{storesHeld, frameWith}
+use Rattle.queue.specs.Internal.{sourceIn}
 use Rattle.queue.proofs.SoundLaws.{loads-few, stores-few, load-before, load-address}
 use Rattle.queue.proofs.ServeLaws.{may-again, may-no-address, may-load, serve-none, serve-held, served-well}
 use Rattle.queue.proofs.serving.serve_at.Statement.{statement}
@@ -60,7 +60,7 @@ abbrev byRule : Table → tie.After-unpack → Ruled Loaded → Ruled Served
 byRule t u x = andThen x λ v. accept (servedWith (contentsOf (queueWith t (start (held u)))) (start (held u) .args .place) v)
 
 abbrev before : tie.After-unpack → List Store
-before u = storesIn (u .unpack .result .before) (start (held u) .args .store-entries .now)
+before u = storesHeld (u .unpack .result .before) (start (held u) .args .store-entries .now)
 
 may : (u : tie.After-unpack) (t : Table) → let s = start (held u) in
     serveAt (contentsOf (queueWith t s)) (s .args .memory .now) (s .args .place)
@@ -69,7 +69,7 @@ may u t =
     let s = start (held u) in
     serve-held (queueWith t s) (s .args .memory .now) (s .args .place) (held u .if1 .left)
     (load-before (queueIn s) (s .pre .0 .right) (s .args .place) (held u .if1 .left))
-    ∙ ap (λ (e : Entry). byRule t u (mayServe (s .args .memory .now) (storesIn (e .before) (s .args .store-entries .now)) (loadOf e)))
+    ∙ ap (λ (e : Entry). byRule t u (mayServe (s .args .memory .now) (storesHeld (e .before) (s .args .store-entries .now)) (loadOf e)))
     (sym (u .unpack .ensures))
 
 sourced : (c : tie.After-source-of) (t : Table) (x : coded.Source) → c .source-of .result ≡ x
@@ -88,7 +88,7 @@ sourced c t x is =
 returns : tie.Need-returns
 returns c t =
     let s = c .before .before .before .before .before .before .before in
-    rw (serve-none (queueWith t s) (s .args .memory .now) (s .args .place) (c .before .if1 .taken)) (ap (λ (r : Service). handedCounts (countedOf r (queueWith t s))) (c .unserved .ensures))
+    rw (serve-none (queueWith t s) (s .args .memory .now) (s .args .place) (c .before .if1 .taken)) (ap (λ (r : Service). handedCounts (countedOf r (queueWith t s))) (c .serve-refused .ensures))
 
 slice-read-unpack : tie.Need-slice-read-unpack
 slice-read-unpack c = le-trans (c .before .if1 .left) (room (start (c .before)))
@@ -98,7 +98,7 @@ returns-2 c t =
     let u = c .before .before in
     let s = start (held u) in
     rw (may u t, may-again (s .args .memory .now) (before u) (u .unpack .result) (c .before .if2 .taken))
-    (ap (λ (r : Service). handedCounts (countedOf r (queueWith t s))) (c .unserved2 .ensures))
+    (ap (λ (r : Service). handedCounts (countedOf r (queueWith t s))) (c .serve-refused2 .ensures))
 
 returns-3 : tie.Need-returns-3
 returns-3 c t =
@@ -106,7 +106,7 @@ returns-3 c t =
     let u = e2 .before in
     let s = start (held u) in
     rw (may u t, may-no-address (s .args .memory .now) (before u) (u .unpack .result) (e2 .if2 .left) (not-true _ (c .before .if3 .taken)))
-    (ap (λ (r : Service). handedCounts (countedOf r (queueWith t s))) (c .unserved3 .ensures))
+    (ap (λ (r : Service). handedCounts (countedOf r (queueWith t s))) (c .serve-refused3 .ensures))
 
 source-of-requires : tie.Need-source-of-requires
 source-of-requires c κs =
@@ -134,13 +134,13 @@ returns-4 : tie.Need-returns-4
 returns-4 c t =
     let m = c .before .before .before in
     let s = start (held (m .before .before .before .before .before)) in
-    rw (sourced m t _ (c .before .enum-told .given .1)) (ap (λ (r : Service). handedCounts (countedOf r (queueWith t s))) (c .unserved4 .ensures))
+    rw (sourced m t _ (c .before .enum-told .given .1)) (ap (λ (r : Service). handedCounts (countedOf r (queueWith t s))) (c .serve-refused4 .ensures))
 
 returns-5 : tie.Need-returns-5
 returns-5 c t =
     let m = c .before .before .before in
     let s = start (held (m .before .before .before .before .before)) in
-    rw (sourced m t _ (c .before .enum-told2 .given .1)) (ap (λ (r : Service). handedCounts (countedOf r (queueWith t s))) (c .unserved5 .ensures))
+    rw (sourced m t _ (c .before .enum-told2 .given .1)) (ap (λ (r : Service). handedCounts (countedOf r (queueWith t s))) (c .serve-refused5 .ensures))
 
 returns-6 : tie.Need-returns-6
 returns-6 c t =

@@ -1,7 +1,7 @@
 use mathlib.Core.Path.{ap}
 use Rattle.queue.specs.Outcome.{handedCounts}
 use Rattle.queue.specs.Parts.{frameOf, queueOf, countedOf}
-use Rattle.queue.proofs.PartsLaws.{Fit, fit, unfit}
+use Rattle.queue.proofs.PartsLaws.{PartsFit, fit, unfit}
 use borrow.Author.Needs.{needs}
 use Rattle.queue.specs.declared.Frame.{Frame}
 use Rattle.queue.specs.declared.Queue.{Queue}
@@ -26,7 +26,7 @@ abbrev queue : tie.After-sound-in → Queue
 queue c = queueIn (start c)
 
 -- the runs are whole and the queue is sound
-good : (c : tie.Else1) → Fit (queue (c .before))
+good : (c : tie.Else1) → PartsFit (queue (c .before))
 good c = fit (queue (c .before)) (c .before .sound-in .ensures) (c .if1 .left)
 
 returns : tie.Need-returns
@@ -34,13 +34,13 @@ returns c =
     let p = c .before .before in
     let s = start p in
     let q = queueIn s in
-    rw (unfit q (serve (contentsOf q) (s .args .memory .now) (s .args .serial)) (c .before .before .sound-in .ensures) (c .before .if1 .taken) (serve-unsound q (s .args .memory .now) (s .args .serial))) (ap (λ (r : Service). handedCounts (countedOf r (queueIn s))) (c .unserved .ensures))
+    rw (unfit q (serve (contentsOf q) (s .args .memory .now) (s .args .serial)) (c .before .before .sound-in .ensures) (c .before .if1 .taken) (serve-unsound q (s .args .memory .now) (s .args .serial))) (ap (λ (r : Service). handedCounts (countedOf r (queueIn s))) (c .serve-refused .ensures))
 
 returns-2 : tie.Need-returns-2
 returns-2 c =
     let e = c .before .before .before in
     let s = start (e .before) in
-    rw (good e .full, serve-memory (queueIn s) (s .args .memory .now) (s .args .serial) (good e .right) (c .before .if2 .taken)) (ap (λ (r : Service). handedCounts (countedOf r (queueIn s))) (c .unserved2 .ensures))
+    rw (good e .full, serve-memory (queueIn s) (s .args .memory .now) (s .args .serial) (good e .right) (c .before .if2 .taken)) (ap (λ (r : Service). handedCounts (countedOf r (queueIn s))) (c .serve-refused2 .ensures))
 
 serve-at-requires : tie.Need-serve-at-requires
 serve-at-requires c κs =

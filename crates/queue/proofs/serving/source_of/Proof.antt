@@ -7,22 +7,22 @@ use lib.ListN.{drop}
 use borrow.Author.Needs.{needs}
 use Rattle.queue.specs.declared.Entry.{Entry}
 use Rattle.queue.specs.Contents.{Store, storeOf, storeIn}
-use Rattle.queue.specs.Internal.{storesIn}
-use Rattle.queue.specs.InternalServe.{sourceIn}
+use Rattle.queue.specs.Internal.{storesHeld}
+use Rattle.queue.specs.Internal.{sourceIn}
 use Rattle.queue.proofs.ContentsLaws.{side-here, side-end}
 use Rattle.queue.proofs.SourceLaws.{Walked, walked-none, walked-stop, walked-nearer, walked-on, walked-end}
 use Rattle.queue.proofs.serving.source_of.Statement.{statement}
 use Rattle.queue.proofs.serving.source_of.Tie as tie
 
 abbrev Inv-loop : tie.InvT-loop
-Inv-loop entries n address found₀ i₀ found i = (i ≤ n) × Walked address (storesIn n entries) i (sourceIn found)
+Inv-loop entries n address found₀ i₀ found i = (i ≤ n) × Walked address (storesHeld n entries) i (sourceIn found)
 
 abbrev μ-loop : tie.MeasureT-loop
 μ-loop entries n address found₀ i₀ found i = n - i
 
 -- the stores that are walked, and the one that the walk has come to
 abbrev walked : tie.Start Inv-loop μ-loop → List Store
-walked c = storesIn (c .args .n) (c .args .entries .now)
+walked c = storesHeld (c .args .n) (c .args .entries .now)
 
 abbrev turn : tie.After-unpack Inv-loop μ-loop → tie.At-loop Inv-loop μ-loop
 turn c = c .before .before .before

@@ -6,20 +6,20 @@ use lib.ListN.{drop}
 use borrow.Author.Needs.{needs}
 use borrow.Author.Tests.{not-true, not-false}
 use Rattle.queue.specs.Entry.{entryOf}
-use Rattle.queue.specs.Internal.{entryRight, entriesIn}
+use Rattle.queue.specs.Internal.{entryRight, entriesHeld}
 use Rattle.queue.proofs.ContentsLaws.{side-here, side-end}
 use Rattle.queue.proofs.WalkLaws.{AllYet, all-none, all-on, all-stop, all-end}
 use Rattle.queue.proofs.sound.entries_right.Statement.{statement}
 use Rattle.queue.proofs.sound.entries_right.Tie as tie
 
 abbrev Inv-loop : tie.InvT-loop
-Inv-loop entries held words others count i₀ i = (i ≤ held) × AllYet (entryRight words others) (entriesIn held entries) i
+Inv-loop entries held words others count i₀ i = (i ≤ held) × AllYet (entryRight words others) (entriesHeld held entries) i
 
 abbrev μ-loop : tie.MeasureT-loop
 μ-loop entries held words others count i₀ i = count - i
 
 here : (c : tie.After-entry-right Inv-loop μ-loop) → let l = c .before .before .before in let s = l .before .before .before in
-    drop (l .before .loop .i) (entriesIn (s .args .held) (s .args .entries .now)) ≡ c .before .unpack .result ∷ drop (l .before .loop .i + 1) (entriesIn (s .args .held) (s .args .entries .now))
+    drop (l .before .loop .i) (entriesHeld (s .args .held) (s .args .entries .now)) ≡ c .before .unpack .result ∷ drop (l .before .loop .i + 1) (entriesHeld (s .args .held) (s .args .entries .now))
 here c =
     let l = c .before .before .before in
     let s = l .before .before .before in

@@ -9,7 +9,7 @@ use Rattle.number.specs.Basics.{allOf}
 use Rattle.queue.specs.declared.Queue.{Queue}
 use Rattle.queue.specs.Sound.{depthRight, memoryRight}
 use Rattle.queue.specs.Parts.{frameOf, queueOf, whole}
-use Rattle.queue.specs.Internal.{entriesIn, entryRight}
+use Rattle.queue.specs.Internal.{entriesHeld, entryRight}
 use Rattle.queue.proofs.SoundLaws.{sound-sides, side-few}
 use Rattle.queue.proofs.PartsLaws.{both-whole, loads-not-whole, stores-not-whole}
 use native.Mathlib.Omega.{arith}
@@ -48,10 +48,10 @@ store-side c = sym (c .before .side-right2 .ensures) ∙ not-false _ (c .if4 .le
 memory : (c : tie.Else5) → memoryRight (at3 c .frame .words) ≡ true
 memory c = sym (c .before .memory-right .ensures) ∙ not-false _ (c .if5 .left)
 
-loads : (c : tie.Else6) → allOf (entryRight (at4 c .frame .words) (at4 c .frame .stores .count)) (entriesIn (at4 c .frame .loads .count) (at4 c .«load_entries»)) ≡ true
+loads : (c : tie.Else6) → allOf (entryRight (at4 c .frame .words) (at4 c .frame .stores .count)) (entriesHeld (at4 c .frame .loads .count) (at4 c .«load_entries»)) ≡ true
 loads c = sym (c .before .entries-right .ensures) ∙ not-false _ (c .if6 .left)
 
-stores : (c : tie.Else7) → allOf (entryRight (at5 c .frame .words) (at5 c .frame .loads .count)) (entriesIn (at5 c .frame .stores .count) (at5 c .«store_entries»)) ≡ true
+stores : (c : tie.Else7) → allOf (entryRight (at5 c .frame .words) (at5 c .frame .loads .count)) (entriesHeld (at5 c .frame .stores .count) (at5 c .«store_entries»)) ≡ true
 stores c = sym (c .before .entries-right2 .ensures) ∙ not-false _ (c .if7 .left)
 
 -- both runs have the length of a side's

@@ -15,12 +15,12 @@ use Rattle.queue.specs.Retire.{retire}
 use Rattle.queue.specs.declared.Kind.the-variants.{Load as load}
 use Rattle.queue.specs.Take.{untaken, loadTaken, takeRule}
 use Rattle.queue.specs.Parts.{frameOf, queueOf}
-use Rattle.queue.specs.Internal.{loadsIn, lacks}
+use Rattle.queue.specs.Internal.{loadsHeld, lacks}
 use Rattle.queue.proofs.EntryLaws.{done-number, load-untaken, side-place-same}
 use Rattle.queue.proofs.ContentsLaws.{load-anew}
 use Rattle.queue.proofs.SoundLaws.{table-right}
 use Rattle.queue.proofs.TakeLaws.{take-unsound, take-no-port, take-none, take-unserved, take-served}
-use Rattle.queue.proofs.PartsLaws.{Fit, fit, unfit}
+use Rattle.queue.proofs.PartsLaws.{PartsFit, fit, unfit}
 use Rattle.queue.proofs.GroupLaws.{groups-few}
 use borrow.Author.Needs.{needs}
 use Rattle.queue.proofs.taking.take_in.Statement.{statement}
@@ -35,7 +35,7 @@ queue c =
     queueOf (frameOf (a .outline) (a .groups .now) (a .load-places .now) (a .store-places .now)) (a .load-entries .now) (a .store-entries .now)
 
 -- the runs are whole and the queue is sound
-good : (c : tie.Else1) → Fit (queue (c .before))
+good : (c : tie.Else1) → PartsFit (queue (c .before))
 good c = fit (queue (c .before)) (c .before .sound-in .ensures) (c .if1 .left)
 
 -- where the port was looked up, and where its oldest untaken load was
@@ -49,7 +49,7 @@ port : (c : tie.Else2) → let s = sure (c .before) .before in anyOf (namesPort 
 port c = sym (c .before .has-port .ensures) ∙ not-false _ (c .if2 .left)
 
 place : (c : tie.After-oldest-without) → let s = sure (known c .before) .before in
-    c .oldest-without .result ≡ firstPlace (untaken (start s .args .port)) (loadsIn (queue s .frame .loads .count) (queue s .«load_entries»))
+    c .oldest-without .result ≡ firstPlace (untaken (start s .args .port)) (loadsHeld (queue s .frame .loads .count) (queue s .«load_entries»))
 place c =
     let s = sure (known c .before) .before in
     let port = start s .args .port in

@@ -17,8 +17,8 @@ use Rattle.queue.specs.Write.{storeDone, writtenWith, writeAt}
 use Rattle.queue.specs.Retire.{retire}
 use Rattle.queue.specs.Outcome.{Handed, handed}
 use Rattle.queue.specs.Parts.{queueOf, outcomeOf}
-use Rattle.queue.specs.Internal.{loadsIn, storesIn, frameWith}
-use Rattle.queue.specs.InternalWrite.{mayWriteAt}
+use Rattle.queue.specs.Internal.{loadsHeld, storesHeld, frameWith}
+use Rattle.queue.specs.Internal.{mayWriteAt}
 use Rattle.queue.proofs.ContentsLaws.{store-anew}
 use Rattle.queue.proofs.EntryLaws.{done, done-number}
 use Rattle.queue.proofs.SoundLaws.{loads-few, stores-few, store-before, store-address}
@@ -64,10 +64,10 @@ held e t = let s = start e in write-held (queueWith t s) (s .args .memory .now) 
 
 -- what is put where
 puts : (c : tie.Else2) → let s = start (c .before .before .before .before) in
-    Puts (loadsIn (store s .before) (s .args .load-entries .now)) (storesIn (s .args .place) (s .args .store-entries .now)) (store s)
+    Puts (loadsHeld (store s .before) (s .args .load-entries .now)) (storesHeld (s .args .place) (s .args .store-entries .now)) (store s)
 puts c =
     let s = start (c .before .before .before .before) in
-    may-puts (loadsIn (store s .before) (s .args .load-entries .now)) (storesIn (s .args .place) (s .args .store-entries .now)) (store s) (sym (c .before .write-fault .ensures) ∙ c .if2 .left)
+    may-puts (loadsHeld (store s .before) (s .args .load-entries .now)) (storesHeld (s .args .place) (s .args .store-entries .now)) (store s) (sym (c .before .write-fault .ensures) ∙ c .if2 .left)
 
 -- the number put in the store's place
 put : (c : tie.After-pack) → let u = c .before .before in let s = start (u .before .before .before .before .before .before) in

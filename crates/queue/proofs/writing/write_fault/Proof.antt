@@ -9,10 +9,10 @@ use Rattle.queue.specs.declared.Entry.{Entry}
 use Rattle.queue.specs.declared.entries.Mark.the-variants.{Filled, Finished}
 use Rattle.queue.specs.Ruled.{number}
 use Rattle.queue.specs.Contents.{Load, Store, loadOf, storeOf}
-use Rattle.queue.specs.Write.{loadGivesWay, storeGivesWay, mayWrite}
-use Rattle.queue.specs.Internal.{loadsIn, storesIn}
-use Rattle.queue.specs.InternalWrite.{givesWay, mayWriteAt}
-use Rattle.queue.proofs.EntryLaws.{side-all-same, load-gives-way, store-gives-way}
+use Rattle.queue.specs.Write.{noLoadConflict, noStoreConflict, mayWrite}
+use Rattle.queue.specs.Internal.{loadsHeld, storesHeld}
+use Rattle.queue.specs.Internal.{noConflict, mayWriteAt}
+use Rattle.queue.proofs.EntryLaws.{side-all-same, load-no-conflict, store-no-conflict}
 use Rattle.queue.proofs.WriteLaws.{may-not-again, may-no-address, may-no-data, may-load, may-store, may-put}
 use Rattle.queue.proofs.writing.write_fault.Statement.{statement}
 use Rattle.queue.proofs.writing.write_fault.Tie as tie
@@ -22,27 +22,27 @@ abbrev store : tie.After-unpack → Entry
 store u = u .unpack .result
 
 abbrev loads : tie.After-unpack → List Load
-loads u = loadsIn (store u .before) (u .before .before .before .before .args .load-entries .now)
+loads u = loadsHeld (store u .before) (u .before .before .before .before .args .load-entries .now)
 
 abbrev stores : tie.After-unpack → List Store
-stores u = storesIn (u .before .before .before .before .args .at) (u .before .before .before .before .args .store-entries .now)
+stores u = storesHeld (u .before .before .before .before .args .at) (u .before .before .before .before .args .store-entries .now)
 
 told : (u : tie.After-unpack) (n : ℕ) → n ≡ number (mayWrite (loads u) (stores u) (storeOf (store u)))
     → n ≡ number (mayWriteAt (u .before .before .before .before .args .load-entries .now) (u .before .before .before .before .args .store-entries .now) (u .before .before .before .before .args .at))
 told u n e = rw (← u .unpack .ensures) e
 
--- do the loads, the stores, before it give way?
-loads-way : (c : tie.After-all-give-way) → let u = c .before .before .before .before .before .before .before in
-    c .all-give-way .result ≡ allOf (loadGivesWay (store u .address)) (loads u)
+-- does no load, no store, before it conflict?
+loads-way : (c : tie.After-none-conflict) → let u = c .before .before .before .before .before .before .before in
+    c .none-conflict .result ≡ allOf (noLoadConflict (store u .address)) (loads u)
 loads-way c =
     let u = c .before .before .before .before .before .before .before in
-    c .all-give-way .ensures ∙ sym (side-all-same loadOf (loadGivesWay (store u .address)) (givesWay Filled (store u .address)) (λ e. load-gives-way e (store u .address)) (store u .before) (u .before .before .before .before .args .load-entries .now))
+    c .none-conflict .ensures ∙ sym (side-all-same loadOf (noLoadConflict (store u .address)) (noConflict Filled (store u .address)) (λ e. load-no-conflict e (store u .address)) (store u .before) (u .before .before .before .before .args .load-entries .now))
 
-stores-way : (c : tie.After-all-give-way2) → let u = c .before .before .before .before .before .before .before .before .before in
-    c .all-give-way2 .result ≡ allOf (storeGivesWay (store u .address)) (stores u)
+stores-way : (c : tie.After-none-conflict2) → let u = c .before .before .before .before .before .before .before .before .before in
+    c .none-conflict2 .result ≡ allOf (noStoreConflict (store u .address)) (stores u)
 stores-way c =
     let u = c .before .before .before .before .before .before .before .before .before in
-    c .all-give-way2 .ensures ∙ sym (side-all-same storeOf (storeGivesWay (store u .address)) (givesWay Finished (store u .address)) (λ e. store-gives-way e (store u .address)) (u .before .before .before .before .args .at) (u .before .before .before .before .args .store-entries .now))
+    c .none-conflict2 .ensures ∙ sym (side-all-same storeOf (noStoreConflict (store u .address)) (noConflict Finished (store u .address)) (λ e. store-no-conflict e (store u .address)) (u .before .before .before .before .args .at) (u .before .before .before .before .args .store-entries .now))
 
 returns : tie.Need-returns
 returns c =
@@ -62,8 +62,8 @@ returns-3 c =
     let u = e1 .before in
     told u _ (may-no-data (loads u) (stores u) (store u) (e1 .if1 .left) (not-false (store u .addressed) (e2 .if2 .left)) (not-true (store u .filled) (c .if3 .taken)))
 
-all-give-way-requires : tie.Need-all-give-way-requires
-all-give-way-requires c κs =
+none-conflict-requires : tie.Need-none-conflict-requires
+none-conflict-requires c κs =
     let u = c .before .before .before .before .before .before in
     rw (u .unpack .ensures) (u .before .before .before .before .pre .1)
 
@@ -104,7 +104,7 @@ write-fault-spec =
     returns-2
     returns-3
     (λ c. search needs)
-    all-give-way-requires
+    none-conflict-requires
     returns-4
     (λ c κs. search needs)
     returns-5

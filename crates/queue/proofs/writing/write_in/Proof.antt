@@ -1,7 +1,7 @@
 use mathlib.Core.Path.{refl, ap}
 use Rattle.queue.specs.Outcome.{Handed, handed}
 use Rattle.queue.specs.Parts.{frameOf, queueOf, outcomeOf}
-use Rattle.queue.proofs.PartsLaws.{Fit, fit, unfit}
+use Rattle.queue.proofs.PartsLaws.{PartsFit, fit, unfit}
 use borrow.Author.Needs.{needs}
 use Rattle.queue.specs.declared.Frame.{Frame}
 use Rattle.queue.specs.declared.Queue.{Queue}
@@ -30,7 +30,7 @@ abbrev queue : tie.After-sound-in → Queue
 queue c = queueIn (start c)
 
 -- the runs are whole and the queue is sound
-good : (c : tie.Else1) → Fit (queue (c .before))
+good : (c : tie.Else1) → PartsFit (queue (c .before))
 good c = fit (queue (c .before)) (c .before .sound-in .ensures) (c .if1 .left)
 
 returns : tie.Need-returns

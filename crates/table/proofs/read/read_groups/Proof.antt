@@ -7,13 +7,13 @@ use borrow.Author.Needs.{needs}
 use Rattle.table.specs.Table.{groupFault}
 use Rattle.table.specs.TableBytes.{readGroup}
 use Rattle.table.specs.Internal.{seenOf, Growing, groups-none, groups-found}
-use Rattle.table.proofs.ReadLaws.{group-bad, GroupGot, group-got, Gathering, gathering-none, gathering-refused, gathering-room, gathering-more, gathering-end}
+use Rattle.table.proofs.ReadLaws.{group-bad, GroupGot, group-got, PairsGathering, gathering-none, gathering-refused, gathering-room, gathering-more, gathering-end}
 use Rattle.table.proofs.RoundTrip.{put-group}
 use Rattle.table.proofs.read.read_groups.Statement.{statement}
 use Rattle.table.proofs.read.read_groups.Tie as tie
 
 abbrev Inv-loop : tie.InvT-loop
-Inv-loop bytes at count table₀ loads₀ stores₀ seen₀ place₀ i₀ table loads stores seen place i = (i ≤ count) × Gathering count bytes at i (seenOf seen) place table loads stores
+Inv-loop bytes at count table₀ loads₀ stores₀ seen₀ place₀ i₀ table loads stores seen place i = (i ≤ count) × PairsGathering count bytes at i (seenOf seen) place table loads stores
 
 abbrev μ-loop : tie.MeasureT-loop
 μ-loop bytes at count table₀ loads₀ stores₀ seen₀ place₀ i₀ table loads stores seen place i = count - i

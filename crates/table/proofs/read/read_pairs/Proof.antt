@@ -12,13 +12,13 @@ use Rattle.table.specs.Table.{pairFault}
 use Rattle.table.specs.TableBytes.{pair}
 use Rattle.table.specs.Internal.{ruleOf, front, twoReply, twoRefusal}
 use Rattle.table.proofs.CheckLaws.{fault-none, rule-small}
-use Rattle.table.proofs.ReadLaws.{TwoGot, two-answer, two-bad, two-refused, Reading, reading-none, reading-refused, reading-fault, reading-more, reading-end, packed, held-pairs, pairs-refused, pairs-found}
+use Rattle.table.proofs.ReadLaws.{TwoGot, two-answer, two-bad, two-refused, PairsReading, reading-none, reading-refused, reading-fault, reading-more, reading-end, packed, held-pairs, pairs-refused, pairs-found}
 use Rattle.table.proofs.read.read_pairs.Statement.{statement}
 use Rattle.table.proofs.read.read_pairs.Tie as tie
 
 abbrev Inv-loop : tie.InvT-loop
 Inv-loop bytes at count storing stores load-places load-span pairs₀ marks₀ low₀ place₀ i₀ pairs marks low place i =
-    (i ≤ count) × Reading (ruleOf storing stores (listOf load-places load-span)) count marks₀ bytes at i low marks place (pairs .places)
+    (i ≤ count) × PairsReading (ruleOf storing stores (listOf load-places load-span)) count marks₀ bytes at i low marks place (pairs .places)
 
 abbrev μ-loop : tie.MeasureT-loop
 μ-loop bytes at count storing stores load-places load-span pairs₀ marks₀ low₀ place₀ i₀ pairs marks low place i = count - i

@@ -3,18 +3,18 @@ use mathlib.Core.Path.{_≡_}
 use mathlib.Core.List.{_∷_, []}
 use native.Mathlib.Omega.{arith}
 use lib.ListN.{length}
-use Rattle.number.specs.Basics.{flat}
+use Rattle.number.specs.Basics.{flatMap}
 use Rattle.number.specs.Number.{bytesOf, numberBytes, PutAt}
 use Rattle.table.specs.Group.{listOf}
 use Rattle.table.specs.TableBytes.{pairNumbers}
-use Rattle.number.proofs.SpliceLaws.{put-at, Put, put-none, put-two}
+use Rattle.number.proofs.SpliceLaws.{put-at, NumbersPut, put-none, put-two}
 use Rattle.table.proofs.WriteLaws.{group-bytes, put-group}
 use borrow.Author.Needs.{needs}
 use Rattle.table.proofs.write.put_group.Statement.{statement}
 use Rattle.table.proofs.write.put_group.Tie as tie
 
 -- the bytes of the group, part by part, and that there is room for them
-room : (c : tie.Start) → c .args .at + (length (numberBytes (c .args .group .loads .count)) + length (numberBytes (c .args .group .stores .count)) + length (bytesOf (flat pairNumbers (listOf (c .args .loads .now) (c .args .group .loads)))) + length (bytesOf (flat pairNumbers (listOf (c .args .stores .now) (c .args .group .stores))))) ≤ length (c .args .out .now)
+room : (c : tie.Start) → c .args .at + (length (numberBytes (c .args .group .loads .count)) + length (numberBytes (c .args .group .stores .count)) + length (bytesOf (flatMap pairNumbers (listOf (c .args .loads .now) (c .args .group .loads)))) + length (bytesOf (flatMap pairNumbers (listOf (c .args .stores .now) (c .args .group .stores))))) ≤ length (c .args .out .now)
 room c = omega (arith, group-bytes (c .args .loads .now) (c .args .stores .now) (c .args .group), c .pre .1)
 
 -- each count is put
@@ -32,7 +32,7 @@ second-put c =
     put-at (omega (arith, room (start n), first-put n .0, n .put-number .kept .0)) (c .put-number2 .ensures)
 
 -- both counts have been put
-counts-put : (c : tie.After-put-number2) → Put (c .before .before .before .before .before .before .before .before .before .before .before .args .out .now) (c .before .before .before .before .before .before .before .before .before .before .before .args .at) (c .before .before .before .before .before .before .before .before .before .before .before .args .group .loads .count ∷ c .before .before .before .before .before .before .before .before .before .before .before .args .group .stores .count ∷ []) (c .put-number2 .last .0) (c .put-number2 .result)
+counts-put : (c : tie.After-put-number2) → NumbersPut (c .before .before .before .before .before .before .before .before .before .before .before .args .out .now) (c .before .before .before .before .before .before .before .before .before .before .before .args .at) (c .before .before .before .before .before .before .before .before .before .before .before .args .group .loads .count ∷ c .before .before .before .before .before .before .before .before .before .before .before .args .group .stores .count ∷ []) (c .put-number2 .last .0) (c .put-number2 .result)
 counts-put c =
     let n = c .before .before .before .before .before in
     let s = start n in
@@ -49,7 +49,7 @@ put-pairs-requires c κs =
     let s = n .before .before .before .before .before .before .before .before .before .before .before in
     (s .pre .0 .0, omega (arith, room s, counts-end n .0, counts-end n .1))
 
-loads-end : (c : tie.After-put-pairs) → (c .put-pairs .result ≡ c .before .before .before .before .before .before .before .before .before .before .before .before .before .before .before .args .at + length (numberBytes (c .before .before .before .before .before .before .before .before .before .before .before .before .before .before .before .args .group .loads .count)) + length (numberBytes (c .before .before .before .before .before .before .before .before .before .before .before .before .before .before .before .args .group .stores .count)) + length (bytesOf (flat pairNumbers (listOf (c .before .before .before .before .before .before .before .before .before .before .before .before .before .before .before .args .loads .now) (c .before .before .before .before .before .before .before .before .before .before .before .before .before .before .before .args .group .loads))))) × (length (c .put-pairs .last .1 .1 .0) ≡ length (c .before .before .before .before .before .before .before .before .before .before .before .before .before .before .before .args .out .now))
+loads-end : (c : tie.After-put-pairs) → (c .put-pairs .result ≡ c .before .before .before .before .before .before .before .before .before .before .before .before .before .before .before .args .at + length (numberBytes (c .before .before .before .before .before .before .before .before .before .before .before .before .before .before .before .args .group .loads .count)) + length (numberBytes (c .before .before .before .before .before .before .before .before .before .before .before .before .before .before .before .args .group .stores .count)) + length (bytesOf (flatMap pairNumbers (listOf (c .before .before .before .before .before .before .before .before .before .before .before .before .before .before .before .args .loads .now) (c .before .before .before .before .before .before .before .before .before .before .before .before .before .before .before .args .group .loads))))) × (length (c .put-pairs .last .1 .1 .0) ≡ length (c .before .before .before .before .before .before .before .before .before .before .before .before .before .before .before .args .out .now))
 loads-end c =
     let n = c .before .before .before .before in
     (omega (arith, counts-end n .0, c .put-pairs .ensures .0), omega (arith, counts-end n .1, c .put-pairs .kept .1 .1 .0))

@@ -6,19 +6,19 @@ use lib.ListN.{length, getD, take}
 use lib.Seq.{take-all}
 use borrow.Author.Needs.{needs}
 use Rattle.table.specs.declared.Table.{Table}
-use Rattle.number.specs.Basics.{flat}
+use Rattle.number.specs.Basics.{flatMap}
 use Rattle.number.specs.Number.{numberBytes, bytesOf, PutAt}
 use Rattle.table.specs.Group.{GroupPairs, pairsOf}
 use Rattle.table.specs.Table.{groupsIn, groupsOf}
 use Rattle.table.specs.TableBytes.{groupNumbers}
 use Rattle.table.proofs.CheckLaws.{groups-size, group-inside, group-at}
-use Rattle.number.proofs.SpliceLaws.{put-at, Put, put-none, put-two, put-more, put-length}
+use Rattle.number.proofs.SpliceLaws.{put-at, NumbersPut, put-none, put-two, put-more, put-length}
 use Rattle.table.proofs.WriteLaws.{flat-next, flat-room, table-size, put-table}
 use Rattle.table.proofs.write.put_table.Statement.{statement}
 use Rattle.table.proofs.write.put_table.Tie as tie
 
 abbrev Inv-loop : tie.InvT-loop
-Inv-loop count groups loads stores out₀ many after-fields place₀ i₀ out place i = (i ≤ count) × Put out₀ place₀ (flat groupNumbers (take i (groupsIn count groups loads stores))) out place
+Inv-loop count groups loads stores out₀ many after-fields place₀ i₀ out place i = (i ≤ count) × NumbersPut out₀ place₀ (flatMap groupNumbers (take i (groupsIn count groups loads stores))) out place
 
 abbrev μ-loop : tie.MeasureT-loop
 μ-loop count groups loads stores out₀ many after-fields place₀ i₀ out place i = count - i
@@ -41,7 +41,7 @@ abbrev tableAt : tie.At-loop Inv-loop μ-loop → Table
 tableAt c = tableOf (start (fields (head c)))
 
 -- there is room for the whole table
-space : (c : tie.Start Inv-loop μ-loop) → length (numberBytes 2) + length (numberBytes (c .args .count)) + length (bytesOf (flat groupNumbers (groupsOf (tableOf c)))) ≤ length (c .args .out .now)
+space : (c : tie.Start Inv-loop μ-loop) → length (numberBytes 2) + length (numberBytes (c .args .count)) + length (bytesOf (flatMap groupNumbers (groupsOf (tableOf c)))) ≤ length (c .args .out .now)
 space c = omega (arith, table-size (groupsOf (tableOf c)) (c .args .count) (groups-size (tableOf c)), c .pre .1)
 
 loop-holds : tie.Need-loop-holds Inv-loop μ-loop
@@ -59,7 +59,7 @@ count-put c =
     put-at (omega (arith, space (start n), fields-put n .0, n .put-number .kept .0)) (c .put-number2 .ensures)
 
 -- the head has been put
-head-put : (c : tie.After-put-number2 Inv-loop μ-loop) → Put (start (fields c) .args .out .now) 0 (2 ∷ start (fields c) .args .count ∷ []) (c .put-number2 .last .0) (c .put-number2 .result)
+head-put : (c : tie.After-put-number2 Inv-loop μ-loop) → NumbersPut (start (fields c) .args .out .now) 0 (2 ∷ start (fields c) .args .count ∷ []) (c .put-number2 .last .0) (c .put-number2 .result)
 head-put c =
     let n = fields c in
     put-two put-none 2 (start n .args .count) (omega (arith, space (start n))) (fields-put n .1) (fields-put n .0) (count-put c .1) (count-put c .0)
@@ -84,7 +84,7 @@ inside : (c : tie.In-loop Inv-loop μ-loop) → c .before .loop .i < length (gro
 inside c = omega (arith, groups-size (tableAt (c .before)), c .loop-test .taken)
 
 -- there is room for it
-room : (c : tie.After-group-at Inv-loop μ-loop) → head (c .before .before) .put-number2 .result + (length (bytesOf (flat groupNumbers (take (c .before .before .loop .i) (groupsOf (tableAt (c .before .before)))))) + length (bytesOf (groupNumbers (groupOf c)))) ≤ length (head (c .before .before) .put-number2 .last .0)
+room : (c : tie.After-group-at Inv-loop μ-loop) → head (c .before .before) .put-number2 .result + (length (bytesOf (flatMap groupNumbers (take (c .before .before .loop .i) (groupsOf (tableAt (c .before .before)))))) + length (bytesOf (groupNumbers (groupOf c)))) ≤ length (head (c .before .before) .put-number2 .last .0)
 room c =
     let l = c .before in
     let h = head (l .before) in
@@ -113,7 +113,7 @@ loop-again c =
     let q = flat-next groupNumbers (groupsOf (tableAt (l .before))) (l .before .loop .i) (groupOf g) (inside l) in
     (omega (arith, l .loop-test .taken), rw (q, this g) (put-more (l .before .loop .inv .1) (groupNumbers (groupOf g)) (omega (arith, room g)) (p .put-group .ensures .1) (p .put-group .ensures .0)))
 
-done : (c : tie.After-loop Inv-loop μ-loop) → Put (head (c .before) .put-number2 .last .0) (head (c .before) .put-number2 .result) (flat groupNumbers (groupsOf (tableAt (c .before)))) (c .before .loop .out) (c .before .loop .place)
+done : (c : tie.After-loop Inv-loop μ-loop) → NumbersPut (head (c .before) .put-number2 .last .0) (head (c .before) .put-number2 .result) (flatMap groupNumbers (groupsOf (tableAt (c .before)))) (c .before .loop .out) (c .before .loop .place)
 done c = rw (take-all (c .before .loop .i) (groupsOf (tableAt (c .before))) (omega (arith, groups-size (tableAt (c .before)), c .loop-test .left))) at (c .before .loop .inv .1)
 
 same-length : tie.Need-same-length Inv-loop μ-loop

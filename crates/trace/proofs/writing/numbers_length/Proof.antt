@@ -3,12 +3,12 @@ use mathlib.Core.Path.{_≡_}
 use native.Mathlib.Omega.{arith}
 use lib.ListN.{length, getD}
 use borrow.Author.Needs.{needs}
-use Rattle.number.proofs.SpliceLaws.{bytes-most, Counted, counted-none, counted-more, counted-end}
+use Rattle.number.proofs.SpliceLaws.{bytes-most, BytesCounted, counted-none, counted-more, counted-end}
 use Rattle.trace.proofs.writing.numbers_length.Statement.{statement}
 use Rattle.trace.proofs.writing.numbers_length.Tie as tie
 
 abbrev Inv-loop : tie.InvT-loop
-Inv-loop numbers count total₀ i₀ total i = (i ≤ count) × (total ≤ 5 * i) × Counted (numbers .values) i total
+Inv-loop numbers count total₀ i₀ total i = (i ≤ count) × (total ≤ 5 * i) × BytesCounted (numbers .values) i total
 
 abbrev μ-loop : tie.MeasureT-loop
 μ-loop numbers count total₀ i₀ total i = count - i

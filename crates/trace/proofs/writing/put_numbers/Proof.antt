@@ -6,12 +6,12 @@ use lib.ListN.{length, take, getD}
 use lib.Seq.{take-suc}
 use borrow.Author.Needs.{needs}
 use Rattle.number.specs.Number.{bytesOf, numberBytes}
-use Rattle.number.proofs.SpliceLaws.{put-at, Put, put-none, put-length, put-one, bytes-room}
+use Rattle.number.proofs.SpliceLaws.{put-at, NumbersPut, put-none, put-length, put-one, bytes-room}
 use Rattle.trace.proofs.writing.put_numbers.Statement.{statement}
 use Rattle.trace.proofs.writing.put_numbers.Tie as tie
 
 abbrev Inv-loop : tie.InvT-loop
-Inv-loop out₀ numbers count place₀ i₀ out place i = (i ≤ count) × Put out₀ 0 (take i (numbers .values)) out place
+Inv-loop out₀ numbers count place₀ i₀ out place i = (i ≤ count) × NumbersPut out₀ 0 (take i (numbers .values)) out place
 
 abbrev μ-loop : tie.MeasureT-loop
 μ-loop out₀ numbers count place₀ i₀ out place i = count - i

@@ -1,4 +1,4 @@
--- The invariant of a list of calls: one record of named parts. `Holds` is about the queue and the memory, `Seen` about what
+-- The invariant of a list of calls: one record of named parts. `Holds` is about the queue and the memory, `LogSeen` about what
 -- the list was answered; both speak of the same log.
 use Prim.Native.Nat.{ℕ, _+_, _≤_}
 use native.Mathlib.Nat.{add-zero}
@@ -16,14 +16,15 @@ use Rattle.queue.specs.declared.Kind.{Kind}
 use Rattle.queue.specs.Ruled.{isSome}
 use Rattle.queue.specs.Contents.{Load, Store, Contents}
 use Rattle.queue.specs.Sound.{depthRight, memoryRight, addressRight}
-use Rattle.queue.proofs.Lists.{and-left, and-right, implies}
+use Rattle.number.proofs.Both.{and-left, and-right}
+use Rattle.queue.proofs.Lists.{implies}
 use Rattle.sequential.specs.Calls.{Call, Ready}
-use Rattle.sequential.specs.Call.{Machine, Answered}
-use Rattle.sequential.specs.Plain.{Told, consOption, gather, groupIn, givenIn, rowsOf, accessesOf, inOrder, accesses}
-use Rattle.sequential.specs.Demand3.{tell, told, takeOf, takenAt, serveIn, writeIn}
-use Rattle.sequential.proofs.Log.{Entry, ofLoad, ofStore, loads, stores, ownIn}
+use Rattle.sequential.specs.Answers.{Machine, Answered}
+use Rattle.sequential.specs.Plain.{Told, consOption, gather, activationOf, argumentOf, rowsOf, accessesOf, inOrder, accesses}
+use Rattle.sequential.specs.Demand3.{tell, told, takeOf, takenAt, serveOf, writeOf}
+use Rattle.sequential.proofs.Log.{LogEntry, ofLoad, ofStore, loads, stores, ownIn}
 use Rattle.sequential.proofs.Window.{Windows}
-use Rattle.sequential.proofs.MemoryInvariant.{Agree}
+use Rattle.sequential.proofs.MemoryInvariant.{MemoriesAgree}
 use Rattle.sequential.proofs.Rows.{Row, given, valueTaken, AllRows}
 use Rattle.sequential.proofs.PlainRun.{accessOf}
 
@@ -65,7 +66,7 @@ pub record Limits (groups : List GroupPairs) (words loadDepth storeDepth : ℕ) 
   pub tableRight : eqb (tableFault groups) 0 ≡ true
 
 -- a queue and a memory that the log led to from the opening memory
-pub record Holds (q : Contents) (m memory : List ℕ) (log : List Entry) : Type 0 where
+pub record Holds (q : Contents) (m memory : List ℕ) (log : List LogEntry) : Type 0 where
   pub limits : Limits (q .groups) (q .memoryLength) (q .loadDepth) (q .storeDepth)
   pub roomLoads : length (q .loads) ≤ q .loadDepth
   pub roomStores : length (q .stores) ≤ q .storeDepth
@@ -73,30 +74,30 @@ pub record Holds (q : Contents) (m memory : List ℕ) (log : List Entry) : Type 
   pub windows : Windows loads stores log (q .loads) (q .stores)
   pub rightLoads : allOf (rightLoad (q .memoryLength)) (ownIn loads log) ≡ true
   pub rightStores : allOf (rightStore (q .memoryLength)) (ownIn stores log) ≡ true
-  pub agree : Agree m memory log
+  pub agree : MemoriesAgree m memory log
 
 -- served loads, written stores
-abbrev pub served : Entry → Bool
-served (ofLoad l) = isSome (l .value)
-served (ofStore s) = false
+abbrev pub isServed : LogEntry → Bool
+isServed (ofLoad l) = isSome (l .value)
+isServed (ofStore s) = false
 
-abbrev pub written : Entry → Bool
-written (ofLoad l) = false
-written (ofStore s) = s .written
+abbrev pub isWritten : LogEntry → Bool
+isWritten (ofLoad l) = false
+isWritten (ofStore s) = s .written
 
 -- the answers so far, counted over the log
-pub record Seen (groups : List GroupPairs) (answered : List Answered) (log : List Entry) : Type 0 where
+pub record LogSeen (groups : List GroupPairs) (answered : List Answered) (log : List LogEntry) : Type 0 where
   pub shape : map accessOf log ≡ accesses groups (told answered)
   pub rows : AllRows log (rowsOf (told answered))
   pub takes : (port : ℕ) → Row (valueTaken port) log (takenAt port answered)
-  pub serves : countWhere served log ≡ length (gather serveIn (told answered))
-  pub writes : countWhere written log ≡ length (gather writeIn (told answered))
+  pub serves : countWhere isServed log ≡ length (gather serveOf (told answered))
+  pub writes : countWhere isWritten log ≡ length (gather writeOf (told answered))
 
-pub record State (groups : List GroupPairs) (memory : List ℕ) (answered : List Answered) (m : Machine) : Type 0 where
-  pub log : List Entry
+pub record Invariant (groups : List GroupPairs) (memory : List ℕ) (answered : List Answered) (m : Machine) : Type 0 where
+  pub log : List LogEntry
   pub table : m .queue .groups ≡ groups
   pub holds : Holds (m .queue) (m .memory) memory log
-  pub seen : Seen groups answered log
+  pub seen : LogSeen groups answered log
 
 -- ---- one more answer
 
@@ -131,35 +132,35 @@ module _ (groups : List GroupPairs) (answered : List Answered) (a : Answered) wh
   gather-told f = ap (gather f) (map-append tell answered (a ∷ [])) ∙ gather-append f (told answered) (tell a ∷ [])
 
   -- the log as it is after one more answer, which adds what it adds
-  pub seen-more : (log : List Entry)
+  pub seen-more : (log : List LogEntry)
       → map accessOf log ≡ accesses groups (told answered) ++ accesses groups (tell a ∷ [])
       → ((kind : Argument) (port : ℕ) → Row (given kind port) log (rowsOf (told answered) kind port ++ rowsOf (tell a ∷ []) kind port))
       → ((port : ℕ) → Row (valueTaken port) log (takenAt port answered ++ takenAt port (a ∷ [])))
-      → countWhere served log ≡ length (gather serveIn (told answered)) + length (gather serveIn (tell a ∷ []))
-      → countWhere written log ≡ length (gather writeIn (told answered)) + length (gather writeIn (tell a ∷ []))
-      → Seen groups (answered ++ a ∷ []) log
+      → countWhere isServed log ≡ length (gather serveOf (told answered)) + length (gather serveOf (tell a ∷ []))
+      → countWhere isWritten log ≡ length (gather writeOf (told answered)) + length (gather writeOf (tell a ∷ []))
+      → LogSeen groups (answered ++ a ∷ []) log
   seen-more log shape rows takes serves writes = record {
-    shape = shape ∙ sym (ap (inOrder groups) (gather-told groupIn) ∙ inOrder-append groups (gather groupIn (told answered)) (gather groupIn (tell a ∷ [])));
-    rows = λ kind port. rw (gather-told (givenIn kind port)) (rows kind port);
+    shape = shape ∙ sym (ap (inOrder groups) (gather-told activationOf) ∙ inOrder-append groups (gather activationOf (told answered)) (gather activationOf (tell a ∷ [])));
+    rows = λ kind port. rw (gather-told (argumentOf kind port)) (rows kind port);
     takes = λ port. rw (takenAt-append port answered (a ∷ [])) (takes port);
-    serves = serves ∙ sym (ap length (gather-told serveIn) ∙ length-append (gather serveIn (told answered)) (gather serveIn (tell a ∷ [])));
-    writes = writes ∙ sym (ap length (gather-told writeIn) ∙ length-append (gather writeIn (told answered)) (gather writeIn (tell a ∷ [])));
+    serves = serves ∙ sym (ap length (gather-told serveOf) ∙ length-append (gather serveOf (told answered)) (gather serveOf (tell a ∷ [])));
+    writes = writes ∙ sym (ap length (gather-told writeOf) ∙ length-append (gather writeOf (told answered)) (gather writeOf (tell a ∷ [])));
   }
 
   -- an answer that adds nothing
-  silent : (log : List Entry) → Seen groups answered log → gather groupIn (tell a ∷ []) ≡ [] → ((kind : Argument) (port : ℕ) → rowsOf (tell a ∷ []) kind port ≡ [])
-      → ((port : ℕ) → takenAt port (a ∷ []) ≡ []) → gather serveIn (tell a ∷ []) ≡ [] → gather writeIn (tell a ∷ []) ≡ [] → Seen groups (answered ++ a ∷ []) log
+  silent : (log : List LogEntry) → LogSeen groups answered log → gather activationOf (tell a ∷ []) ≡ [] → ((kind : Argument) (port : ℕ) → rowsOf (tell a ∷ []) kind port ≡ [])
+      → ((port : ℕ) → takenAt port (a ∷ []) ≡ []) → gather serveOf (tell a ∷ []) ≡ [] → gather writeOf (tell a ∷ []) ≡ [] → LogSeen groups (answered ++ a ∷ []) log
   silent log s no-group no-row no-take no-serve no-write =
       seen-more log
       (rw (no-group, append-nil (accesses groups (told answered))) (s .shape))
       (λ kind port. rw (no-row kind port, append-nil (rowsOf (told answered) kind port)) (s .rows kind port))
       (λ port. rw (no-take port, append-nil (takenAt port answered)) (s .takes port))
-      (rw (no-serve, add-zero (length (gather serveIn (told answered)))) (s .serves))
-      (rw (no-write, add-zero (length (gather writeIn (told answered)))) (s .writes))
+      (rw (no-serve, add-zero (length (gather serveOf (told answered)))) (s .serves))
+      (rw (no-write, add-zero (length (gather writeOf (told answered)))) (s .writes))
 
 -- a refused call adds nothing
-pub seen-refused : (groups : List GroupPairs) (answered : List Answered) (c : Call) (n : ℕ) (o : Option ℕ) → eqb n 0 ≡ false → (log : List Entry)
-    → Seen groups answered log → Seen groups (answered ++ record { call = c; number = n; value = o } ∷ []) log
+pub seen-refused : (groups : List GroupPairs) (answered : List Answered) (c : Call) (n : ℕ) (o : Option ℕ) → eqb n 0 ≡ false → (log : List LogEntry)
+    → LogSeen groups answered log → LogSeen groups (answered ++ record { call = c; number = n; value = o } ∷ []) log
 seen-refused groups answered c n o e log s =
     silent groups answered (record { call = c; number = n; value = o }) log s (rw e) (λ kind port. rw e) (λ port. rw e (go (takeOf port c))) (rw e) (rw e)
   where
@@ -168,8 +169,8 @@ seen-refused groups answered c n o e log s =
     go false = refl
 
 -- a ready call adds nothing
-pub seen-ready : (groups : List GroupPairs) (answered : List Answered) (kind : Kind) (run : List ℕ) (n : ℕ) (log : List Entry)
-    → Seen groups answered log → Seen groups (answered ++ record { call = Ready kind run; number = n; value = none } ∷ []) log
+pub seen-ready : (groups : List GroupPairs) (answered : List Answered) (kind : Kind) (run : List ℕ) (n : ℕ) (log : List LogEntry)
+    → LogSeen groups answered log → LogSeen groups (answered ++ record { call = Ready kind run; number = n; value = none } ∷ []) log
 seen-ready groups answered kind run n log s =
     silent groups answered (record { call = Ready kind run; number = n; value = none }) log s (go (eqb n 0)) (λ kind port. go (eqb n 0)) (λ port. refl) (go (eqb n 0)) (go (eqb n 0))
   where

@@ -1,8 +1,8 @@
 use mathlib.Core.Path.{sym, _∙_}
 use borrow.Author.Needs.{needs}
 use borrow.Author.Tests.{not-true, not-false}
-use Rattle.queue.proofs.writing.gives_way.Statement.{statement}
-use Rattle.queue.proofs.writing.gives_way.Tie as tie
+use Rattle.queue.proofs.writing.no_conflict.Statement.{statement}
+use Rattle.queue.proofs.writing.no_conflict.Tie as tie
 
 returns : tie.Need-returns
 returns c = rw (sym (c .before .has .ensures) ∙ c .if1 .taken)
@@ -17,5 +17,5 @@ returns-3 c =
     let e = c .before .before .before in
     rw (sym (e .before .has .ensures) ∙ e .if1 .left, not-false (e .before .before .args .entry .addressed) (c .before .if2 .left))
 
-pub gives-way-spec : {M : Type 1} → statement M
-gives-way-spec = tie.close (tie.spec (λ c κs. search needs) returns returns-2 returns-3)
+pub no-conflict-spec : {M : Type 1} → statement M
+no-conflict-spec = tie.close (tie.spec (λ c κs. search needs) returns returns-2 returns-3)

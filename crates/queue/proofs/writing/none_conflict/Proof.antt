@@ -6,30 +6,30 @@ use lib.ListN.{getD, drop}
 use borrow.Author.Needs.{needs}
 use borrow.Author.Tests.{not-true, not-false}
 use Rattle.queue.specs.Entry.{entryOf}
-use Rattle.queue.specs.Internal.{entriesIn}
-use Rattle.queue.specs.InternalWrite.{givesWay}
+use Rattle.queue.specs.Internal.{entriesHeld}
+use Rattle.queue.specs.Internal.{noConflict}
 use Rattle.queue.proofs.ContentsLaws.{side-here, side-end}
 use Rattle.queue.proofs.WalkLaws.{AllYet, all-none, all-on, all-stop, all-end}
-use Rattle.queue.proofs.writing.all_give_way.Statement.{statement}
-use Rattle.queue.proofs.writing.all_give_way.Tie as tie
+use Rattle.queue.proofs.writing.none_conflict.Statement.{statement}
+use Rattle.queue.proofs.writing.none_conflict.Tie as tie
 
 abbrev Inv-loop : tie.InvT-loop
-Inv-loop entries n done address i₀ i = (i ≤ n) × AllYet (givesWay done address) (entriesIn n entries) i
+Inv-loop entries n done address i₀ i = (i ≤ n) × AllYet (noConflict done address) (entriesHeld n entries) i
 
 abbrev μ-loop : tie.MeasureT-loop
 μ-loop entries n done address i₀ i = n - i
 
 here : (l : tie.In-loop Inv-loop μ-loop) → let s = l .before .before .before in
-    drop (l .before .loop .i) (entriesIn (s .args .n) (s .args .entries .now))
-    ≡ entryOf (getD (s .args .entries .now) (l .before .loop .i) 0) ∷ drop (l .before .loop .i + 1) (entriesIn (s .args .n) (s .args .entries .now))
+    drop (l .before .loop .i) (entriesHeld (s .args .n) (s .args .entries .now))
+    ≡ entryOf (getD (s .args .entries .now) (l .before .loop .i) 0) ∷ drop (l .before .loop .i + 1) (entriesHeld (s .args .n) (s .args .entries .now))
 here l = side-here entryOf 0 _ _ _ (l .loop-test .taken)
 
 -- what was found of the entry that a turn looks at
-found : (c : tie.After-gives-way Inv-loop μ-loop) → let l = c .before .before .before in let s = l .before .before .before in
-    givesWay (s .args .done) (s .args .address) (entryOf (getD (s .args .entries .now) (l .before .loop .i) 0)) ≡ c .gives-way .result
+found : (c : tie.After-no-conflict Inv-loop μ-loop) → let l = c .before .before .before in let s = l .before .before .before in
+    noConflict (s .args .done) (s .args .address) (entryOf (getD (s .args .entries .now) (l .before .loop .i) 0)) ≡ c .no-conflict .result
 found c =
     let s = c .before .before .before .before .before .before in
-    sym (c .gives-way .ensures ∙ ap (givesWay (s .args .done) (s .args .address)) (c .before .unpack .ensures))
+    sym (c .no-conflict .ensures ∙ ap (noConflict (s .args .done) (s .args .address)) (c .before .unpack .ensures))
 
 loop-holds : tie.Need-loop-holds Inv-loop μ-loop
 loop-holds c = (search needs, all-none)
@@ -47,8 +47,8 @@ loop-again c =
 returns-2 : tie.Need-returns-2 Inv-loop μ-loop
 returns-2 c = all-end (c .before .loop .inv .1) (side-end entryOf 0 _ (c .before .before .before .args .entries .now) _ (c .loop-test .left))
 
-pub all-give-way-spec : {M : Type 1} → statement M
-all-give-way-spec =
+pub none-conflict-spec : {M : Type 1} → statement M
+none-conflict-spec =
     tie.close
     (tie.spec
     Inv-loop

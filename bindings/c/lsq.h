@@ -182,7 +182,7 @@ typedef struct lsq_side {
  * opened for, and both sides. */
 typedef struct lsq_frame {
     lsq_table table;
-    uint16_t words;
+    uint16_t memory_length;
     lsq_side loads, stores;
 } lsq_frame;
 
@@ -244,7 +244,7 @@ typedef struct lsq_listed {
  * series of serials begin at `first`. The queue holds no entry, so the two runs
  * of entries that go with the frame may hold anything. */
 lsq_opened lsq_open_in(const uint8_t *table, size_t table_len, uint32_t load_depth,
-                       uint32_t store_depth, uint32_t first, uint32_t words);
+                       uint32_t store_depth, uint32_t first, uint32_t memory_length);
 
 /* 0 where a call with these parts would answer 40, else 1. */
 uint32_t lsq_sound_in(lsq_frame frame, const uint64_t *loads, size_t loads_len,
@@ -322,9 +322,9 @@ typedef struct lsq_queue {
 /* An accepted opening sets every field of *q, so that it can be saved. */
 static inline uint32_t lsq_open(lsq_queue *q, const uint8_t *table, size_t table_len,
                                 uint32_t load_depth, uint32_t store_depth,
-                                uint32_t first, uint32_t words)
+                                uint32_t first, uint32_t memory_length)
 {
-    lsq_opened opened = lsq_open_in(table, table_len, load_depth, store_depth, first, words);
+    lsq_opened opened = lsq_open_in(table, table_len, load_depth, store_depth, first, memory_length);
     if (opened.answer == LSQ_ACCEPTED) {
         memset(q, 0, sizeof *q);
         q->frame = opened.frame;
@@ -488,7 +488,7 @@ static inline const uint8_t *lsq_get_side(const uint8_t *at, lsq_side *side)
 /* Puts the queue down in LSQ_QUEUE_BYTES bytes. */
 static inline void lsq_save(const lsq_queue *q, uint8_t *out)
 {
-    out = lsq_put(lsq_put_table(out, &q->frame.table), q->frame.words, 2);
+    out = lsq_put(lsq_put_table(out, &q->frame.table), q->frame.memory_length, 2);
     out = lsq_put_side(lsq_put_side(out, &q->frame.loads), &q->frame.stores);
     for (int i = 0; i < LSQ_ENTRIES; i++)
         out = lsq_put(out, q->loads[i], 8);
@@ -500,9 +500,9 @@ static inline void lsq_save(const lsq_queue *q, uint8_t *out)
  * put down, or any. */
 static inline void lsq_restore(lsq_queue *q, const uint8_t *in)
 {
-    uint64_t words;
-    in = lsq_get(lsq_get_table(in, &q->frame.table), &words, 2);
-    q->frame.words = (uint16_t)words;
+    uint64_t memory_length;
+    in = lsq_get(lsq_get_table(in, &q->frame.table), &memory_length, 2);
+    q->frame.memory_length = (uint16_t)memory_length;
     in = lsq_get_side(lsq_get_side(in, &q->frame.loads), &q->frame.stores);
     for (int i = 0; i < LSQ_ENTRIES; i++)
         in = lsq_get(in, &q->loads[i], 8);
@@ -521,7 +521,7 @@ LSQ_HOLDS(sizeof(lsq_table_read) == 200);
 LSQ_HOLDS(sizeof(lsq_side) == 8);
 LSQ_HOLDS(offsetof(lsq_side, next) == 4);
 LSQ_HOLDS(sizeof(lsq_frame) == 216);
-LSQ_HOLDS(offsetof(lsq_frame, words) == 196);
+LSQ_HOLDS(offsetof(lsq_frame, memory_length) == 196);
 LSQ_HOLDS(offsetof(lsq_frame, loads) == 200);
 LSQ_HOLDS(offsetof(lsq_frame, stores) == 208);
 LSQ_HOLDS(sizeof(lsq_counts) == 8);

@@ -3,9 +3,9 @@
 #include "lsq.h"
 
 uint32_t header_open(lsq_queue *q, const uint8_t *table, size_t table_len, uint32_t load_depth,
-                     uint32_t store_depth, uint32_t first, uint32_t words)
+                     uint32_t store_depth, uint32_t first, uint32_t memory_length)
 {
-    return lsq_open(q, table, table_len, load_depth, store_depth, first, words);
+    return lsq_open(q, table, table_len, load_depth, store_depth, first, memory_length);
 }
 
 uint32_t header_sound(const lsq_queue *q)

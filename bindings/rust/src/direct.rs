@@ -114,9 +114,9 @@ pub fn write_event(kind: u32, first: u32, second: u32, out: &mut [u8]) -> Writte
 
 /// Opens a queue on a table's bytes: 1 to 9 of the table, then 11 to 14.
 #[must_use]
-pub fn open_in(table: &[u8], load_depth: u32, store_depth: u32, first: u32, words: u32) -> Opened {
+pub fn open_in(table: &[u8], load_depth: u32, store_depth: u32, first: u32, memory_length: u32) -> Opened {
     let (bytes, length) = (table.as_ptr(), table.len());
-    unsafe { ffi::lsq_open_in(bytes, length, load_depth, store_depth, first, words) }
+    unsafe { ffi::lsq_open_in(bytes, length, load_depth, store_depth, first, memory_length) }
 }
 
 /// 0 where a call with these parts would answer 40, else 1.

@@ -63,7 +63,7 @@ unsafe extern "C" {
         load_depth: u32,
         store_depth: u32,
         first: u32,
-        words: u32,
+        memory_length: u32,
     ) -> Opened;
     pub fn lsq_sound_in(
         frame: Frame,

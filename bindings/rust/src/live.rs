@@ -32,7 +32,7 @@ const _: () = {
 /// A refused call leaves the queue and all that it was lent as they were.
 impl Queue {
     /// Opens a queue on a table's bytes. Both series of serials begin at
-    /// `first`; `words` is the length of the memory that will be lent.
+    /// `first`; `memory_length` is the length of the memory that will be lent.
     ///
     /// # Errors
     /// 1 to 9 of the table, then 11 load depth, 12 store depth, 13 memory
@@ -42,9 +42,9 @@ impl Queue {
         load_depth: u32,
         store_depth: u32,
         first: u32,
-        words: u32,
+        memory_length: u32,
     ) -> Result<Self, Refusal> {
-        let opened = direct::open_in(table, load_depth, store_depth, first, words);
+        let opened = direct::open_in(table, load_depth, store_depth, first, memory_length);
         accepted(opened.answer)?;
         Ok(Self {
             frame: opened.frame,

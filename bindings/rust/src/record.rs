@@ -128,7 +128,7 @@ pub struct Frame {
     /// The groups that can be activated.
     pub table: Table,
     /// The memory length that the queue was opened for.
-    pub words: u16,
+    pub memory_length: u16,
     /// The loads' side.
     pub loads: Side,
     /// The stores' side.
@@ -230,7 +230,7 @@ const _: () = {
     assert!(size_of::<Side>() == 8);
     assert!(offset_of!(Side, next) == 4);
     assert!(size_of::<Frame>() == 216);
-    assert!(offset_of!(Frame, words) == 196);
+    assert!(offset_of!(Frame, memory_length) == 196);
     assert!(offset_of!(Frame, loads) == 200);
     assert!(offset_of!(Frame, stores) == 208);
     assert!(size_of::<Counts>() == 8);

@@ -17,7 +17,7 @@ impl Queue {
     pub fn to_bytes(&self) -> [u8; QUEUE_BYTES] {
         let mut saved = Saving(Vec::with_capacity(QUEUE_BYTES));
         saved.table(&self.frame.table.parts());
-        saved.put(self.frame.words.to_le_bytes());
+        saved.put(self.frame.memory_length.to_le_bytes());
         saved.side(self.frame.loads);
         saved.side(self.frame.stores);
         for entry in self.loads.iter().chain(&self.stores) {
@@ -34,7 +34,7 @@ impl Queue {
         let mut saved = Saved(bytes);
         let frame = Frame {
             table: Table::new(saved.table()),
-            words: u16::from_le_bytes(saved.take()),
+            memory_length: u16::from_le_bytes(saved.take()),
             loads: saved.side(),
             stores: saved.side(),
         };

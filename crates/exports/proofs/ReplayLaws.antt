@@ -61,10 +61,13 @@ stored-same (x ∷ y ∷ rest) h = refl
 abbrev replay-leaving : Lent → Replayed → List ℕ → Buffers → LentAfter
 replay-leaving l r memory b = tell (r .answer) (record { memory = memory; counts = storedIn (r .counts) (l .counts); buffers = b })
 
-answered-replay : (l : Lent) (rule : Ruled Replay) (r : Replayed) {memory : List ℕ} {b : Buffers} → 2 ≤ length (l .counts) → Replays (l .memory) (countsOf (l .counts)) (l .buffers) rule r memory b → replay-leaving l r memory b ≡ lentAfter l rule
+answered-replay : (l : Lent) (rule : Ruled Replay) (r : Replayed) {memory : List ℕ} {b : Buffers} → 2 ≤ length (l .counts)
+    → Replays (l .memory) (countsOf (l .counts)) (l .buffers) rule r memory b → replay-leaving l r memory b ≡ lentAfter l rule
 answered-replay l (refuse n) r h w = rw (w .outcome, w .memory-is, w .buffers-are, stored-same (l .counts) h)
 answered-replay l (accept p) r h w = rw (w .outcome, w .memory-is, w .buffers-are, stored-front (p .left .counts) (l .counts) h)
 
 -- the counts that a replay hands back are stored whether it is refused or not
-pub answered-lent : (table trace : List ℕ) (l : Lent) {gs : List GroupPairs} → readTable table ≡ got gs [] → 2 ≤ length (l .counts) → (r : Replayed) {memory : List ℕ} {b : Buffers} → Replays (l .memory) (countsOf (l .counts)) (l .buffers) (replayOf gs trace l) r memory b → replay-leaving l r memory b ≡ lentAfter l (replayLent table trace l)
+pub answered-lent : (table trace : List ℕ) (l : Lent) {gs : List GroupPairs} → readTable table ≡ got gs [] → 2 ≤ length (l .counts)
+    → (r : Replayed) {memory : List ℕ} {b : Buffers} → Replays (l .memory) (countsOf (l .counts)) (l .buffers) (replayOf gs trace l) r memory b
+    → replay-leaving l r memory b ≡ lentAfter l (replayLent table trace l)
 answered-lent table trace l {gs} is h r w = rw (lent-replays table trace l is h) (answered-replay l (replayOf gs trace l) r h w)

@@ -8,5 +8,5 @@ use Rattle.exports.specs.Prepared.{eventCount, memoryLength}
 -- the parts of a prepared trace that callers from outside are told
 pub record TellsPrepared (rule : Ruled Start) (r : Prepared) : Type 0 where
   pub answer : r .answer ≡ number rule
-  pub words : r .words ≡ memoryLength rule
+  pub memory-length : r .«memory_length» ≡ memoryLength rule
   pub events : r .events ≡ eventCount rule

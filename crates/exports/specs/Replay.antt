@@ -16,7 +16,7 @@ pub record Lent : Type 0 where
   pub buffers : Buffers
 
 abbrev pub lent : List ℕ → List ℕ → List ℕ → List ℕ → List ℕ → Lent
-lent memory counts answers given values = record { memory = memory; counts = counts; buffers = record { answers = answers; given = given; words = values } }
+lent memory counts answers given values = record { memory = memory; counts = counts; buffers = record { answers = answers; given = given; values = values } }
 
 -- the counts that a lent run holds at its front: loads, then forwarded
 abbrev pub countsOf : List ℕ → Counts

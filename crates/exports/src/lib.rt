@@ -66,7 +66,7 @@ pub extern "C" fn lsq_memory_length(table: &[u8], trace: &[u8]) -> u32
     ensures { λ r. ⌜ r ≡ memoryLength (prepared (now (table .entry)) (now (trace .entry))) ⌝ }
 {
     let ready = make_ready(table, trace);
-    ready.words as u32
+    ready.memory_length as u32
 }
 
 // Replays the trace on the memory and the counts as they are lent; `counts` holds loads, then forwarded. Where it answers 0,
@@ -110,7 +110,8 @@ pub extern "C" fn lsq_replay(
 // is. Where the buffer has no room for every text it answers 0, and nothing is written.
 #[no_mangle]
 pub extern "C" fn lsq_text(table: &[u8], trace: &[u8], out: &mut [u8]) -> u64
-    ensures { λ r. ⌜ (r ≡ textLength (printed (now (table .entry)) (now (trace .entry)) (now (out .entry)) .answer)) × (now (out .exit) ≡ printed (now (table .entry)) (now (trace .entry)) (now (out .entry)) .buffer) ⌝ }
+    ensures { λ r. ⌜ (r ≡ textLength (printed (now (table .entry)) (now (trace .entry)) (now (out .entry)) .answer))
+        × (now (out .exit) ≡ printed (now (table .entry)) (now (trace .entry)) (now (out .entry)) .buffer) ⌝ }
 {
     let written = print(table, trace, out);
     match written {

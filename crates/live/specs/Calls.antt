@@ -51,7 +51,7 @@ toldStep frame r loads stores = record {
   answer = r .answer;
   given = r .given;
   value = r .value;
-  queue = queueOf (record { table = frame .table; words = frame .words; loads = r .loads; stores = r .stores }) loads stores;
+  queue = queueOf (record { table = frame .table; «memory_length» = frame .«memory_length»; loads = r .loads; stores = r .stores }) loads stores;
 }
 
 abbrev pub toldService : LiveService → Queue → LiveTold

@@ -110,13 +110,13 @@ pub extern "C" fn lsq_open_in(
     load_depth: u32,
     store_depth: u32,
     first: u32,
-    words: u32,
+    memory_length: u32,
 ) -> LiveOpened
-    ensures { λ r. ⌜ LiveOpens (now (table .entry)) «load_depth» «store_depth» first words r ⌝ }
+    ensures { λ r. ⌜ LiveOpens (now (table .entry)) «load_depth» «store_depth» first «memory_length» r ⌝ }
 {
     let read = read_table(table);
     let groups = read.table;
-    let opened = open_in(groups, load_depth, store_depth, first, words);
+    let opened = open_in(groups, load_depth, store_depth, first, memory_length);
     let frame = opened.frame;
     if read.answer != 0 {
         return LiveOpened {

@@ -101,7 +101,8 @@ module _ {s : List ℕ} {at value scale place : ℕ} (w : NumberSoFar s at value
   number-ended h = rw (w .is, up-ended s place (w .more) h)
 
   -- a group that ends the number
-  ends : place < length s → numberUpTo (w .more) 15 (drop place s) ≡ got (getD s place 0) (drop (place + 1) s) → accepts (reading (value + getD s place 0 * scale) (place + 1)) ≡ readIn s (readNumber (drop at s))
+  ends : place < length s → numberUpTo (w .more) 15 (drop place s) ≡ got (getD s place 0) (drop (place + 1) s)
+      → accepts (reading (value + getD s place 0 * scale) (place + 1)) ≡ readIn s (readNumber (drop at s))
   ends h e = rw (w .is, e, place-drop s (place + 1) (omega arith))
 
   module _ (t : scale < 2 ^ 28) where
@@ -122,7 +123,8 @@ module _ {s : List ℕ} {at value scale place : ℕ} (w : NumberSoFar s at value
       number-more k b =
           record {
             more = w .more - 1;
-            is = w .is ∙ ap (over value scale) (up-more s place h some k) ∙ over-above value (getD s place 0 - 128) scale (numberUpTo (w .more - 1) 15 (drop (place + 1) s));
+            is = w .is ∙ ap (over value scale) (up-more s place h some k)
+                ∙ over-above value (getD s place 0 - 128) scale (numberUpTo (w .more - 1) 15 (drop (place + 1) s));
             below = group-fits (getD s place 0 - 128) (omega arith) .0;
             room = mul-assoc scale 128 (numberBound (w .more - 1)) ∙ room-left;
           }
@@ -185,7 +187,11 @@ number-length-law n h =
     )
     (go (ltb n (2 ^ 7)) (ltb n (2 ^ 14)) (ltb n (2 ^ 21)) (ltb n (2 ^ 28)))
   where
-    go : (a b c d : Bool) → pick a 1 (pick b 2 (pick c 3 (pick d 4 5))) ≡ length (pick a (n ∷ []) ((128 + n % 128) ∷ pick b (n / 128 ∷ []) ((128 + n / 128 % 128) ∷ pick c (n / 128 / 128 ∷ []) ((128 + n / 128 / 128 % 128) ∷ pick d (n / 128 / 128 / 128 ∷ []) ((128 + n / 128 / 128 / 128 % 128) ∷ n / 128 / 128 / 128 / 128 ∷ [])))))
+    go : (a b c d : Bool)
+        → pick a 1 (pick b 2 (pick c 3 (pick d 4 5))) ≡ length
+        (pick a (n ∷ []) ((128 + n % 128) ∷ pick b (n / 128 ∷ [])
+        ((128 + n / 128 % 128) ∷ pick c (n / 128 / 128 ∷ [])
+        ((128 + n / 128 / 128 % 128) ∷ pick d (n / 128 / 128 / 128 ∷ []) ((128 + n / 128 / 128 / 128 % 128) ∷ n / 128 / 128 / 128 / 128 ∷ [])))))
     go true b c d = refl
     go false true c d = refl
     go false false true d = refl
@@ -195,7 +201,8 @@ number-length-law n h =
 -- ---- what a call that read a number says of the bytes
 
 -- what is left after a number is the bytes from some place past its first byte
-number-suffix : (more top : ℕ) (s : List ℕ) {n : ℕ} {rest : List ℕ} → numberUpTo more top s ≡ got n rest → (k : ℕ) × (rest ≡ drop (suc k) s) × (suc k ≤ length s)
+number-suffix : (more top : ℕ) (s : List ℕ) {n : ℕ} {rest : List ℕ} → numberUpTo more top s ≡ got n rest
+    → (k : ℕ) × (rest ≡ drop (suc k) s) × (suc k ≤ length s)
 unfolding numberUpTo
 number-suffix more top [] e = let z : _≡_ {A = ℕ} 0 1 = cc in absurd (omega arith)
 number-suffix zero top (b ∷ s) {n} {rest} e = go (leb b top) e
@@ -205,7 +212,8 @@ number-suffix zero top (b ∷ s) {n} {rest} e = go (leb b top) e
     go false d = let z : _≡_ {A = ℕ} 0 1 = cc in absurd (omega arith)
 number-suffix (suc more) top (b ∷ s) {n} {rest} e = go (ltb b 128) (numberUpTo more top s) (λ m r d. number-suffix more top s d) e
   where
-    go : (t : Bool) (g : Got ℕ) → ((m : ℕ) (r : List ℕ) → g ≡ got m r → (k : ℕ) × (r ≡ drop (suc k) s) × (suc k ≤ length s)) → pick t (got b s) (above (b - 128) g) ≡ got n rest → (k : ℕ) × (rest ≡ drop (suc k) (b ∷ s)) × (suc k ≤ suc (length s))
+    go : (t : Bool) (g : Got ℕ) → ((m : ℕ) (r : List ℕ) → g ≡ got m r → (k : ℕ) × (r ≡ drop (suc k) s) × (suc k ≤ length s))
+        → pick t (got b s) (above (b - 128) g) ≡ got n rest → (k : ℕ) × (rest ≡ drop (suc k) (b ∷ s)) × (suc k ≤ suc (length s))
     go true g ih d = (0, cc, omega arith)
     go false (got m r) ih d =
         let (k, q, h) = ih m r refl in
@@ -222,7 +230,8 @@ pub record NumberGot (s : List ℕ) (place v next : ℕ) : Type 0 where
 pub number-got : (s : List ℕ) (place : ℕ) {v next : ℕ} → accepts (reading v next) ≡ readIn s (readNumber (drop place s)) → NumberGot s place v next
 number-got s place {v} {next} e = go (readNumber (drop place s)) refl e
   where
-    at-place : (n : ℕ) (rest : List ℕ) → readNumber (drop place s) ≡ got n rest → accepts (reading v next) ≡ accepts (reading n (placeOf s rest)) → (k : ℕ) × (rest ≡ drop (suc k) (drop place s)) × (suc k ≤ length (drop place s)) → NumberGot s place v next
+    at-place : (n : ℕ) (rest : List ℕ) → readNumber (drop place s) ≡ got n rest → accepts (reading v next) ≡ accepts (reading n (placeOf s rest))
+        → (k : ℕ) × (rest ≡ drop (suc k) (drop place s)) × (suc k ≤ length (drop place s)) → NumberGot s place v next
     at-place n rest f d (k, q, h) =
         let l : length (drop place s) ≡ length s - place = length-drop place s in
         let r : rest ≡ drop (place + suc k) s = q ∙ drop-drop (suc k) place s in

@@ -10,7 +10,8 @@ use borrow.Author.Tests.{le-ltb, le-leb, ltb-true, ltb-false}
 use Rattle.number.specs.Basics.{pick, allOf}
 use Rattle.number.specs.Refusal.{tooLarge}
 use Rattle.number.specs.Number.{Got, got, bad, above, numberUpTo, bytesUpTo, numberBytes, spells, isEmpty, valueOf, isByte, NumbersAreSpelled}
-use Rattle.number.specs.Number.{OnlySpelledNumbers, NumbersReadBack, NumberLength, FewestBytes, readNumber, bytesOf, Spelled, spells-none, spells-one, Fit}
+use Rattle.number.specs.Number.{OnlySpelledNumbers, NumbersReadBack, NumberLength, FewestBytes, readNumber}
+use Rattle.number.specs.Number.{bytesOf, Spelled, spells-none, spells-one, Fit}
 use Rattle.number.specs.Number.{fit-none, fit-one}
 use Rattle.number.proofs.Both.{and-left, and-right}
 use Rattle.number.proofs.NumberLaws.{numberBound, number-length-law}
@@ -35,7 +36,9 @@ spelled-up-to (suc more) top (b ∷ bs) rest e = go (ltb b 128) refl e (λ f. sp
     last [] f = refl
     last (c ∷ cs) f = no f
 
-    go : (t : Bool) → ltb b 128 ≡ t → pick t (isEmpty bs) (spells more top bs) ≡ true → (spells more top bs ≡ true → numberUpTo more top (bs ++ rest) ≡ got (valueOf bs) rest) → pick (ltb b 128) (got b (bs ++ rest)) (above (b - 128) (numberUpTo more top (bs ++ rest))) ≡ got (valueOf (b ∷ bs)) rest
+    go : (t : Bool) → ltb b 128 ≡ t → pick t (isEmpty bs) (spells more top bs) ≡ true
+        → (spells more top bs ≡ true → numberUpTo more top (bs ++ rest) ≡ got (valueOf bs) rest)
+        → pick (ltb b 128) (got b (bs ++ rest)) (above (b - 128) (numberUpTo more top (bs ++ rest))) ≡ got (valueOf (b ∷ bs)) rest
     go true k f ih = rw k (last bs f)
     go false k f ih = rw (k, ih f, value-more b more top bs f)
 
@@ -56,7 +59,8 @@ only-up-to zero top (b ∷ s) n rest e = go (leb b top) refl e
     go false k d = let z : _≡_ {A = ℕ} 0 1 = cc in absurd (omega arith)
 only-up-to (suc more) top (b ∷ s) n rest e = go (ltb b 128) refl (numberUpTo more top s) (λ m r d. only-up-to more top s m r d) e
   where
-    more-of : (m : ℕ) (r : List ℕ) → ltb b 128 ≡ false → Spelling more top s m r → got (b - 128 + 128 * m) r ≡ got n rest → Spelling (suc more) top (b ∷ s) n rest
+    more-of : (m : ℕ) (r : List ℕ) → ltb b 128 ≡ false → Spelling more top s m r → got (b - 128 + 128 * m) r ≡ got n rest
+        → Spelling (suc more) top (b ∷ s) n rest
     more-of m r k w d =
         let p : b - 128 + 128 * m ≡ n = cc in
         let q : r ≡ rest = cc in
@@ -67,7 +71,8 @@ only-up-to (suc more) top (b ∷ s) n rest e = go (ltb b 128) refl (numberUpTo m
           value = value-more b more top (w .bytes) (w .spell) ∙ rw (w .value) p;
         }
 
-    go : (t : Bool) → ltb b 128 ≡ t → (g : Got ℕ) → ((m : ℕ) (r : List ℕ) → g ≡ got m r → Spelling more top s m r) → pick t (got b s) (above (b - 128) g) ≡ got n rest → Spelling (suc more) top (b ∷ s) n rest
+    go : (t : Bool) → ltb b 128 ≡ t → (g : Got ℕ) → ((m : ℕ) (r : List ℕ) → g ≡ got m r → Spelling more top s m r)
+        → pick t (got b s) (above (b - 128) g) ≡ got n rest → Spelling (suc more) top (b ∷ s) n rest
     go true k g ih d = record { bytes = b ∷ []; whole = cc; spell = rw k; value = cc }
     go false k (got m r) ih d = more-of m r k (ih m r refl) d
     go false k (bad m) ih d = let z : _≡_ {A = ℕ} 0 1 = cc in absurd (omega arith)
@@ -78,7 +83,9 @@ unfolding bytesUpTo spells
 written-up-to zero n h = (rw (le-leb n 15 (omega arith)), refl)
 written-up-to (suc more) n h = go (ltb n 128) refl (written-up-to more (n / 128) (omega arith))
   where
-    go : (t : Bool) → ltb n 128 ≡ t → (spells more 15 (bytesUpTo more (n / 128)) ≡ true) × (valueOf (bytesUpTo more (n / 128)) ≡ n / 128) → (spells (suc more) 15 (pick t (n ∷ []) ((128 + n % 128) ∷ bytesUpTo more (n / 128))) ≡ true) × (valueOf (pick t (n ∷ []) ((128 + n % 128) ∷ bytesUpTo more (n / 128))) ≡ n)
+    go : (t : Bool) → ltb n 128 ≡ t → (spells more 15 (bytesUpTo more (n / 128)) ≡ true) × (valueOf (bytesUpTo more (n / 128)) ≡ n / 128)
+        → (spells (suc more) 15 (pick t (n ∷ []) ((128 + n % 128) ∷ bytesUpTo more (n / 128))) ≡ true)
+        × (valueOf (pick t (n ∷ []) ((128 + n % 128) ∷ bytesUpTo more (n / 128))) ≡ n)
     go true k ih = (rw k, refl)
     go false k ih =
         let m : ltb (128 + n % 128) 128 ≡ false = le-ltb (128 + n % 128) 128 (omega arith) in
@@ -103,7 +110,9 @@ fewest-up-to (suc more) (b ∷ bs) h e = go (ltb b 128) refl bs (and-right (isBy
         over true = omega arith
         over false = omega arith
 
-    go : (t : Bool) → ltb b 128 ≡ t → (l : List ℕ) → allOf isByte l ≡ true → pick t (isEmpty l) (spells more 15 l) ≡ true → (allOf isByte l ≡ true → spells more 15 l ≡ true → length (bytesUpTo more (valueOf l)) ≤ length l) → length (bytesUpTo (suc more) (valueOf (b ∷ l))) ≤ suc (length l)
+    go : (t : Bool) → ltb b 128 ≡ t → (l : List ℕ) → allOf isByte l ≡ true → pick t (isEmpty l) (spells more 15 l) ≡ true
+        → (allOf isByte l ≡ true → spells more 15 l ≡ true → length (bytesUpTo more (valueOf l)) ≤ length l)
+        → length (bytesUpTo (suc more) (valueOf (b ∷ l))) ≤ suc (length l)
     go true k [] f g ih = rw k (omega arith)
     go true k (c ∷ cs) f g ih = no g
     go false k l f g ih = rw (value-more b more 15 l g) (carry l (valueOf l) k (ih f g))

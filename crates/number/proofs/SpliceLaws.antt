@@ -33,7 +33,8 @@ splice-splice d p xs ys h =
     let n : length (take p d ++ xs) ≡ p + length xs = rw (length-append, length-take-le p d (omega arith)) in
     let t : take (p + length xs) (splice d p xs) ≡ take p d ++ xs = take-at (take p d ++ xs) (drop (p + length xs) d) (p + length xs) n in
     let r : drop (p + length xs + length ys) (splice d p xs) ≡ drop (p + length (xs ++ ys)) d =
-    rw (length-append, ← n) (drop-append-add (take p d ++ xs) (drop (length (take p d ++ xs)) d) (length ys) ∙ drop-drop (length ys) (length (take p d ++ xs)) d ∙ rw (n, add-assoc)) in
+    rw (length-append, ← n) (drop-append-add (take p d ++ xs) (drop (length (take p d ++ xs)) d) (length ys)
+    ∙ drop-drop (length ys) (length (take p d ++ xs)) d ∙ rw (n, add-assoc)) in
     rw (t, r) (simp append-assoc)
 
 pub splice-front : (d bs : List ℕ) → splice d 0 bs ≡ bs ++ drop (length bs) d
@@ -44,7 +45,8 @@ pub wrote-short : (bytes buffer : List ℕ) → length buffer < length bytes →
 unfolding wrote
 wrote-short bytes buffer h = rw (lt-leb _ _ h)
 
-pub wrote-fits : (bytes buffer : List ℕ) → length bytes ≤ length buffer → wrote bytes buffer ≡ record { answer = accepts (length bytes); buffer = splice buffer 0 bytes }
+pub wrote-fits : (bytes buffer : List ℕ) → length bytes ≤ length buffer
+    → wrote bytes buffer ≡ record { answer = accepts (length bytes); buffer = splice buffer 0 bytes }
 unfolding wrote
 wrote-fits bytes buffer h = rw (le-leb _ _ h, zero-add)
 
@@ -121,7 +123,8 @@ module _ {d : List ℕ} {p n : ℕ} {out : List ℕ} {left place : ℕ} (w : Put
       go zero = refl
       go (suc m) = rw (lt-ltb left 128 k)
 
-  pub putting-end : p + length (numberBytes n) ≤ length d → left < 128 → (place + 1 ≡ p + length (numberBytes n)) × (set out place left ≡ splice d p (numberBytes n))
+  pub putting-end : p + length (numberBytes n) ≤ length d → left < 128
+      → (place + 1 ≡ p + length (numberBytes n)) × (set out place left ≡ splice d p (numberBytes n))
   putting-end h k =
       let i = rw (last-byte k) at (w .is) in
       let j = rw (last-byte k) at (w .ends) in
@@ -163,13 +166,15 @@ module _ {d : List ℕ} {place : ℕ} {ns out : List ℕ} {end : ℕ} (w : Numbe
   put-length h = rw (w .is) (length-splice d place (bytesOf ns) h)
 
   -- what more numbers put behind them make
-  pub put-more : (ms : List ℕ) {out₂ : List ℕ} {end₂ : ℕ} → place + length (bytesOf ns) ≤ length d → out₂ ≡ splice out end (bytesOf ms) → end₂ ≡ end + length (bytesOf ms) → NumbersPut d place (ns ++ ms) out₂ end₂
+  pub put-more : (ms : List ℕ) {out₂ : List ℕ} {end₂ : ℕ} → place + length (bytesOf ns) ≤ length d → out₂ ≡ splice out end (bytesOf ms)
+      → end₂ ≡ end + length (bytesOf ms) → NumbersPut d place (ns ++ ms) out₂ end₂
   put-more ms h e f = record {
     is = e ∙ rw (w .is, w .ends, splice-splice d place (bytesOf ns) (bytesOf ms) h, bytes-append ns ms);
     ends = f ∙ rw (w .ends, bytes-append ns ms, length-append, add-assoc);
   }
 
-  pub put-one : (n : ℕ) {out₂ : List ℕ} {end₂ : ℕ} → place + length (bytesOf ns) ≤ length d → out₂ ≡ splice out end (numberBytes n) → end₂ ≡ end + length (numberBytes n) → NumbersPut d place (ns ++ n ∷ []) out₂ end₂
+  pub put-one : (n : ℕ) {out₂ : List ℕ} {end₂ : ℕ} → place + length (bytesOf ns) ≤ length d → out₂ ≡ splice out end (numberBytes n)
+      → end₂ ≡ end + length (numberBytes n) → NumbersPut d place (ns ++ n ∷ []) out₂ end₂
   put-one n h e f = put-more (n ∷ []) h (e ∙ rw append-nil) (f ∙ rw append-nil)
 
 -- ---- how many bytes the first i of some numbers take
@@ -183,21 +188,25 @@ counted-none = record { is = refl }
 pub bytes-next : (ns : List ℕ) (i : ℕ) → i < length ns → bytesOf (take (i + 1) ns) ≡ bytesOf (take i ns) ++ numberBytes (getD ns i 0)
 bytes-next ns i h = rw (add-one, take-suc ns i 0 h, bytes-append, append-nil)
 
-pub counted-more : {ns : List ℕ} {i total n : ℕ} → BytesCounted ns i total → i < length ns → n ≡ length (numberBytes (getD ns i 0)) → BytesCounted ns (i + 1) (total + n)
+pub counted-more : {ns : List ℕ} {i total n : ℕ} → BytesCounted ns i total → i < length ns → n ≡ length (numberBytes (getD ns i 0))
+    → BytesCounted ns (i + 1) (total + n)
 counted-more {ns} {i} w h e = record { is = rw (bytes-next ns i h, length-append, w .is, e) }
 
 pub counted-end : {ns : List ℕ} {i total count : ℕ} → BytesCounted ns i total → i ≡ count → total ≡ length (bytesOf (take count ns))
 counted-end {ns} w e = rw (← e) (w .is)
 
 -- the bytes of the first i numbers and of the next one are among those of the first `count`
-pub bytes-room : (ns : List ℕ) (count i : ℕ) → i < count → count ≤ length ns → length (bytesOf (take i ns)) + length (numberBytes (getD ns i 0)) ≤ length (bytesOf (take count ns))
+pub bytes-room : (ns : List ℕ) (count i : ℕ) → i < count → count ≤ length ns
+    → length (bytesOf (take i ns)) + length (numberBytes (getD ns i 0)) ≤ length (bytesOf (take count ns))
 bytes-room ns count i h k =
     let e : take (i + 1) (take count ns) ≡ take (i + 1) ns = take-take (i + 1) count ns (omega arith) in
     let f = rw (e, bytes-next ns i (omega arith), length-append) at (bytes-front (take count ns) (i + 1)) in
     f
 
 -- two numbers put one after the other
-pub put-two : {d : List ℕ} {place : ℕ} {ns out : List ℕ} {end : ℕ} {out₁ out₂ : List ℕ} {end₁ end₂ : ℕ} → NumbersPut d place ns out end → (x y : ℕ) → place + length (bytesOf ns) + length (numberBytes x) ≤ length d → out₁ ≡ splice out end (numberBytes x) → end₁ ≡ end + length (numberBytes x) → out₂ ≡ splice out₁ end₁ (numberBytes y) → end₂ ≡ end₁ + length (numberBytes y) → NumbersPut d place (ns ++ x ∷ y ∷ []) out₂ end₂
+pub put-two : {d : List ℕ} {place : ℕ} {ns out : List ℕ} {end : ℕ} {out₁ out₂ : List ℕ} {end₁ end₂ : ℕ} → NumbersPut d place ns out end → (x y : ℕ)
+    → place + length (bytesOf ns) + length (numberBytes x) ≤ length d → out₁ ≡ splice out end (numberBytes x) → end₁ ≡ end + length (numberBytes x)
+    → out₂ ≡ splice out₁ end₁ (numberBytes y) → end₂ ≡ end₁ + length (numberBytes y) → NumbersPut d place (ns ++ x ∷ y ∷ []) out₂ end₂
 put-two {d} {place} {ns} w x y h e f e₂ f₂ =
     let k : place + length (bytesOf (ns ++ x ∷ [])) ≤ length d = rw (bytes-append ns (x ∷ []), length-append, append-nil) (omega arith) in
     rw append-assoc at (put-one (put-one w x (omega arith) e f) y k e₂ f₂)

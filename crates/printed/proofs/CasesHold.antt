@@ -18,5 +18,6 @@ use Rattle.printed.specs.Text.{traceText, text}
 use Rattle.printed.specs.Cases.{AllCasesHold}
 
 pub all-cases-hold : AllCasesHold
-unfolding text traceText digitsUpTo prepare eventsUpTo numberUpTo bytesUpTo pairsFault seeing groupFault groupsFault tableFault readPairs readGroup readGroups readTable readEvent readHeader sound openQueue activate give serve write takeRule
+unfolding text traceText digitsUpTo prepare eventsUpTo numberUpTo bytesUpTo pairsFault seeing groupFault groupsFault tableFault readPairs
+    readGroup readGroups readTable readEvent readHeader sound openQueue activate give serve write takeRule
 all-cases-hold = refl

@@ -22,7 +22,8 @@ use Rattle.printed.specs.Internal.{Puts, item, loggedAs, rows}
 use Rattle.printed.proofs.PutLaws.{puts-length, puts-puts, decimal-few}
 
 -- ---- two items, one behind the other
-module _ {d : List ℕ} {p : ℕ} {xs : List ℕ} {e : ℕ} {out : List ℕ} {ys : List ℕ} {e₂ : ℕ} {out₂ : List ℕ} (w : Puts d p xs e out) (v : Puts out e ys e₂ out₂) (fits : p + length xs + length ys ≤ length d) where
+module _ {d : List ℕ} {p : ℕ} {xs : List ℕ} {e : ℕ} {out : List ℕ} {ys : List ℕ} {e₂ : ℕ} {out₂ : List ℕ} (w : Puts d p xs e out)
+    (v : Puts out e ys e₂ out₂) (fits : p + length xs + length ys ≤ length d) where
   pub both : Puts d p (xs ++ ys) e₂ out₂
   both = puts-puts w (omega arith) v
 
@@ -48,7 +49,15 @@ event-none n answer given word h = rw (ne-eqb given 1 h) (simp append-assoc)
 
 -- ---- how long a line is
 event-few : (n : ℕ) (l : Logged) → length (eventLine n l) ≤ 63
-event-few n l = omega (arith, length-append (decimal n) (32 ∷ (decimal (l .number) ++ 32 ∷ (shown (l .value) ++ 10 ∷ []))), length-append (decimal (l .number)) (32 ∷ (shown (l .value) ++ 10 ∷ [])), length-append (shown (l .value)) (10 ∷ []), decimal-few n, decimal-few (l .number), shown-few (l .value))
+event-few n l = omega (
+  arith,
+  length-append (decimal n) (32 ∷ (decimal (l .number) ++ 32 ∷ (shown (l .value) ++ 10 ∷ []))),
+  length-append (decimal (l .number)) (32 ∷ (shown (l .value) ++ 10 ∷ [])),
+  length-append (shown (l .value)) (10 ∷ []),
+  decimal-few n,
+  decimal-few (l .number),
+  shown-few (l .value),
+)
   where
     shown-few : (v : Option ℕ) → length (shown v) ≤ 20
     shown-few none = omega arith
@@ -90,13 +99,17 @@ module _ (a g w : List ℕ) (count : ℕ) (ha : count ≤ length a) (hg : count 
   pub rows-text-few : (i : ℕ) → i ≤ count → length (eventLines 1 (take i (rows a g w))) ≤ 63 * i
   rows-text-few i h = omega (arith, events-text-few 1 (take i (rows a g w)), rows-taken i h)
 
-  pub rows-next : (i : ℕ) → i < count → eventLines 1 (take i (rows a g w)) ++ eventLine (i + 1) (loggedAs (getD a i 0) (getD g i 0) (getD w i 0)) ≡ eventLines 1 (take (i + 1) (rows a g w))
+  pub rows-next : (i : ℕ) → i < count
+      → eventLines 1 (take i (rows a g w)) ++ eventLine (i + 1) (loggedAs (getD a i 0) (getD g i 0) (getD w i 0)) ≡ eventLines 1
+      (take (i + 1) (rows a g w))
   rows-next i h =
       let n : i < length (rows a g w) = omega (arith, rows-many a g w (i + 1) (omega arith) (omega arith) (omega arith)) in
       let l : length (take i (rows a g w)) ≡ i = rows-taken i (omega arith) in
       let s : i + 1 ≡ 1 + length (take i (rows a g w)) = omega arith in
-      let t : take (i + 1) (rows a g w) ≡ take i (rows a g w) ++ getD (rows a g w) i noRow ∷ [] = ap (λ (k : ℕ). take k (rows a g w)) (add-one i) ∙ take-suc (rows a g w) i noRow n in
-      sym (ap (eventLines 1) t ∙ events-snoc 1 (take i (rows a g w)) (getD (rows a g w) i noRow) ∙ rw (rows-at a g w i (omega arith) (omega arith) (omega arith), ← s))
+      let t : take (i + 1) (rows a g w) ≡ take i (rows a g w) ++ getD (rows a g w) i noRow ∷ [] = ap (λ (k : ℕ). take k (rows a g w)) (add-one i)
+      ∙ take-suc (rows a g w) i noRow n in
+      sym (ap (eventLines 1) t ∙ events-snoc 1 (take i (rows a g w)) (getD (rows a g w) i noRow)
+      ∙ rw (rows-at a g w i (omega arith) (omega arith) (omega arith), ← s))
 
 -- the rows are the log
 pub rows-log : (ls : List Logged) (a g w : List ℕ) → take (length ls) (rows (map answerOf ls ++ a) (map givenOf ls ++ g) (map wordOf ls ++ w)) ≡ ls
@@ -141,7 +154,8 @@ module _ (ws : List ℕ) (i : ℕ) where
   pub words-next : i < length ws → wordLines 0 (take i ws) ++ wordLine i (getD ws i 0) ≡ wordLines 0 (take (i + 1) ws)
   words-next h =
       let s : i ≡ 0 + length (take i ws) = omega (arith, length-take-le i ws (omega arith)) in
-      sym (ap (wordLines 0) (ap (λ (k : ℕ). take k ws) (add-one i) ∙ take-suc ws i 0 h) ∙ words-snoc 0 (take i ws) (getD ws i 0) ∙ ap (λ (k : ℕ). wordLines 0 (take i ws) ++ wordLine k (getD ws i 0)) (sym s))
+      sym (ap (wordLines 0) (ap (λ (k : ℕ). take k ws) (add-one i) ∙ take-suc ws i 0 h) ∙ words-snoc 0 (take i ws) (getD ws i 0)
+      ∙ ap (λ (k : ℕ). wordLines 0 (take i ws) ++ wordLine k (getD ws i 0)) (sym s))
 
 -- ---- the last line
 abbrev pub loadsSpace : List ℕ
@@ -158,7 +172,8 @@ counts-line c =
     let i = item loadsSpace (c .loads) 32 in
     let j = item forwardedSpace (c .forwarded) 32 in
     let k = item shareSpace (share c) 10 in
-    append-assoc i j k ∙ ap (λ (t : List ℕ). i ++ t) (item-then forwardedSpace (c .forwarded) 32 k) ∙ item-then loadsSpace (c .loads) 32 (forwardedSpace ++ (decimal (c .forwarded) ++ 32 ∷ k))
+    append-assoc i j k ∙ ap (λ (t : List ℕ). i ++ t) (item-then forwardedSpace (c .forwarded) 32 k)
+    ∙ item-then loadsSpace (c .loads) 32 (forwardedSpace ++ (decimal (c .forwarded) ++ 32 ∷ k))
 
 -- ---- faults
 pub table-line : (n : ℕ) → item (116 ∷ 97 ∷ 98 ∷ 108 ∷ 101 ∷ 32 ∷ []) n 10 ≡ tableFaultText n

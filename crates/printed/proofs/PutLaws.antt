@@ -34,7 +34,8 @@ module _ {d : List ℕ} {p : ℕ} {xs : List ℕ} {e : ℕ} {out : List ℕ} (w 
   }
 
 -- one byte more
-pub put-byte : {d : List ℕ} {p : ℕ} {xs : List ℕ} {e : ℕ} {out : List ℕ} (b : ℕ) → Puts d p xs e out → p + length xs < length d → Puts d p (xs ++ b ∷ []) (e + 1) (set out e b)
+pub put-byte : {d : List ℕ} {p : ℕ} {xs : List ℕ} {e : ℕ} {out : List ℕ} (b : ℕ) → Puts d p xs e out → p + length xs < length d
+    → Puts d p (xs ++ b ∷ []) (e + 1) (set out e b)
 put-byte {d} {p} {xs} {e} {out} b w h =
     let l : length out ≡ length d = puts-length w (omega arith) in
     let i : e < length out = omega (arith, w .ends) in
@@ -83,7 +84,8 @@ unfolding digitsUpTo
 digits-few zero n = omega arith
 digits-few (suc more) n = go (ltb n 10) (digits-few more (n / 10))
   where
-    go : (t : Bool) → length (digitsUpTo more (n / 10)) ≤ suc more → length (pick t ((48 + n) ∷ []) (digitsUpTo more (n / 10) ++ (48 + n % 10) ∷ [])) ≤ suc (suc more)
+    go : (t : Bool) → length (digitsUpTo more (n / 10)) ≤ suc more
+        → length (pick t ((48 + n) ∷ []) (digitsUpTo more (n / 10) ++ (48 + n % 10) ∷ [])) ≤ suc (suc more)
     go true h = omega arith
     go false h = omega (arith, length-append (digitsUpTo more (n / 10)) ((48 + n % 10) ∷ []))
 

@@ -79,7 +79,7 @@ played-long p (e ∷ es) = played-long (played p e) es ∙ step-long p e
 -- ---- what a trace that can be played is like
 record SmallText (s : Start) : Type 0 where
   pub events : length (s .events) ≤ mostBytes
-  pub words : s .queue .memoryLength ≤ 4096
+  pub memory-few : s .queue .memoryLength ≤ 4096
 
 start-small : (q : Contents) (trace : List ℕ) (at : ℕ) {s : Start} → q .memoryLength ≤ 4096 → length trace ≤ mostBytes
     → startOf q (eventsFrom trace at) ≡ accept s → SmallText s
@@ -89,7 +89,7 @@ start-small q trace at {s} h k e = go (eventsFrom trace at) refl e
     go (bad n) d f = let z : _≡_ {A = ℕ} 0 1 = cc in absurd (omega arith)
     go (got es left) d f =
         let y : s ≡ record { queue = q; events = es } = cc in
-        rw y (record { events = omega (arith, events-few-from trace at d); words = h })
+        rw y (record { events = omega (arith, events-few-from trace at d); memory-few = h })
 
 prepare-small : (gs : List GroupPairs) (trace : List ℕ) {s : Start} → length trace ≤ mostBytes → prepare gs trace ≡ accept s → SmallText s
 unfolding prepare
@@ -104,7 +104,15 @@ counts-few c =
     let i = item loadsSpace (c .loads) 32 in
     let j = item forwardedSpace (c .forwarded) 32 in
     let k = item shareSpace (share c) 10 in
-    omega (arith, ap length (counts-line c), length-append (i ++ j) k, length-append i j, item-few loadsSpace (c .loads) 32, item-few forwardedSpace (c .forwarded) 32, item-few shareSpace (share c) 10)
+    omega (
+      arith,
+      ap length (counts-line c),
+      length-append (i ++ j) k,
+      length-append i j,
+      item-few loadsSpace (c .loads) 32,
+      item-few forwardedSpace (c .forwarded) 32,
+      item-few shareSpace (share c) 10,
+    )
 
 table-fault-few : (n : ℕ) → length (tableFaultText n) ≤ mostText
 table-fault-few n = omega (arith, ap length (table-line n), item-few (116 ∷ 97 ∷ 98 ∷ 108 ∷ 101 ∷ 32 ∷ []) n 10)
@@ -118,7 +126,17 @@ play-few s w =
     let l = log p (s .events) in
     let q = playedAll p (s .events) in
     let m : length (q .machine .memory) ≡ s .queue .memoryLength = played-long p (s .events) ∙ length-replicate (s .queue .memoryLength) 0 in
-    omega (arith, w .events, w .words, log-many p (s .events), events-text-few 1 l, words-few 0 (q .machine .memory), counts-few (q .counts), length-append (eventLines 1 l ++ wordLines 0 (q .machine .memory)) (countsLine (q .counts)), length-append (eventLines 1 l) (wordLines 0 (q .machine .memory)))
+    omega (
+      arith,
+      w .events,
+      w .memory-few,
+      log-many p (s .events),
+      events-text-few 1 l,
+      words-few 0 (q .machine .memory),
+      counts-few (q .counts),
+      length-append (eventLines 1 l ++ wordLines 0 (q .machine .memory)) (countsLine (q .counts)),
+      length-append (eventLines 1 l) (wordLines 0 (q .machine .memory)),
+    )
 
 start-few : (rule : Ruled Start) → ((s : Start) → rule ≡ accept s → SmallText s) → length (startText rule) ≤ mostText
 start-few (refuse n) h = trace-fault-few n
@@ -149,7 +167,10 @@ pub bytes-few : (table trace out : List ℕ) {n : ℕ} → accepts n ≡ printed
 unfolding printed
 bytes-few table trace out {n} h = go (leb mostText (length out)) refl h
   where
-    go : (t : Bool) → leb mostText (length out) ≡ t → accepts n ≡ pick {A = Wrote} t (record { answer = accepts (length (text table trace)); buffer = text table trace ++ drop (length (text table trace)) out }) (unwritten tooShort out) .answer → n ≤ length out
+    go : (t : Bool) → leb mostText (length out) ≡ t
+        → accepts n ≡ pick {A = Wrote} t
+        (record { answer = accepts (length (text table trace)); buffer = text table trace ++ drop (length (text table trace)) out })
+        (unwritten tooShort out) .answer → n ≤ length out
     go true e f = let y : n ≡ length (text table trace) = cc in omega (arith, text-fits table trace, leb-true mostText (length out) e)
     go false e f = let z : _≡_ {A = ℕ} 0 1 = cc in absurd (omega arith)
 

@@ -41,8 +41,8 @@ pub record PlaysWell (q : Contents) (trace : List ℕ) (at : ℕ) (r : Replayed)
   pub few : r .events ≤ mostBytes
   pub answers : r .events ≤ length (b .answers)
   pub given : r .events ≤ length (b .given)
-  pub words : r .events ≤ length (b .words)
-  pub text : runText (take (r .events) (rows (b .answers) (b .given) (b .words))) memory (r .counts) ≡ startText (startOf q (eventsFrom trace at))
+  pub values : r .events ≤ length (b .values)
+  pub text : runText (take (r .events) (rows (b .answers) (b .given) (b .values))) memory (r .counts) ≡ startText (startOf q (eventsFrom trace at))
 
 -- a replay with room for every event is refused for an event alone
 pub record PlaysAs (q : Contents) (trace : List ℕ) (at : ℕ) (r : Replayed) (memory : List ℕ) (b : Buffers) : Type 0 where
@@ -57,14 +57,14 @@ module _ (q : Contents) {trace memory out : List ℕ} (at : ℕ) (b : Buffers) (
     few = few;
     answers = omega (arith, length-append (map answerOf (p .log)) (drop (length (map answerOf (p .log))) (b .answers)), length-map (p .log) answerOf);
     given = omega (arith, length-append (map givenOf (p .log)) (drop (length (map givenOf (p .log))) (b .given)), length-map (p .log) givenOf);
-    words = omega (arith, length-append (map wordOf (p .log)) (drop (length (map wordOf (p .log))) (b .words)), length-map (p .log) wordOf);
+    values = omega (arith, length-append (map wordOf (p .log)) (drop (length (map wordOf (p .log))) (b .values)), length-map (p .log) wordOf);
     text = rw (rows-log (p .log) _ _ _, w .memory-is) is;
   })
 
   abbrev Plays : Got (List Event) → Type 0
   Plays g = Replays memory noCounts b (replayFrom q g memory noCounts b) r memory₂ b₂
 
-  pub plays : length (b .answers) ≡ 16384 → length (b .given) ≡ 16384 → length (b .words) ≡ 16384
+  pub plays : length (b .answers) ≡ 16384 → length (b .given) ≡ 16384 → length (b .values) ≡ 16384
       → Plays (eventsFrom trace at) → PlaysAs q trace at r memory₂ b₂
   plays ha hg hw v = go (eventsFrom trace at) refl v
     where
@@ -89,8 +89,8 @@ module _ (q : Contents) {trace memory out : List ℕ} (at : ℕ) (b : Buffers) (
 pub opened-words : (gs : List GroupPairs) (g : Got Header) {q : Contents} → openTrace gs g ≡ accept q → q .memoryLength ≤ 4096
 opened-words gs (bad n) e = let z : _≡_ {A = ℕ} 0 1 = cc in absurd (omega arith)
 opened-words gs (got h rest) {q} e =
-    let (limits, is) = limits-opened gs (h .loads) (h .stores) (h .serial) (h .words) q e in
-    rw (sym is) (leb-true _ _ (and-right (leb 1 (h .words)) (leb (h .words) 4096) (limits .wordsRight)))
+    let (limits, is) = limits-opened gs (h .«load_depth») (h .«store_depth») (h .first) (h .«memory_length») q e in
+    rw (sym is) (leb-true _ _ (and-right (leb 1 (h .«memory_length»)) (leb (h .«memory_length») 4096) (limits .wordsRight)))
 
 -- the front of a memory all zero
 take-replicate : (n k : ℕ) → n ≤ k → take {A = ℕ} n (replicate k 0) ≡ replicate n 0
@@ -118,7 +118,8 @@ pub table-fault : (table trace : List ℕ) {n : ℕ} → length table ≤ mostBy
 unfolding text
 table-fault table trace h e = rw (le-ltb mostBytes (length table) h, e)
 
-pub table-right : (table trace : List ℕ) {gs : List GroupPairs} {rest : List ℕ} → length table ≤ mostBytes → readTable table ≡ got gs rest → text table trace ≡ traceText gs trace
+pub table-right : (table trace : List ℕ) {gs : List GroupPairs} {rest : List ℕ} → length table ≤ mostBytes → readTable table ≡ got gs rest
+    → text table trace ≡ traceText gs trace
 unfolding text
 table-right table trace h e = rw (le-ltb mostBytes (length table) h, e)
 
@@ -127,7 +128,12 @@ pub printed-short : (table trace out : List ℕ) → length out < mostText → p
 unfolding printed
 printed-short table trace out h = rw (lt-leb mostText (length out) h)
 
-pub printed-fits : (table trace out : List ℕ) → mostText ≤ length out → printed table trace out ≡ record { answer = accepts (length (text table trace)); buffer = text table trace ++ drop (length (text table trace)) out }
+pub printed-fits : (table trace out : List ℕ) → mostText ≤ length out
+    → printed table trace out ≡ record {
+      answer = accepts (length (text table trace));
+      buffer =
+          text table trace ++ drop (length (text table trace)) out;
+    }
 unfolding printed
 printed-fits table trace out h = rw (le-leb mostText (length out) h)
 

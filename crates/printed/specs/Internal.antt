@@ -26,16 +26,16 @@ abbrev pub loggedAs : ℕ → ℕ → ℕ → Logged
 loggedAs answer given word = record { number = answer; value = pick (eqb given 1) (some word) none }
 
 abbrev pub rows : List ℕ → List ℕ → List ℕ → List Logged
-rows [] given words = []
-rows (a ∷ answers) [] words = []
+rows [] given values = []
+rows (a ∷ answers) [] values = []
 rows (a ∷ answers) (g ∷ given) [] = []
-rows (a ∷ answers) (g ∷ given) (w ∷ words) = loggedAs a g w ∷ rows answers given words
+rows (a ∷ answers) (g ∷ given) (w ∷ values) = loggedAs a g w ∷ rows answers given values
 
 -- what a replay put down of so many events, no more than a file has, a memory, and room for their text
-pub record RunFits (count : ℕ) (answers given words memory out : List ℕ) : Type 0 where
+pub record RunFits (count : ℕ) (answers given values memory out : List ℕ) : Type 0 where
   pub answers-hold : count ≤ length answers
   pub given-hold : count ≤ length given
-  pub words-hold : count ≤ length words
+  pub values-hold : count ≤ length values
   pub few : count ≤ mostBytes
   pub memory-few : length memory ≤ 4096
   pub room : mostText ≤ length out
@@ -43,6 +43,6 @@ pub record RunFits (count : ℕ) (answers given words memory out : List ℕ) : T
 -- a trace that is short enough to be played on a queue and a memory all zero, and room for its text
 pub record Printable (q : Contents) (trace memory out : List ℕ) : Type 0 where
   pub short : length trace ≤ mostBytes
-  pub words : q .memoryLength ≤ 4096
+  pub memory-few : q .memoryLength ≤ 4096
   pub zeros : memory ≡ replicate (q .memoryLength) 0
   pub room : mostText ≤ length out

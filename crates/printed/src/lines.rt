@@ -22,14 +22,15 @@ fn put_event(out: &mut [u8], at: usize, number: u64, answer: u8, given: u8, word
 }
 
 // Puts the lines of the first events, from what a replay put down of them.
-fn put_events(out: &mut [u8], answers: &[u8], given: &[u8], words: &[u32], count: usize) -> usize
-    requires { ⌜ (count ≤ length (now answers)) × (count ≤ length (now given)) × (count ≤ length (now words)) × (63 * count ≤ length (now out)) ⌝ }
-    ensures { λ r. ⌜ Puts (now (out .entry)) 0 (eventLines 1 (take count (rows (now (answers .entry)) (now (given .entry)) (now (words .entry))))) r (now (out .exit)) ⌝ }
+fn put_events(out: &mut [u8], answers: &[u8], given: &[u8], values: &[u32], count: usize) -> usize
+    requires { ⌜ (count ≤ length (now answers)) × (count ≤ length (now given)) × (count ≤ length (now values)) × (63 * count ≤ length (now out)) ⌝ }
+    ensures { λ r. ⌜ Puts (now (out .entry)) 0 (eventLines 1 (take count (rows (now (answers .entry)) (now (given .entry)) (now (values .entry)))))
+        r (now (out .exit)) ⌝ }
 {
     let mut place: usize = 0;
     let mut i: usize = 0;
     while i < count {
-        place = put_event(out, place, i as u64 + 1, answers[i], given[i], words[i]);
+        place = put_event(out, place, i as u64 + 1, answers[i], given[i], values[i]);
         i += 1;
     }
     place
@@ -76,16 +77,16 @@ pub(crate) fn put_run(
     out: &mut [u8],
     answers: &[u8],
     given: &[u8],
-    words: &[u32],
+    values: &[u32],
     count: usize,
     memory: &[u32],
     counts: Counts,
 ) -> usize
-    requires { ⌜ RunFits count (now answers) (now given) (now words) (now memory) (now out) ⌝ }
+    requires { ⌜ RunFits count (now answers) (now given) (now values) (now memory) (now out) ⌝ }
     ensures { λ r. ⌜ Puts (now (out .entry)) 0
-        (runText (take count (rows (now (answers .entry)) (now (given .entry)) (now (words .entry)))) (now (memory .entry)) counts) r (now (out .exit)) ⌝ }
+        (runText (take count (rows (now (answers .entry)) (now (given .entry)) (now (values .entry)))) (now (memory .entry)) counts) r (now (out .exit)) ⌝ }
 {
-    let place = put_events(out, answers, given, words, count);
+    let place = put_events(out, answers, given, values, count);
     let place = put_words(out, place, memory);
     put_counts(out, place, counts)
 }

@@ -51,7 +51,7 @@ fn put_played(out: &mut [u8], queue: Queue, trace: &[u8], at: usize, memory: &mu
 {
     let mut answers = no_answers();
     let mut given = no_answers();
-    let mut words = no_values();
+    let mut values = no_values();
     let counts = Counts {
         loads: 0,
         forwarded: 0,
@@ -64,13 +64,21 @@ fn put_played(out: &mut [u8], queue: Queue, trace: &[u8], at: usize, memory: &mu
         counts,
         &mut answers,
         &mut given,
-        &mut words,
+        &mut values,
     );
     if played.answer != 0 {
         return put_item(out, 0, b"trace ", played.answer as u64, 10);
     }
     let counts = played.counts;
-    put_run(out, &answers, &given, &words, played.events, memory, counts)
+    put_run(
+        out,
+        &answers,
+        &given,
+        &values,
+        played.events,
+        memory,
+        counts,
+    )
 }
 
 // Puts the text of a trace, once its table is read.
@@ -87,9 +95,9 @@ fn put_trace(out: &mut [u8], table: Table, trace: &[u8]) -> usize
     }
     let queue = opened.queue;
     let frame = queue.frame;
-    let words = frame.words as usize;
+    let length = frame.memory_length as usize;
     let mut memory = no_memory();
-    put_played(out, queue, trace, opened.at, &mut memory[..words])
+    put_played(out, queue, trace, opened.at, &mut memory[..length])
 }
 
 // Puts the text of both files' bytes.

@@ -57,11 +57,17 @@ with-group-is q g right = rw (new-loads right (length (q .stores)), new-stores r
 
 -- ---- on the record
 -- the new entries as loads, as stores: `f` says what an entry holds
-side-longer : {B : Type 0} (f : Entry → B) (new : Pair → B) {held others : ℕ} {places : List ℕ} {ps : Span} {l left : List ℕ} → ((p : Pair) → f (entryAfter others p) ≡ new p) → Appended held places ps others l left
+side-longer : {B : Type 0} (f : Entry → B) (new : Pair → B) {held others : ℕ} {places : List ℕ} {ps : Span} {l left : List ℕ}
+    → ((p : Pair) → f (entryAfter others p) ≡ new p) → Appended held places ps others l left
     → sideOf (λ (x : ℕ). f (entryOf x)) 0 (held + ps .count) left ≡ sideOf (λ (x : ℕ). f (entryOf x)) 0 held l ++ map new (listOf places ps)
 side-longer {B} f new {held} {others} {places} {ps} {l} {left} same a =
     side-holds f (held + ps .count) left
-    ∙ rw (a .holds, map-append f (entriesHeld held l) (map (entryAfter others) (listOf places ps)), side-holds f held l, map-map f (entryAfter others) (listOf places ps))
+    ∙ rw (
+      a .holds,
+      map-append f (entriesHeld held l) (map (entryAfter others) (listOf places ps)),
+      side-holds f held l,
+      map-map f (entryAfter others) (listOf places ps),
+    )
     (ap (λ (t : List B). map f (entriesHeld held l) ++ t) (map-same (λ (p : Pair). f (entryAfter others p)) new same (listOf places ps)))
 
 module _ (q : Queue) (g : Group) where
@@ -74,24 +80,40 @@ module _ (q : Queue) (g : Group) where
   abbrev stores-size : length (chosen .stores) ≡ g .stores .count
   stores-size = view-length (q .frame .table .stores) (g .stores)
 
-  pub room-record : room (contentsOf q) (pairsOf (q .frame .table .loads) (q .frame .table .stores) g) ≡ leb (q .frame .loads .count + g .loads .count) (q .frame .loads .depth) && leb (q .frame .stores .count + g .stores .count) (q .frame .stores .depth)
+  pub room-record : room (contentsOf q) (pairsOf (q .frame .table .loads) (q .frame .table .stores) g) ≡ leb
+      (q .frame .loads .count + g .loads .count) (q .frame .loads .depth) && leb (q .frame .stores .count + g .stores .count)
+      (q .frame .stores .depth)
   unfolding contentsOf
-  room-record = rw (side-length loadIn 0 (q .frame .loads .count) (q .«load_entries»), side-length storeIn 0 (q .frame .stores .count) (q .«store_entries»), loads-size, stores-size)
+  room-record = rw (
+    side-length loadIn 0 (q .frame .loads .count) (q .«load_entries»),
+    side-length storeIn 0 (q .frame .stores .count)
+        (q .«store_entries»),
+    loads-size,
+    stores-size,
+  )
 
-  pub appended-both : {ls ss : List ℕ} → Appended (q .frame .loads .count) (q .frame .table .loads) (g .loads) (q .frame .stores .count) (q .«load_entries») ls → Appended (q .frame .stores .count) (q .frame .table .stores) (g .stores) (q .frame .loads .count) (q .«store_entries») ss
+  pub appended-both : {ls ss : List ℕ}
+      → Appended (q .frame .loads .count) (q .frame .table .loads) (g .loads) (q .frame .stores .count) (q .«load_entries») ls
+      → Appended (q .frame .stores .count) (q .frame .table .stores) (g .stores) (q .frame .loads .count) (q .«store_entries») ss
       → contentsOf (queueOf (record {
         table = q .frame .table;
-        words = q .frame .words;
+        «memory_length» = q .frame .«memory_length»;
         loads = longer (q .frame .loads) (g .loads .count);
         stores = longer (q .frame .stores) (g .stores .count);
       }) ls ss) ≡ withPairs (contentsOf q) (pairsOf (q .frame .table .loads) (q .frame .table .stores) g)
   unfolding contentsOf
   appended-both {ls} {ss} a b =
-      rw (side-length loadIn 0 (q .frame .loads .count) (q .«load_entries»), side-length storeIn 0 (q .frame .stores .count) (q .«store_entries»), loads-size, stores-size)
+      rw (
+        side-length loadIn 0 (q .frame .loads .count) (q .«load_entries»),
+        side-length storeIn 0 (q .frame .stores .count) (q .«store_entries»),
+        loads-size,
+        stores-size,
+      )
       (rw (side-longer loadOf (loadAfter (q .frame .stores .count)) (λ p. refl) a, side-longer storeOf (storeAfter (q .frame .loads .count)) (λ p. refl) b))
 
 -- a right group's pairs fit where there is room
-module _ (places : List ℕ) (ps : Span) (inside : Inside ps) (few : length (listOf places ps) ≤ 16) (offset : (i : ℕ) → i < length (listOf places ps) → getD (listOf places ps) i blankPair .offset ≤ 16)
+module _ (places : List ℕ) (ps : Span) (inside : Inside ps) (few : length (listOf places ps) ≤ 16) (offset : (i : ℕ) → i < length (listOf places ps)
+    → getD (listOf places ps) i blankPair .offset ≤ 16)
     (port : (i : ℕ) → i < length (listOf places ps) → getD (listOf places ps) i blankPair .port ≤ 31) where
   size : length (listOf places ps) ≡ ps .count
   size = view-length places ps
@@ -106,14 +128,18 @@ module _ (places : List ℕ) (ps : Span) (inside : Inside ps) (few : length (lis
         ports = λ i k. (let h = port i (rw size k) in omega arith);
       }
 
-pub group-fits : (q : Queue) (g : Group) → Inside (g .loads) × Inside (g .stores) → sound (contentsOf q) ≡ true → GroupRight (pairsOf (q .frame .table .loads) (q .frame .table .stores) g) → room (contentsOf q) (pairsOf (q .frame .table .loads) (q .frame .table .stores) g) ≡ true
+pub group-fits : (q : Queue) (g : Group) → Inside (g .loads) × Inside (g .stores) → sound (contentsOf q) ≡ true
+    → GroupRight (pairsOf (q .frame .table .loads) (q .frame .table .stores) g)
+    → room (contentsOf q) (pairsOf (q .frame .table .loads) (q .frame .table .stores) g) ≡ true
     → PairsFit (q .frame .loads .count) (q .frame .table .loads) (g .loads) × PairsFit (q .frame .stores .count) (q .frame .table .stores) (g .stores)
 group-fits q g (hl, hs) s right r =
     let loads = leb (q .frame .loads .count + g .loads .count) (q .frame .loads .depth) in
     let stores = leb (q .frame .stores .count + g .stores .count) (q .frame .stores .depth) in
     let both : loads && stores ≡ true = sym (room-record q g) ∙ r in (
-      pairs-fit (q .frame .table .loads) (g .loads) hl (right .few-loads) (right .load-offset) (right .load-port) (q .frame .loads .count) (q .frame .loads .depth) (and-left loads stores both) (load-depth-most q s),
-      pairs-fit (q .frame .table .stores) (g .stores) hs (right .few-stores) (right .store-offset) (right .store-port) (q .frame .stores .count) (q .frame .stores .depth) (and-right loads stores both) (store-depth-most q s),
+      pairs-fit (q .frame .table .loads) (g .loads) hl (right .few-loads) (right .load-offset) (right .load-port) (q .frame .loads .count)
+          (q .frame .loads .depth) (and-left loads stores both) (load-depth-most q s),
+      pairs-fit (q .frame .table .stores) (g .stores) hs (right .few-stores) (right .store-offset) (right .store-port) (q .frame .stores .count)
+          (q .frame .stores .depth) (and-right loads stores both) (store-depth-most q s),
     )
 
 -- ---- the call

@@ -115,7 +115,7 @@ module _ (argument : Argument) {port x answer : ℕ} (k : x < 4294967296) (small
 pub give-record : (argument : Argument) (q : Queue) (port x : ℕ) → give argument (contentsOf q) port x ≡
     need (sound (contentsOf q)) unsound
     (need (anyOf (namesPort (kindOf argument) port) (groupsOf (q .frame .table))) noPort
-    (need (inRange argument (q .frame .words) x) badAddress
+    (need (inRange argument (q .frame .«memory_length») x) badAddress
     (need (waits argument port (contentsOf q)) noneWaits
     (accept (argumentGiven argument port x (contentsOf q))))))
 unfolding give contentsOf

@@ -108,7 +108,7 @@ module _ (q : Queue) where
   unfolding contentsOf
   stores-held = refl
 
-  pub words-held : contentsOf q .memoryLength ≡ q .frame .words
+  pub words-held : contentsOf q .memoryLength ≡ q .frame .«memory_length»
   unfolding contentsOf
   words-held = refl
 

@@ -104,12 +104,15 @@ entry-number e s =
     let d : ℕ = bit (e .finished) in
     rw (
       part5 (e .port) a f d (e .before) (e .address) (e .word) (s .port),
-      part8 (e .port) a f d (e .before) (e .address) (e .word) (s .port) (bit-small (e .addressed)) (bit-small (e .filled)) (bit-small (e .finished)) (s .before),
+      part8 (e .port) a f d (e .before) (e .address) (e .word) (s .port) (bit-small (e .addressed)) (bit-small (e .filled)) (bit-small (e .finished))
+          (s .before),
       mark5 (e .port) a f d (e .before) (e .address) (e .word) (bit-small (e .addressed)),
       mark6 (e .port) a f d (e .before) (e .address) (e .word) (bit-small (e .addressed)) (bit-small (e .filled)),
       mark7 (e .port) a f d (e .before) (e .address) (e .word) (bit-small (e .addressed)) (bit-small (e .filled)) (bit-small (e .finished)),
-      part16 (e .port) a f d (e .before) (e .address) (e .word) (bit-small (e .addressed)) (bit-small (e .filled)) (bit-small (e .finished)) (s .before) (s .address),
-      part32 (e .port) a f d (e .before) (e .address) (e .word) (bit-small (e .addressed)) (bit-small (e .filled)) (bit-small (e .finished)) (s .before) (s .address) (s .word),
+      part16 (e .port) a f d (e .before) (e .address) (e .word) (bit-small (e .addressed)) (bit-small (e .filled)) (bit-small (e .finished))
+          (s .before) (s .address),
+      part32 (e .port) a f d (e .before) (e .address) (e .word) (bit-small (e .addressed)) (bit-small (e .filled)) (bit-small (e .finished))
+          (s .before) (s .address) (s .word),
       bit-eqb (e .addressed),
       bit-eqb (e .filled),
       bit-eqb (e .finished),
@@ -161,7 +164,8 @@ packed-read-back n h =
     let e2 : bit (eqb (n / 64 % 2) 1) ≡ n / 64 % 2 = bits-eqb (n / 64 % 2) (omega arith) in
     let e3 : bit (eqb (n / 128 % 2) 1) ≡ n / 128 % 2 = bits-eqb (n / 128 % 2) (omega arith) in
     rw (e1, e2, e3)
-    (sum (n % 32) (n / 32) (n / 64) (n / 128) (n / 256) (n / 65536) (n / 4294967296) n (omega arith) (omega arith) (half64 n) (half128 n) (half256 n) (part65536 n) (part4294967296 n) (omega arith))
+    (sum (n % 32) (n / 32) (n / 64) (n / 128) (n / 256) (n / 65536) (n / 4294967296) n (omega arith) (omega arith) (half64 n) (half128 n) (half256 n)
+    (part65536 n) (part4294967296 n) (omega arith))
   where
     sum : (p a f d b x w n : ℕ) → p < 32 → n ≡ p + 32 * a → f ≡ a / 2 → d ≡ f / 2 → b ≡ d / 2 → x ≡ b / 256 → w ≡ x / 65536 → w < 4294967296
         → p % 32 + (32 * (a % 2) + 64 * (f % 2) + 128 * (d % 2)) + 256 * (b % 256) + 65536 * (x % 65536) + 4294967296 * (w % 4294967296) ≡ n

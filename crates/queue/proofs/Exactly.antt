@@ -59,7 +59,8 @@ any-keepWhere w serial [] = go (w serial)
     go false = refl
 any-keepWhere w serial (x ∷ xs) = go (any-keepWhere w serial xs) (eqb serial x) (w x) refl refl
   where
-    go : anyOf (eqb serial) (keepWhere w xs) ≡ w serial && anyOf (eqb serial) xs → (t b : Bool) → eqb serial x ≡ t → w x ≡ b → anyOf (eqb serial) (pick b (x ∷ keepWhere w xs) (keepWhere w xs)) ≡ w serial && (t || anyOf (eqb serial) xs)
+    go : anyOf (eqb serial) (keepWhere w xs) ≡ w serial && anyOf (eqb serial) xs → (t b : Bool) → eqb serial x ≡ t → w x ≡ b
+        → anyOf (eqb serial) (pick b (x ∷ keepWhere w xs) (keepWhere w xs)) ≡ w serial && (t || anyOf (eqb serial) xs)
     go rest true true e h =
         let same : w serial ≡ true = ap w (eqb-true serial x e) ∙ h in
         rw (e, same)
@@ -72,7 +73,8 @@ any-keepWhere w serial (x ∷ xs) = go (any-keepWhere w serial xs) (eqb serial x
 -- so it is in the list where it passes, if what passes lies among the n serials
 in-list : (w : ℕ → Bool) (serial from n : ℕ) → serial < 2 ^ 32 → from < 2 ^ 32 → n ≤ 2 ^ 32 → (n ≤ age from serial → w serial ≡ false)
     → anyOf (eqb serial) (keepWhere w (serials from n)) ≡ w serial
-in-list w serial from n h k m past = any-keepWhere w serial (serials from n) ∙ rw (any-serial serial n from h k m) (go (ltb (age from serial) n) (w serial) refl refl)
+in-list w serial from n h k m past = any-keepWhere w serial (serials from n)
+    ∙ rw (any-serial serial n from h k m) (go (ltb (age from serial) n) (w serial) refl refl)
   where
     go : (t b : Bool) → ltb (age from serial) n ≡ t → w serial ≡ b → b && t ≡ b
     go true true e d = refl

@@ -1,6 +1,8 @@
--- The first k elements of a `&κ mut [T]` that is not used again, `&mut s[..k]`, as a `&κ mut [T]` of their own, for all the time that the slice has left: `Borrow/Rule/Slice/Handed.antt`'s `takes-front`, of what `Denote/Slice.antt`'s slice owns.
+-- The first k elements of a `&κ mut [T]` that is not used again, `&mut s[..k]`, as a `&κ mut [T]` of their own, for all the
+-- time that the slice has left: `Borrow/Rule/Slice/Handed.antt`'s `takes-front`, of what `Denote/Slice.antt`'s slice owns.
 --     room-front       there is room for the first elements where there is room for all
---     front-out        own (the `&κ mut [T]` ((b, o), γ, ys)) ∗ [κ]_q  ⊢ ⇛ ∃ γ′. own (the `&κ mut [T]` ((b, o), γ′, take k ys)) ∗ [κ]_q.        Nothing is ever known of what γ ends as
+--     front-out        own (the `&κ mut [T]` ((b, o), γ, ys)) ∗ [κ]_q  ⊢ ⇛ ∃ γ′. own (the `&κ mut [T]` ((b, o), γ′, take k ys))
+--     ∗ [κ]_q.        Nothing is ever known of what γ ends as
 -- Assumes `Given`.
 use mathlib.Core.Path.{refl, sym, _∙_, ap}
 use Prim.Native.Nat.{ℕ}
@@ -39,11 +41,16 @@ module _ (R : RattleType) (κ : Lft) (q : Share) (γ : GName) (b o : ℕ) where
     pub front-out : ent 𝓤 (sep 𝓤 (sem 𝓤 H A (MutSlice ℓ κ R .own (at-list γ ys) (vals ys))) (A .lft κ q))
         (H .⇛ (ex 𝓤 (λ (γ′ : GName). sep 𝓤 (sem 𝓤 H A (MutSlice ℓ′ κ R .own (at-list γ′ (take k ys)) (vals (take k ys)))) (A .lft κ q))))
     front-out =
-        qed W (‵ (MutSlice ℓ κ R .own (at-list γ ys) (vals ys)) ∷ ‵ (flft κ q) ∷ []) ∵ updating ! $ fsplit ! $ pureL ! (at-slice R (at-list γ ys) (vals ys)) (λ p. fsplit ! $
-        use3 W (later (some (λ (γ′ : GName). ‵ (fobs γ′ (codedHoleys R .code (heres R (take k ys)))) ⊛ ‵ (fbor κ (Body (Arr (Holey (mem R)) (length (heres R (take k ys)))) b o γ′)) ⊛ ‵ (flft κ q))))
-        (takes-front 𝓤 H A W (mem R) κ (length ys) b o q γ (heres R ys) (heres R (take k ys)) (heres R (drop-list k ys)) (sym (map-app (here (mem R)) (take k ys) (drop-list k ys)) ∙ ap (λ (l : List (R .Denot)). heres R l) (take-append-drop k ys))) $ await ! tt $
+        qed W (‵ (MutSlice ℓ κ R .own (at-list γ ys) (vals ys)) ∷ ‵ (flft κ q) ∷ []) ∵ updating ! $ fsplit !
+        $ pureL ! (at-slice R (at-list γ ys) (vals ys)) (λ p. fsplit ! $
+        use3 W (later (some (λ (γ′ : GName). ‵ (fobs γ′ (codedHoleys R .code (heres R (take k ys)))) ⊛ ‵
+        (fbor κ (Body (Arr (Holey (mem R)) (length (heres R (take k ys)))) b o γ′)) ⊛ ‵ (flft κ q))))
+        (takes-front 𝓤 H A W (mem R) κ (length ys) b o q γ (heres R ys) (heres R (take k ys)) (heres R (drop-list k ys))
+        (sym (map-app (here (mem R)) (take k ys) (drop-list k ys)) ∙ ap (λ (l : List (R .Denot)). heres R l) (take-append-drop k ys)))
+        $ await ! tt $
         pick ! (λ γ′. split ! $ move ! (1 ∷ []) $ split ! $
         -- [the borrow; the token; obs]
         rewrite ! 0 (λ (j : ℕ). ‵ (fbor κ (Body (Arr (Holey (mem R)) j) b o γ′))) (length-map (take k ys) (here (mem R))) refl $
-        move ! (2 ∷ 0 ∷ []) $ fjoin ! $ pureI ! (at-slice R (at-list γ′ (take k ys)) (vals (take k ys))) (tt, (tt, tt)) (refl, room-front R k ys (p .1)) $ fjoin ! $
+        move ! (2 ∷ 0 ∷ []) $ fjoin !
+        $ pureI ! (at-slice R (at-list γ′ (take k ys)) (vals (take k ys))) (tt, (tt, tt)) (refl, room-front R k ys (p .1)) $ fjoin ! $
         at-once ! $ show ! (λ (g : GName). sep 𝓤 (sem 𝓤 H A (MutSlice ℓ′ κ R .own (at-list g (take k ys)) (vals (take k ys)))) (A .lft κ q)) γ′ $ done !))

@@ -21,7 +21,8 @@ use Rattle.queue.specs.Open.{groupFits}
 use Rattle.queue.proofs.ContentsLaws.{side-getElem?, side-here, side-end}
 
 -- the pairs from the ith on: what a walk over them comes to
-pub pairs-here : (places : List ℕ) (ps : Span) (i : ℕ) → i < ps .count → drop i (listOf places ps) ≡ pairIn (getD places (ps .first + i) 0) ∷ drop (i + 1) (listOf places ps)
+pub pairs-here : (places : List ℕ) (ps : Span) (i : ℕ) → i < ps .count
+    → drop i (listOf places ps) ≡ pairIn (getD places (ps .first + i) 0) ∷ drop (i + 1) (listOf places ps)
 pairs-here places ps i k =
     rw (add-one, ← view-at places ps i k)
     (drop-cons (listOf places ps) i blankPair (rw (view-length places ps) k))
@@ -31,7 +32,8 @@ pairs-end places ps i k =
     let e : length (listOf places ps) ≤ i = rw (view-length places ps) k in
     drop-of-length-le (listOf places ps) e
 
-pub fits-record : (loadDepth storeDepth : ℕ) (loads stores : List ℕ) (g : Group) → groupFits loadDepth storeDepth (pairsOf loads stores g) ≡ leb (g .loads .count) loadDepth && leb (g .stores .count) storeDepth
+pub fits-record : (loadDepth storeDepth : ℕ) (loads stores : List ℕ) (g : Group)
+    → groupFits loadDepth storeDepth (pairsOf loads stores g) ≡ leb (g .loads .count) loadDepth && leb (g .stores .count) storeDepth
 fits-record loadDepth storeDepth loads stores g = rw (view-length loads (g .loads), view-length stores (g .stores))
 
 -- a right table has at most 16 groups

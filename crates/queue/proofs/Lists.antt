@@ -72,10 +72,12 @@ module _ {A : Type 0} where
   all-weaken p q w (x ∷ xs) h = and-both (w x (and-left (p x) (allOf p xs) h)) (all-weaken p q w xs (and-right (p x) (allOf p xs) h))
 
   -- two tests give a third
-  pub all-weaken₂ : (p q r : A → Bool) → ((x : A) → p x ≡ true → q x ≡ true → r x ≡ true) → (xs : List A) → allOf p xs ≡ true → allOf q xs ≡ true → allOf r xs ≡ true
+  pub all-weaken₂ : (p q r : A → Bool) → ((x : A) → p x ≡ true → q x ≡ true → r x ≡ true) → (xs : List A) → allOf p xs ≡ true → allOf q xs ≡ true
+      → allOf r xs ≡ true
   all-weaken₂ p q r w [] h k = refl
   all-weaken₂ p q r w (x ∷ xs) h k =
-      and-both (w x (and-left (p x) (allOf p xs) h) (and-left (q x) (allOf q xs) k)) (all-weaken₂ p q r w xs (and-right (p x) (allOf p xs) h) (and-right (q x) (allOf q xs) k))
+      and-both (w x (and-left (p x) (allOf p xs) h) (and-left (q x) (allOf q xs) k))
+      (all-weaken₂ p q r w xs (and-right (p x) (allOf p xs) h) (and-right (q x) (allOf q xs) k))
 
   pub all-take : (p : A → Bool) (n : ℕ) (xs : List A) → allOf p xs ≡ true → allOf p (take n xs) ≡ true
   all-take p zero [] h = refl
@@ -106,11 +108,13 @@ module _ {A : Type 0} where
       go true e h = and-both e h
       go false e h = refl
 
-  pub afterWhile-map : {B : Type 0} (p : B → Bool) (q : A → Bool) (f : A → B) → ((x : A) → p (f x) ≡ q x) → (xs : List A) → afterWhile p (map f xs) ≡ map f (afterWhile q xs)
+  pub afterWhile-map : {B : Type 0} (p : B → Bool) (q : A → Bool) (f : A → B) → ((x : A) → p (f x) ≡ q x) → (xs : List A)
+      → afterWhile p (map f xs) ≡ map f (afterWhile q xs)
   afterWhile-map p q f e [] = refl
   afterWhile-map {B} p q f e (x ∷ xs) = rw (e x) (go (q x) (afterWhile-map p q f e xs))
     where
-      go : (b : Bool) → afterWhile p (map f xs) ≡ map f (afterWhile q xs) → pick b (afterWhile p (map f xs)) (f x ∷ map f xs) ≡ map f (pick b (afterWhile q xs) (x ∷ xs))
+      go : (b : Bool) → afterWhile p (map f xs) ≡ map f (afterWhile q xs)
+          → pick b (afterWhile p (map f xs)) (f x ∷ map f xs) ≡ map f (pick b (afterWhile q xs) (x ∷ xs))
       go true h = h
       go false h = refl
 
@@ -192,7 +196,8 @@ module _ {A : Type 0} where
   first-passes p [] h = let e : false ≡ true = cc in false-true e
   first-passes p (y ∷ xs) {x} h = go (p y) refl h (λ k. first-passes p xs k)
     where
-      go : (b : Bool) → p y ≡ b → getElem? (y ∷ xs) (pick b 0 (suc (firstPlace p xs))) ≡ some x → (getElem? xs (firstPlace p xs) ≡ some x → p x ≡ true) → p x ≡ true
+      go : (b : Bool) → p y ≡ b → getElem? (y ∷ xs) (pick b 0 (suc (firstPlace p xs))) ≡ some x
+          → (getElem? xs (firstPlace p xs) ≡ some x → p x ≡ true) → p x ≡ true
       go true e k rec = let same : y ≡ x = cc in (rw same at e)
       go false e k rec = rec k
 
@@ -218,8 +223,10 @@ module _ {A : Type 0} where
   pub failing-behind : (p : A → Bool) (xs : List A) (y : A) (ys old live : List A) → xs ++ y ∷ ys ≡ old ++ live → allOf p old ≡ true → p y ≡ false
       → (near : List A) × (xs ≡ old ++ near)
   failing-behind p xs y ys [] live e h f = (xs, refl)
-  failing-behind p [] y ys (o ∷ old) live e h f = let q : p o ≡ false = (rw (head-eq-of-cons-eq e) at f) in let z : false ≡ true = sym q ∙ and-left (p o) (allOf p old) h in false-true z
-  failing-behind p (x ∷ xs) y ys (o ∷ old) live e h f = go (failing-behind p xs y ys old live (tail-eq-of-cons-eq e) (and-right (p o) (allOf p old) h) f) (head-eq-of-cons-eq e)
+  failing-behind p [] y ys (o ∷ old) live e h f = let q : p o ≡ false = (rw (head-eq-of-cons-eq e) at f) in let z : false ≡ true = sym q
+      ∙ and-left (p o) (allOf p old) h in false-true z
+  failing-behind p (x ∷ xs) y ys (o ∷ old) live e h f =
+      go (failing-behind p xs y ys old live (tail-eq-of-cons-eq e) (and-right (p o) (allOf p old) h) f) (head-eq-of-cons-eq e)
     where
       go : (near : List A) × (xs ≡ old ++ near) → x ≡ o → (near : List A) × (x ∷ xs ≡ o ∷ (old ++ near))
       go (near, k) q = (near, rw (q, k))

@@ -61,7 +61,8 @@ module _ (q : Queue) where
   pub fit : {b : Bool} → b ≡ (whole (q .«load_entries») (q .«store_entries») && sound (contentsOf q)) → not b ≡ false → PartsFit q
   fit {b} e left =
       let both : (whole (q .«load_entries») (q .«store_entries») && sound (contentsOf q)) ≡ true = sym e ∙ not-false b left in
-      let full : whole (q .«load_entries») (q .«store_entries») ≡ true = and-left (whole (q .«load_entries») (q .«store_entries»)) (sound (contentsOf q)) both in
+      let full : whole (q .«load_entries») (q .«store_entries») ≡ true =
+      and-left (whole (q .«load_entries») (q .«store_entries»)) (sound (contentsOf q)) both in
       let right : sound (contentsOf q) ≡ true = and-right (whole (q .«load_entries») (q .«store_entries»)) (sound (contentsOf q)) both in
       record {
         full = full;
@@ -82,6 +83,11 @@ module _ (q : Queue) where
       go false z = refl
 
 -- ---- an opened frame is an opened queue, with two runs of zeros
-pub opens : (fresh : Frame) (rule : Ruled Contents) (r : OpenedFrame) → OpensFrame fresh rule r → Opens noQueue rule (record { answer = r .answer; queue = freshQueue (r .frame) })
+pub opens : (fresh : Frame) (rule : Ruled Contents) (r : OpenedFrame) → OpensFrame fresh rule r
+    → Opens noQueue rule (record { answer = r .answer; queue = freshQueue (r .frame) })
 opens fresh (refuse n) r e = ap (λ (o : OpenedFrame). record { answer = o .answer; queue = freshQueue (o .frame) }) e
-opens fresh (accept q) r e = (ap (λ (o : OpenedFrame). o .answer) (e .0), ap (λ (o : OpenedFrame). contentsOf (freshQueue (o .frame))) (e .0) ∙ e .1 (replicate 64 0) (replicate 64 0))
+opens fresh (accept q) r e = (
+  ap (λ (o : OpenedFrame). o .answer) (e .0),
+  ap (λ (o : OpenedFrame). contentsOf (freshQueue (o .frame))) (e .0)
+      ∙ e .1 (replicate 64 0) (replicate 64 0),
+)

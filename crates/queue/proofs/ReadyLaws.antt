@@ -164,9 +164,11 @@ pub record ReadyGathering (ready : ℕ → Bool) (from n i serial : ℕ) (s : Se
   pub few : s .count ≤ i
   pub long : length (s .numbers) ≡ 64
   pub next : serial ≡ after from i
-  pub are : (p : ℕ → Bool) → ((j : ℕ) → j < n → p (after from j) ≡ ready j) → keepWhere p (serials from n) ≡ serialsListed s ++ keepWhere p (serials serial (n - i))
+  pub are : (p : ℕ → Bool) → ((j : ℕ) → j < n → p (after from j) ≡ ready j)
+      → keepWhere p (serials from n) ≡ serialsListed s ++ keepWhere p (serials serial (n - i))
 
-pub gathering-none : {ready : ℕ → Bool} {from n : ℕ} (numbers : List ℕ) → length numbers ≡ 64 → from < 2 ^ 32 → ReadyGathering ready from n 0 from (record { count = 0; numbers = numbers })
+pub gathering-none : {ready : ℕ → Bool} {from n : ℕ} (numbers : List ℕ) → length numbers ≡ 64 → from < 2 ^ 32
+    → ReadyGathering ready from n 0 from (record { count = 0; numbers = numbers })
 gathering-none {ready} {from} {n} numbers e h = record { few = omega arith; long = e; next = omega arith; are = λ p e. rw (sub-zero n) (front p numbers) }
   where
     front : (p : ℕ → Bool) (l : List ℕ) → keepWhere p (serials from n) ≡ take 0 l ++ keepWhere p (serials from n)
@@ -174,23 +176,27 @@ gathering-none {ready} {from} {n} numbers e h = record { few = omega arith; long
     front p (x ∷ l) = refl
 
 module _ {ready : ℕ → Bool} {from n i serial : ℕ} {s : Serials} (w : ReadyGathering ready from n i serial s) where
-  pub gathering-more : i < n → {now : Bool} → now ≡ ready i → {r : Serials} → Noted s serial now r → {next : ℕ} → next ≡ after serial 1 → ReadyGathering ready from n (i + 1) next r
+  pub gathering-more : i < n → {now : Bool} → now ≡ ready i → {r : Serials} → Noted s serial now r → {next : ℕ} → next ≡ after serial 1
+      → ReadyGathering ready from n (i + 1) next r
   gathering-more h {now} e {r} c {next} d =
       let few = w .few in
       let more = c .few in
       let place = w .next in
       record { few = omega arith; long = c .long ∙ w .long; next = omega arith; are = are }
     where
-      pass : (p : ℕ → Bool) (t : Bool) → pick t (serial ∷ keepWhere p (serials (after serial 1) (n - (i + 1)))) (keepWhere p (serials (after serial 1) (n - (i + 1))))
+      pass : (p : ℕ → Bool) (t : Bool)
+          → pick t (serial ∷ keepWhere p (serials (after serial 1) (n - (i + 1)))) (keepWhere p (serials (after serial 1) (n - (i + 1))))
           ≡ pick t (serial ∷ []) [] ++ keepWhere p (serials (after serial 1) (n - (i + 1)))
       pass p true = refl
       pass p false = refl
 
-      are : (p : ℕ → Bool) → ((j : ℕ) → j < n → p (after from j) ≡ ready j) → keepWhere p (serials from n) ≡ serialsListed r ++ keepWhere p (serials next (n - (i + 1)))
+      are : (p : ℕ → Bool) → ((j : ℕ) → j < n → p (after from j) ≡ ready j)
+          → keepWhere p (serials from n) ≡ serialsListed r ++ keepWhere p (serials next (n - (i + 1)))
       are p agrees =
           let m : n - i ≡ suc (n - (i + 1)) = omega arith in
           let k : p serial ≡ now = ap p (w .next) ∙ agrees i h ∙ sym e in
-          let split : keepWhere p (serials serial (n - i)) ≡ pick now (serial ∷ []) [] ++ keepWhere p (serials next (n - (i + 1))) = rw (m, d, ← k) (pass p (p serial)) in
+          let split : keepWhere p (serials serial (n - i)) ≡ pick now (serial ∷ []) [] ++ keepWhere p (serials next (n - (i + 1))) =
+          rw (m, d, ← k) (pass p (p serial)) in
           w .are p agrees ∙ rw (split, c .are) (sym (append-assoc (serialsListed s) (pick now (serial ∷ []) []) (keepWhere p (serials next (n - (i + 1))))))
 
   pub gathering-end : n ≤ i → (p : ℕ → Bool) → ((j : ℕ) → j < n → p (after from j) ≡ ready j) → serialsListed s ≡ keepWhere p (serials from n)
@@ -202,7 +208,8 @@ module _ {ready : ℕ → Bool} {from n i serial : ℕ} {s : Serials} (w : Ready
 pub record Copied (source old : List ℕ) (j : ℕ) (l : List ℕ) : Type 0 where
   pub is : l ≡ take j source ++ drop j old
 
-copy-set : (source old : List ℕ) (j z : ℕ) → j < length old → j < length source → set (take j source ++ drop j old) j (getD source j z) ≡ take (suc j) source ++ drop (suc j) old
+copy-set : (source old : List ℕ) (j z : ℕ) → j < length old → j < length source
+    → set (take j source ++ drop j old) j (getD source j z) ≡ take (suc j) source ++ drop (suc j) old
 copy-set [] old j z h k = absurd (not-suc-le-zero k)
 copy-set (x ∷ s) [] j z h k = absurd (not-suc-le-zero h)
 copy-set (x ∷ s) (y ∷ old) zero z h k = refl

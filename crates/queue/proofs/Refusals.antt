@@ -49,7 +49,8 @@ module _ {A : Type 0} where
   need-proper true n rest e h = h
   need-proper false n rest e h = e
 
-pub have-proper : {A B : Type 0} (o : Option A) (n : ℕ) (rest : A → Ruled B) → not (eqb n 0) ≡ true → ((a : A) → proper (rest a) ≡ true) → proper (have o n rest) ≡ true
+pub have-proper : {A B : Type 0} (o : Option A) (n : ℕ) (rest : A → Ruled B) → not (eqb n 0) ≡ true → ((a : A) → proper (rest a) ≡ true)
+    → proper (have o n rest) ≡ true
 have-proper none n rest e h = e
 have-proper (some a) n rest e h = h a
 

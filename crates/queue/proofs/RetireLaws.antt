@@ -115,25 +115,44 @@ pub side-retiring : {A B : Type 0} (p : B → Bool) (f : A → B) (blank : A) (n
 side-retiring p f blank n l = omega (arith, retiring-most p (sideOf f blank n l), side-length f blank n l)
 
 -- a side once its finished entries have left: `f` says what an entry holds, `h` how that changes as others leave
-side-retired : {B : Type 0} (f : Entry → B) (h : B → B) (p : B → Bool) (others : ℕ) → ((e : Entry) → f (lowered others e) ≡ h (f e)) → ((e : Entry) → p (f e) ≡ finished e)
+side-retired : {B : Type 0} (f : Entry → B) (h : B → B) (p : B → Bool) (others : ℕ) → ((e : Entry) → f (lowered others e) ≡ h (f e))
+    → ((e : Entry) → p (f e) ≡ finished e)
     → (n l : ℕ) {old new : List ℕ} → l ≡ retiring finished (entriesHeld n old) → Shifted l (n - l) others old new
     → sideOf (λ (x : ℕ). f (entryOf x)) 0 (n - l) new ≡ map h (afterWhile p (sideOf (λ (x : ℕ). f (entryOf x)) 0 n old))
 side-retired f h p others same is n l {old} {new} e w =
     let k : l + (n - l) ≡ n = (let m : l ≤ n = rw e (side-retiring finished entryOf 0 n old) in omega arith) in
     let gone : retiring p (sideOf (λ (x : ℕ). f (entryOf x)) 0 n old) ≡ l = side-retiring-same f p finished is n old ∙ sym e in
     side-holds f (n - l) new
-    ∙ rw (w .holds, k, map-map f (lowered others), ← drop-retiring p (sideOf (λ (x : ℕ). f (entryOf x)) 0 n old), gone, side-holds f n old, drop-map f l (entriesHeld n old), map-map h f)
+    ∙ rw (
+      w .holds,
+      k,
+      map-map f (lowered others),
+      ← drop-retiring p (sideOf (λ (x : ℕ). f (entryOf x)) 0 n old),
+      gone,
+      side-holds f n old,
+      drop-map f l (entriesHeld n old),
+      map-map h f,
+    )
     (map-same (λ (x : Entry). f (lowered others x)) (λ (x : Entry). h (f x)) same (drop l (entriesHeld n old)))
 
 pub retire-sides : (frame : Frame) {loads stores ls ss : List ℕ} {l s : ℕ}
     → l ≡ retiring finished (entriesHeld (frame .loads .count) loads) → s ≡ retiring finished (entriesHeld (frame .stores .count) stores)
     → Shifted l (frame .loads .count - l) s loads ls → Shifted s (frame .stores .count - s) l stores ss
-    → contentsOf (queueOf (record { table = frame .table; words = frame .words; loads = shorter (frame .loads) l; stores = shorter (frame .stores) s }) ls ss)
+    → contentsOf (queueOf
+    (record {
+      table = frame .table;
+      «memory_length» = frame .«memory_length»;
+      loads = shorter (frame .loads) l;
+      stores =
+          shorter (frame .stores) s;
+    }) ls ss)
     ≡ retire (contentsOf (queueOf frame loads stores))
 unfolding contentsOf
 retire-sides frame {loads} {stores} {ls} {ss} {l} {s} el es ml ms =
-    let left : retiring loadFinished (loadsHeld (frame .loads .count) loads) ≡ l = side-retiring-same loadOf loadFinished finished (λ e. refl) (frame .loads .count) loads ∙ sym el in
-    let right : retiring storeFinished (storesHeld (frame .stores .count) stores) ≡ s = side-retiring-same storeOf storeFinished finished (λ e. refl) (frame .stores .count) stores ∙ sym es in
+    let left : retiring loadFinished (loadsHeld (frame .loads .count) loads) ≡ l =
+    side-retiring-same loadOf loadFinished finished (λ e. refl) (frame .loads .count) loads ∙ sym el in
+    let right : retiring storeFinished (storesHeld (frame .stores .count) stores) ≡ s =
+    side-retiring-same storeOf storeFinished finished (λ e. refl) (frame .stores .count) stores ∙ sym es in
     rw (
       left,
       right,

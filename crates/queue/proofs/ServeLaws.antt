@@ -55,7 +55,8 @@ module _ (q : Queue) (memory : List ℕ) (place : ℕ) where
         ∙ ap (λ (l : List Store). andThen (mayServe memory l (loadOf e)) λ v. accept (servedWith (contentsOf q) place v)) ss
 
 -- ---- an accepted serve: the load at the place has its value
-pub served-well : (q : Queue) (counts : Counts) (place word : ℕ) (forwarded : Bool) {r : Service} {left : List ℕ} → Has64 (q .«load_entries») → q .frame .loads .count ≤ 64 → place < q .frame .loads .count
+pub served-well : (q : Queue) (counts : Counts) (place word : ℕ) (forwarded : Bool) {r : Service} {left : List ℕ} → Has64 (q .«load_entries»)
+    → q .frame .loads .count ≤ 64 → place < q .frame .loads .count
     → r ≡ servedAs word forwarded counts → LoadFilled place word (q .«load_entries») left
     → ServedWell (servedWith (contentsOf q) place (record { value = word; forwarded = forwarded })) counts
     (countedOf r (queueOf (q .frame) left (q .«store_entries»)))
@@ -64,7 +65,8 @@ served-well q counts place word forwarded {r} {left} whole few k e f =
     record {
       answer = ap (λ (s : Service). s .answer) e;
       gives = ap (λ (s : Service). valueIn (s .value)) e;
-      holds = ap (λ (l : List ℕ). contentsOf (queueOf (q .frame) l (q .«store_entries»))) (f .leaves) ∙ load-anew q (loadWithValue word) place (f .number) w k (f .holds);
+      holds = ap (λ (l : List ℕ). contentsOf (queueOf (q .frame) l (q .«store_entries»))) (f .leaves)
+          ∙ load-anew q (loadWithValue word) place (f .number) w k (f .holds);
       counts = ap (λ (s : Service). s .counts) e;
     }
 
@@ -80,11 +82,12 @@ module _ (q : Queue) (memory : List ℕ) (serial : ℕ) where
   serve-unsound e = rw e
 
   module _ (right : sound (contentsOf q) ≡ true) where
-    pub serve-memory : (length memory ≡ q .frame .words → ⊥) → serve (contentsOf q) memory serial ≡ refuse wrongMemory
+    pub serve-memory : (length memory ≡ q .frame .«memory_length» → ⊥) → serve (contentsOf q) memory serial ≡ refuse wrongMemory
     unfolding serve
-    serve-memory e = rw (right, words-held q, ne-eqb (length memory) (q .frame .words) e)
+    serve-memory e = rw (right, words-held q, ne-eqb (length memory) (q .frame .«memory_length») e)
 
-    pub serve-place : length memory ≡ q .frame .words → serve (contentsOf q) memory serial ≡ serveAt (contentsOf q) memory (age (oldest (q .frame .loads .next) (q .frame .loads .count)) serial)
+    pub serve-place : length memory ≡ q .frame .«memory_length»
+        → serve (contentsOf q) memory serial ≡ serveAt (contentsOf q) memory (age (oldest (q .frame .loads .next) (q .frame .loads .count)) serial)
     serve-place e =
         serve-by-place (contentsOf q) memory serial right (e ∙ sym (words-held q))
         ∙ ap (serveAt (contentsOf q) memory) (load-place q serial)

@@ -31,11 +31,11 @@ pub sound-record : (q : Queue) →
     sound (contentsOf q) ≡
     (depthRight (q .frame .loads .depth)
     && depthRight (q .frame .stores .depth)
-    && memoryRight (q .frame .words)
+    && memoryRight (q .frame .«memory_length»)
     && leb (q .frame .loads .count) (q .frame .loads .depth)
     && leb (q .frame .stores .count) (q .frame .stores .depth)
-    && allOf (loadRight (q .frame .words) (q .frame .stores .count)) (loadsHeld (q .frame .loads .count) (q .«load_entries»))
-    && allOf (storeRight (q .frame .words) (q .frame .loads .count)) (storesHeld (q .frame .stores .count) (q .«store_entries»))
+    && allOf (loadRight (q .frame .«memory_length») (q .frame .stores .count)) (loadsHeld (q .frame .loads .count) (q .«load_entries»))
+    && allOf (storeRight (q .frame .«memory_length») (q .frame .loads .count)) (storesHeld (q .frame .stores .count) (q .«store_entries»))
     && eqb (tableFault (groupsOf (q .frame .table))) 0)
 unfolding sound contentsOf
 sound-record q = rw (side-length loadIn 0 (q .frame .loads .count) (q .«load_entries»), side-length storeIn 0 (q .frame .stores .count) (q .«store_entries»))
@@ -56,24 +56,26 @@ pub sound-sides : (q : Queue) →
     sound (contentsOf q) ≡
     ((depthRight (q .frame .loads .depth) && leb (q .frame .loads .count) (q .frame .loads .depth))
     && (depthRight (q .frame .stores .depth) && leb (q .frame .stores .count) (q .frame .stores .depth))
-    && memoryRight (q .frame .words)
-    && allOf (entryRight (q .frame .words) (q .frame .stores .count)) (entriesHeld (q .frame .loads .count) (q .«load_entries»))
-    && allOf (entryRight (q .frame .words) (q .frame .loads .count)) (entriesHeld (q .frame .stores .count) (q .«store_entries»))
+    && memoryRight (q .frame .«memory_length»)
+    && allOf (entryRight (q .frame .«memory_length») (q .frame .stores .count)) (entriesHeld (q .frame .loads .count) (q .«load_entries»))
+    && allOf (entryRight (q .frame .«memory_length») (q .frame .loads .count)) (entriesHeld (q .frame .stores .count) (q .«store_entries»))
     && eqb (tableFault (groupsOf (q .frame .table))) 0)
 sound-sides q =
-    let words : ℕ = q .frame .words in
+    let words : ℕ = q .frame .«memory_length» in
     let n : ℕ = q .frame .loads .count in
     let m : ℕ = q .frame .stores .count in
     rw (
       sound-record q,
-      regroup (depthRight (q .frame .loads .depth)) (depthRight (q .frame .stores .depth)) (memoryRight words) (leb n (q .frame .loads .depth)) (leb m (q .frame .stores .depth)),
+      regroup (depthRight (q .frame .loads .depth)) (depthRight (q .frame .stores .depth)) (memoryRight words) (leb n (q .frame .loads .depth))
+          (leb m (q .frame .stores .depth)),
       side-all-same loadOf (loadRight words m) (entryRight words m) (λ e. load-right e words m) n (q .«load_entries»),
       side-all-same storeOf (storeRight words n) (entryRight words n) (λ e. store-right e words n) m (q .«store_entries»),
     )
 
 -- a side whose depth is right and that holds no more
 pub side-few : (depth n : ℕ) → (depthRight depth && leb n depth) ≡ true → n ≤ 64
-side-few depth n h = le-trans (leb-true n depth (and-right (depthRight depth) (leb n depth) h)) (within-most 1 64 depth (and-left (depthRight depth) (leb n depth) h))
+side-few depth n h = le-trans (leb-true n depth (and-right (depthRight depth) (leb n depth) h))
+    (within-most 1 64 depth (and-left (depthRight depth) (leb n depth) h))
 
 -- every element passes, so the ith does
 pub all-at : {A : Type 0} (p : A → Bool) (l : List A) → allOf p l ≡ true → (i : ℕ) (d : A) → i < length l → p (getD l i d) ≡ true
@@ -81,7 +83,8 @@ all-at p [] h i d k = absurd (not-suc-le-zero k)
 all-at p (x ∷ l) h zero d k = and-left (p x) (allOf p l) h
 all-at p (x ∷ l) h (suc i) d k = all-at p l (and-right (p x) (allOf p l) h) i d (le-of-suc-le-suc k)
 
-side-all : {A B : Type 0} (p : B → Bool) (f : A → B) (blank : A) (n : ℕ) (l : List A) → allOf p (sideOf f blank n l) ≡ true → (i : ℕ) → i < n → p (f (getD l i blank)) ≡ true
+side-all : {A B : Type 0} (p : B → Bool) (f : A → B) (blank : A) (n : ℕ) (l : List A) → allOf p (sideOf f blank n l) ≡ true → (i : ℕ) → i < n
+    → p (f (getD l i blank)) ≡ true
 side-all p f blank n l h i k = rw (← side-at f blank n l i k) (all-at p (sideOf f blank n l) h i (f blank) (rw (side-length f blank n l) k))
 
 -- an address that is filled in
@@ -101,7 +104,8 @@ pub record Parts (a b c d e f g h : Bool) : Type 0 where
   pub part8 : h ≡ true
 
 pub parts : (a b c d e f g h : Bool) → (a && b && c && d && e && f && g && h) ≡ true → Parts a b c d e f g h
-parts true true true true true true true h z = record { part1 = refl; part2 = refl; part3 = refl; part4 = refl; part5 = refl; part6 = refl; part7 = refl; part8 = z }
+parts true true true true true true true h z =
+    record { part1 = refl; part2 = refl; part3 = refl; part4 = refl; part5 = refl; part6 = refl; part7 = refl; part8 = z }
 parts true true true true true true false h z = false-true z
 parts true true true true true false g h z = false-true z
 parts true true true true false f g h z = false-true z
@@ -114,11 +118,11 @@ module _ (q : Queue) (s : sound (contentsOf q) ≡ true) where
   parted : Parts
       (depthRight (q .frame .loads .depth))
       (depthRight (q .frame .stores .depth))
-      (memoryRight (q .frame .words))
+      (memoryRight (q .frame .«memory_length»))
       (leb (q .frame .loads .count) (q .frame .loads .depth))
       (leb (q .frame .stores .count) (q .frame .stores .depth))
-      (allOf (loadRight (q .frame .words) (q .frame .stores .count)) (loadsHeld (q .frame .loads .count) (q .«load_entries»)))
-      (allOf (storeRight (q .frame .words) (q .frame .loads .count)) (storesHeld (q .frame .stores .count) (q .«store_entries»)))
+      (allOf (loadRight (q .frame .«memory_length») (q .frame .stores .count)) (loadsHeld (q .frame .loads .count) (q .«load_entries»)))
+      (allOf (storeRight (q .frame .«memory_length») (q .frame .loads .count)) (storesHeld (q .frame .stores .count) (q .«store_entries»)))
       (eqb (tableFault (groupsOf (q .frame .table))) 0)
   parted = parts _ _ _ _ _ _ _ _ (sym (sound-record q) ∙ s)
 
@@ -128,8 +132,8 @@ module _ (q : Queue) (s : sound (contentsOf q) ≡ true) where
   pub store-depth-most : q .frame .stores .depth ≤ 64
   store-depth-most = within-most 1 64 (q .frame .stores .depth) (parted .part2)
 
-  pub words-most : q .frame .words ≤ 4096
-  words-most = within-most 1 4096 (q .frame .words) (parted .part3)
+  pub words-most : q .frame .«memory_length» ≤ 4096
+  words-most = within-most 1 4096 (q .frame .«memory_length») (parted .part3)
 
   pub loads-in-depth : q .frame .loads .count ≤ q .frame .loads .depth
   loads-in-depth = leb-true _ _ (parted .part4)
@@ -147,22 +151,26 @@ module _ (q : Queue) (s : sound (contentsOf q) ≡ true) where
   table-right = eqb-true _ 0 (parted .part8)
 
   module _ (i : ℕ) (k : i < q .frame .loads .count) where
-    load-right-at : loadRight (q .frame .words) (q .frame .stores .count) (loadIn (getD (q .«load_entries») i 0)) ≡ true
-    load-right-at = side-all (loadRight (q .frame .words) (q .frame .stores .count)) loadIn 0 (q .frame .loads .count) (q .«load_entries») (parted .part6) i k
+    load-right-at : loadRight (q .frame .«memory_length») (q .frame .stores .count) (loadIn (getD (q .«load_entries») i 0)) ≡ true
+    load-right-at = side-all (loadRight (q .frame .«memory_length») (q .frame .stores .count)) loadIn 0 (q .frame .loads .count) (q .«load_entries»)
+        (parted .part6) i k
 
     -- it remembers no more stores than are held
     pub load-before : entryOf (getD (q .«load_entries») i 0) .before ≤ q .frame .stores .count
     load-before = leb-true _ _ (and-left (leb (entryOf (getD (q .«load_entries») i 0) .before) (q .frame .stores .count)) _ load-right-at)
 
-    pub load-address : entryOf (getD (q .«load_entries») i 0) .addressed ≡ true → entryOf (getD (q .«load_entries») i 0) .address < q .frame .words
-    load-address e = filled-in (q .frame .words) _ (entryOf (getD (q .«load_entries») i 0) .addressed) (and-right (leb (entryOf (getD (q .«load_entries») i 0) .before) (q .frame .stores .count)) _ load-right-at) e
+    pub load-address : entryOf (getD (q .«load_entries») i 0) .addressed ≡ true → entryOf (getD (q .«load_entries») i 0) .address < q .frame .«memory_length»
+    load-address e = filled-in (q .frame .«memory_length») _ (entryOf (getD (q .«load_entries») i 0) .addressed)
+        (and-right (leb (entryOf (getD (q .«load_entries») i 0) .before) (q .frame .stores .count)) _ load-right-at) e
 
   module _ (i : ℕ) (k : i < q .frame .stores .count) where
-    store-right-at : storeRight (q .frame .words) (q .frame .loads .count) (storeIn (getD (q .«store_entries») i 0)) ≡ true
-    store-right-at = side-all (storeRight (q .frame .words) (q .frame .loads .count)) storeIn 0 (q .frame .stores .count) (q .«store_entries») (parted .part7) i k
+    store-right-at : storeRight (q .frame .«memory_length») (q .frame .loads .count) (storeIn (getD (q .«store_entries») i 0)) ≡ true
+    store-right-at = side-all (storeRight (q .frame .«memory_length») (q .frame .loads .count)) storeIn 0 (q .frame .stores .count)
+        (q .«store_entries») (parted .part7) i k
 
     pub store-before : entryOf (getD (q .«store_entries») i 0) .before ≤ q .frame .loads .count
     store-before = leb-true _ _ (and-left (leb (entryOf (getD (q .«store_entries») i 0) .before) (q .frame .loads .count)) _ store-right-at)
 
-    pub store-address : entryOf (getD (q .«store_entries») i 0) .addressed ≡ true → entryOf (getD (q .«store_entries») i 0) .address < q .frame .words
-    store-address e = filled-in (q .frame .words) _ (entryOf (getD (q .«store_entries») i 0) .addressed) (and-right (leb (entryOf (getD (q .«store_entries») i 0) .before) (q .frame .loads .count)) _ store-right-at) e
+    pub store-address : entryOf (getD (q .«store_entries») i 0) .addressed ≡ true → entryOf (getD (q .«store_entries») i 0) .address < q .frame .«memory_length»
+    store-address e = filled-in (q .frame .«memory_length») _ (entryOf (getD (q .«store_entries») i 0) .addressed)
+        (and-right (leb (entryOf (getD (q .«store_entries») i 0) .before) (q .frame .loads .count)) _ store-right-at) e

@@ -30,10 +30,17 @@ module _ (q : Queue) (port : ℕ) where
     unfolding takeRule contentsOf
     take-no-port e = rw (right, e)
 
-    module _ (known : anyOf (namesPort load port) (groupsOf (q .frame .table)) ≡ true) (place : ℕ) (is : place ≡ firstPlace (untaken port) (loadsHeld (q .frame .loads .count) (q .«load_entries»))) where
+    module _ (known : anyOf (namesPort load port) (groupsOf (q .frame .table)) ≡ true) (place : ℕ)
+        (is : place ≡ firstPlace (untaken port) (loadsHeld (q .frame .loads .count) (q .«load_entries»))) where
       pub take-none : q .frame .loads .count ≤ place → takeRule (contentsOf q) port ≡ refuse noneUntaken
       unfolding takeRule contentsOf
-      take-none h = rw (right, known, ← is, getElem?-past (loadsHeld (q .frame .loads .count) (q .«load_entries»)) place (rw (side-length loadIn 0 (q .frame .loads .count) (q .«load_entries»)) h))
+      take-none h = rw (
+        right,
+        known,
+        ← is,
+        getElem?-past (loadsHeld (q .frame .loads .count) (q .«load_entries»)) place
+            (rw (side-length loadIn 0 (q .frame .loads .count) (q .«load_entries»)) h),
+      )
 
       module _ (k : place < q .frame .loads .count) (e : Entry) (at : entryOf (getD (q .«load_entries») place 0) ≡ e) where
         here : getElem? (loadsHeld (q .frame .loads .count) (q .«load_entries»)) place ≡ some (loadOf e)
@@ -44,6 +51,7 @@ module _ (q : Queue) (port : ℕ) where
         take-unserved s = rw (right, known, ← is, here, s)
 
         pub take-served : e .filled ≡ true
-            → takeRule (contentsOf q) port ≡ accept (record { value = e .word; queue = retire (withLoads (contentsOf q) (updateAt loadTaken place (contentsOf q .loads))) })
+            → takeRule (contentsOf q) port ≡ accept
+            (record { value = e .word; queue = retire (withLoads (contentsOf q) (updateAt loadTaken place (contentsOf q .loads))) })
         unfolding takeRule contentsOf
         take-served s = rw (right, known, ← is, here, s)

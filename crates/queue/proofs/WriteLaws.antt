@@ -44,7 +44,8 @@ module _ (ls : List Load) (ss : List Store) (e : Entry) where
         pub may-load : allOf (noLoadConflict (e .address)) ls ≡ false → loadConflict ≡ number (mayWrite ls ss (storeOf e))
         may-load l = rw (w, a, f, l)
 
-        pub may-store : allOf (noLoadConflict (e .address)) ls ≡ true → allOf (noStoreConflict (e .address)) ss ≡ false → storeConflict ≡ number (mayWrite ls ss (storeOf e))
+        pub may-store : allOf (noLoadConflict (e .address)) ls ≡ true → allOf (noStoreConflict (e .address)) ss ≡ false
+            → storeConflict ≡ number (mayWrite ls ss (storeOf e))
         may-store l s = rw (w, a, f, l, s)
 
         pub may-put : allOf (noLoadConflict (e .address)) ls ≡ true → allOf (noStoreConflict (e .address)) ss ≡ true
@@ -59,9 +60,11 @@ module _ (ls : List Load) (ss : List Store) (e : Entry) where
     pub put : mayWrite ls ss (storeOf e) ≡ accept (record { address = e .address; word = e .word })
 
   pub may-puts : number (mayWrite ls ss (storeOf e)) ≡ 0 → Puts
-  may-puts h = go (e .finished) (e .addressed) (e .filled) (allOf (noLoadConflict (e .address)) ls) (allOf (noStoreConflict (e .address)) ss) refl refl refl refl refl
+  may-puts h = go (e .finished) (e .addressed) (e .filled) (allOf (noLoadConflict (e .address)) ls) (allOf (noStoreConflict (e .address)) ss) refl
+      refl refl refl refl
     where
-      go : (w a f l s : Bool) → e .finished ≡ w → e .addressed ≡ a → e .filled ≡ f → allOf (noLoadConflict (e .address)) ls ≡ l → allOf (noStoreConflict (e .address)) ss ≡ s → Puts
+      go : (w a f l s : Bool) → e .finished ≡ w → e .addressed ≡ a → e .filled ≡ f → allOf (noLoadConflict (e .address)) ls ≡ l
+          → allOf (noStoreConflict (e .address)) ss ≡ s → Puts
       go true a f l s ew ea ef el es = let z = may-not-again ew ∙ h in absurd (omega arith)
       go false false f l s ew ea ef el es = let z = may-no-address ew ea ∙ h in absurd (omega arith)
       go false true false l s ew ea ef el es = let z = may-no-data ew ea ef ∙ h in absurd (omega arith)
@@ -76,17 +79,23 @@ module _ (q : Queue) (memory : List ℕ) (place : ℕ) where
 
   module _ (k : place < q .frame .stores .count)
       (b : entryOf (getD (q .«store_entries») place 0) .before ≤ q .frame .loads .count) where
-    pub write-held : writeAt (contentsOf q) memory place ≡ andThen (mayWriteAt (q .«load_entries») (q .«store_entries») place) λ p. accept (writtenWith (contentsOf q) memory place p)
+    pub write-held : writeAt (contentsOf q) memory place ≡ andThen (mayWriteAt (q .«load_entries») (q .«store_entries») place) λ p. accept
+        (writtenWith (contentsOf q) memory place p)
     write-held =
         let e : Entry = entryOf (getD (q .«store_entries») place 0) in
-        let here : getElem? (contentsOf q .stores) place ≡ some (storeOf e) = ap (λ (l : List Store). getElem? l place) (stores-held q) ∙ side-getElem? storeIn 0 (q .frame .stores .count) (q .«store_entries») place k in
+        let here : getElem? (contentsOf q .stores) place ≡ some (storeOf e) = ap (λ (l : List Store). getElem? l place) (stores-held q)
+        ∙ side-getElem? storeIn 0 (q .frame .stores .count) (q .«store_entries») place k in
         let ls : take (e .before) (contentsOf q .loads) ≡ loadsHeld (e .before) (q .«load_entries») =
         ap (take (e .before)) (loads-held q) ∙ side-take loadIn 0 (q .frame .loads .count) (q .«load_entries») (e .before) b in
         let ss : take place (contentsOf q .stores) ≡ storesHeld place (q .«store_entries») =
         ap (take place) (stores-held q) ∙ side-take storeIn 0 (q .frame .stores .count) (q .«store_entries») place (omega arith) in
-        ap (λ (o : Option Store). have o noSerial λ s. andThen (mayWrite (take (s .before) (contentsOf q .loads)) (take place (contentsOf q .stores)) s) λ p. accept (writtenWith (contentsOf q) memory place p)) here
-        ∙ ap (λ (l : List Load). andThen (mayWrite l (take place (contentsOf q .stores)) (storeOf e)) λ p. accept (writtenWith (contentsOf q) memory place p)) ls
-        ∙ ap (λ (l : List Store). andThen (mayWrite (loadsHeld (e .before) (q .«load_entries»)) l (storeOf e)) λ p. accept (writtenWith (contentsOf q) memory place p)) ss
+        ap (λ (o : Option Store). have o noSerial λ s. andThen
+        (mayWrite (take (s .before) (contentsOf q .loads)) (take place (contentsOf q .stores)) s) λ p. accept
+        (writtenWith (contentsOf q) memory place p)) here
+        ∙ ap (λ (l : List Load). andThen (mayWrite l (take place (contentsOf q .stores)) (storeOf e)) λ p. accept
+        (writtenWith (contentsOf q) memory place p)) ls
+        ∙ ap (λ (l : List Store). andThen (mayWrite (loadsHeld (e .before) (q .«load_entries»)) l (storeOf e)) λ p. accept
+        (writtenWith (contentsOf q) memory place p)) ss
 
 -- ---- 40 and 30, and the place that a serial names
 pub write-by-place : (q : Contents) (memory : List ℕ) (serial : ℕ) → sound q ≡ true → length memory ≡ q .memoryLength
@@ -100,11 +109,12 @@ module _ (q : Queue) (memory : List ℕ) (serial : ℕ) where
   write-unsound e = rw e
 
   module _ (right : sound (contentsOf q) ≡ true) where
-    pub write-memory : (length memory ≡ q .frame .words → ⊥) → write (contentsOf q) memory serial ≡ refuse wrongMemory
+    pub write-memory : (length memory ≡ q .frame .«memory_length» → ⊥) → write (contentsOf q) memory serial ≡ refuse wrongMemory
     unfolding write
-    write-memory e = rw (right, words-held q, ne-eqb (length memory) (q .frame .words) e)
+    write-memory e = rw (right, words-held q, ne-eqb (length memory) (q .frame .«memory_length») e)
 
-    pub write-place : length memory ≡ q .frame .words → write (contentsOf q) memory serial ≡ writeAt (contentsOf q) memory (age (oldest (q .frame .stores .next) (q .frame .stores .count)) serial)
+    pub write-place : length memory ≡ q .frame .«memory_length»
+        → write (contentsOf q) memory serial ≡ writeAt (contentsOf q) memory (age (oldest (q .frame .stores .next) (q .frame .stores .count)) serial)
     write-place e =
         write-by-place (contentsOf q) memory serial right (e ∙ sym (words-held q))
         ∙ ap (writeAt (contentsOf q) memory) (store-place q serial)

@@ -77,7 +77,7 @@ storeIn n = storeOf (entryOf n)
 unfoldable pub contentsOf : Queue → Contents
 contentsOf q = record {
   groups = groupsOf (q .frame .table);
-  memoryLength = q .frame .words;
+  memoryLength = q .frame .«memory_length»;
   loadDepth = q .frame .loads .depth;
   nextLoad = q .frame .loads .next;
   loads = map loadIn (held 0 (q .frame .loads .count) (q .«load_entries»));

@@ -65,7 +65,7 @@ Has64 l = length l ≡ 64
 -- ---- functions that do not read the table
 -- an outline, with a table
 abbrev pub frameWith : Table → Outline → Frame
-frameWith table outline = record { table = table; words = outline .words; loads = outline .loads; stores = outline .stores }
+frameWith table outline = record { table = table; «memory_length» = outline .«memory_length»; loads = outline .loads; stores = outline .stores }
 
 -- the check is behind them: both runs are whole, and with some table the queue is sound
 pub record Checked (outline : Outline) (loads stores : List ℕ) : Type 0 where
@@ -114,7 +114,8 @@ abbrev pub entryRight : ℕ → ℕ → Entry → Bool
 entryRight words others e = leb (e .before) others && pick (e .addressed) (ltb (e .address) words) true
 
 -- ---- activation by offsets
--- Activation by offsets: what the functions that put a group's entries behind those held promise each other. In a right group an entry's offset is the number of the other kind before it in the group, so this is what the program order gives.
+-- Activation by offsets: what the functions that put a group's entries behind those held promise each other. In a right group
+-- an entry's offset is the number of the other kind before it in the group, so this is what the program order gives.
 
 -- the entry of a pair, where this many of the other kind are held
 abbrev pub loadAfter : ℕ → Pair → Load
@@ -246,7 +247,7 @@ shorter side gone = record { depth = side .depth; count = side .count - gone; ne
 
 -- a frame with these sides
 abbrev pub withSides : Frame → Sides → Frame
-withSides frame sides = record { table = frame .table; words = frame .words; loads = sides .loads; stores = sides .stores }
+withSides frame sides = record { table = frame .table; «memory_length» = frame .«memory_length»; loads = sides .loads; stores = sides .stores }
 
 -- ---- ready
 -- What the code that gathers ready serials is written with.

@@ -52,7 +52,7 @@ freshSide depth first = record { depth = depth; count = 0; next = first }
 -- the frame of a queue of a table, both depths, the first serial and the memory length
 abbrev pub freshFrame : Table → ℕ → ℕ → ℕ → ℕ → Frame
 freshFrame table loadDepth storeDepth first words =
-    record { table = table; words = words; loads = freshSide loadDepth first; stores = freshSide storeDepth first }
+    record { table = table; «memory_length» = words; loads = freshSide loadDepth first; stores = freshSide storeDepth first }
 
 -- the queue of such a frame
 abbrev pub freshQueue : Frame → Queue

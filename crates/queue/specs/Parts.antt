@@ -28,13 +28,13 @@ use Rattle.queue.specs.Open.{noFrame}
 abbrev pub frameOf : Outline → List ℕ → List ℕ → List ℕ → Frame
 frameOf outline groups loads stores = record {
   table = record { count = outline .count; groups = groups; loads = loads; stores = stores };
-  words = outline .words;
+  «memory_length» = outline .«memory_length»;
   loads = outline .loads;
   stores = outline .stores;
 }
 
 abbrev pub outlineOf : Frame → Outline
-outlineOf frame = record { count = frame .table .count; words = frame .words; loads = frame .loads; stores = frame .stores }
+outlineOf frame = record { count = frame .table .count; «memory_length» = frame .«memory_length»; loads = frame .loads; stores = frame .stores }
 
 -- the queue of a frame and two runs of entries
 abbrev pub queueOf : Frame → List ℕ → List ℕ → Queue
@@ -64,7 +64,7 @@ answered n q = record { answer = n; value = Nothing; queue = q }
 
 -- activate, write and take, which may move both sides of the frame; its table and memory length stay
 abbrev pub frameAfter : Frame → Step → Frame
-frameAfter frame s = record { table = frame .table; words = frame .words; loads = s .loads; stores = s .stores }
+frameAfter frame s = record { table = frame .table; «memory_length» = frame .«memory_length»; loads = s .loads; stores = s .stores }
 
 abbrev pub outcomeOf : Frame → Step → List ℕ → List ℕ → Outcome
 outcomeOf frame s loads stores = record { answer = s .answer; value = s .value; queue = queueOf (frameAfter frame s) loads stores }

@@ -59,7 +59,7 @@ pub fn outline_of(frame: Frame) -> Outline
     let stores = frame.stores;
     Outline {
         count: frame.table.count,
-        words: frame.words,
+        memory_length: frame.memory_length,
         loads,
         stores,
     }
@@ -86,7 +86,7 @@ pub(crate) fn frame_after(frame: Frame, step: Step) -> Frame
     let stores = step.stores;
     Frame {
         table,
-        words: frame.words,
+        memory_length: frame.memory_length,
         loads,
         stores,
     }

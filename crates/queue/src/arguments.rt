@@ -60,12 +60,12 @@ fn mark_of(argument: Argument) -> Mark
 }
 
 // An address is below the memory length; data may be any word.
-fn in_range(argument: Argument, words: u16, number: u32) -> bool
-    ensures { λ r. ⌜ r ≡ inRange argument words number ⌝ }
+fn in_range(argument: Argument, memory_length: u16, number: u32) -> bool
+    ensures { λ r. ⌜ r ≡ inRange argument «memory_length» number ⌝ }
 {
     match argument {
-        Argument::LoadAddress => number < words as u32,
-        Argument::StoreAddress => number < words as u32,
+        Argument::LoadAddress => number < memory_length as u32,
+        Argument::StoreAddress => number < memory_length as u32,
         Argument::StoreData => true,
     }
 }
@@ -131,7 +131,7 @@ pub fn give_in<'a>(
     if !has_port(outline.count, groups, load_places, store_places, kind, port) {
         return NO_PORT;
     }
-    if !in_range(argument, outline.words, number) {
+    if !in_range(argument, outline.memory_length, number) {
         return BAD_ADDRESS;
     }
     let side = side_of(kind, outline);

@@ -51,7 +51,7 @@ pub struct Side {
 #[repr(C)]
 pub struct Frame {
     pub table: Table,
-    pub words: u16,
+    pub memory_length: u16,
     pub loads: Side,
     pub stores: Side,
 }
@@ -59,7 +59,7 @@ pub struct Frame {
 // All of a frame but its table's arrays: the number of groups, the memory length, and both sides.
 pub struct Outline {
     pub count: u8,
-    pub words: u16,
+    pub memory_length: u16,
     pub loads: Side,
     pub stores: Side,
 }

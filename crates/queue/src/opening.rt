@@ -31,8 +31,14 @@ pub struct OpenedFrame {
 }
 
 // A frame that holds no entry: "both series begin at the first serial".
-fn fresh_frame(table: Table, load_depth: u8, store_depth: u8, first: u32, words: u16) -> Frame
-    ensures { λ r. ⌜ r ≡ freshFrame table «load_depth» «store_depth» first words ⌝ }
+fn fresh_frame(
+    table: Table,
+    load_depth: u8,
+    store_depth: u8,
+    first: u32,
+    memory_length: u16,
+) -> Frame
+    ensures { λ r. ⌜ r ≡ freshFrame table «load_depth» «store_depth» first «memory_length» ⌝ }
 {
     let loads = Side {
         depth: load_depth,
@@ -46,7 +52,7 @@ fn fresh_frame(table: Table, load_depth: u8, store_depth: u8, first: u32, words:
     };
     Frame {
         table,
-        words,
+        memory_length,
         loads,
         stores,
     }
@@ -96,10 +102,10 @@ pub fn open_in(
     load_depth: u32,
     store_depth: u32,
     first: u32,
-    words: u32,
+    memory_length: u32,
 ) -> OpenedFrame
-    ensures { λ r. ⌜ OpensFrame (freshFrame table «load_depth» «store_depth» first words)
-        (openQueue (groupsOf table) «load_depth» «store_depth» first words) r ⌝ }
+    ensures { λ r. ⌜ OpensFrame (freshFrame table «load_depth» «store_depth» first «memory_length»)
+        (openQueue (groupsOf table) «load_depth» «store_depth» first «memory_length») r ⌝ }
 {
     let fault = table_fault(table);
     if fault != 0 {
@@ -111,7 +117,7 @@ pub fn open_in(
     if !depth_right(store_depth) {
         return refused(BAD_STORE_DEPTH);
     }
-    if !memory_right(words) {
+    if !memory_right(memory_length) {
         return refused(BAD_MEMORY_LENGTH);
     }
     if !groups_fit(table, load_depth, store_depth) {
@@ -122,17 +128,23 @@ pub fn open_in(
         load_depth as u8,
         store_depth as u8,
         first,
-        words as u16,
+        memory_length as u16,
     );
     OpenedFrame { answer: 0, frame }
 }
 
 impl Queue {
     // Opens a queue with no entry, or answers the first of 4 to 8, 11, 12, 13, 14 that applies.
-    pub fn open(table: Table, load_depth: u32, store_depth: u32, first: u32, words: u32) -> Opened
-        ensures { λ r. ⌜ Opens noQueue (openQueue (groupsOf table) «load_depth» «store_depth» first words) r ⌝ }
+    pub fn open(
+        table: Table,
+        load_depth: u32,
+        store_depth: u32,
+        first: u32,
+        memory_length: u32,
+    ) -> Opened
+        ensures { λ r. ⌜ Opens noQueue (openQueue (groupsOf table) «load_depth» «store_depth» first «memory_length») r ⌝ }
     {
-        let opened = open_in(table, load_depth, store_depth, first, words);
+        let opened = open_in(table, load_depth, store_depth, first, memory_length);
         let frame = opened.frame;
         let queue = Queue {
             frame,

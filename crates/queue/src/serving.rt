@@ -137,7 +137,7 @@ fn serve_at(
     counts: Counts,
     place: u32,
 ) -> Service
-    requires { ⌜ Checked outline (now «load_entries») (now «store_entries») × (length (now memory) ≡ outline .words) ⌝ }
+    requires { ⌜ Checked outline (now «load_entries») (now «store_entries») × (length (now memory) ≡ outline .«memory_length») ⌝ }
     ensures { λ r. ⌜ ((table : Table) → let frame = frameWith table outline in
         Serves (queueOf frame (now («load_entries» .entry)) (now («store_entries» .entry))) counts
         (serveAt (contentsOf (queueOf frame (now («load_entries» .entry)) (now («store_entries» .entry)))) (now (memory .entry)) place)
@@ -197,7 +197,7 @@ pub fn serve_in<'a>(
     ) {
         return serve_refused(UNSOUND, counts);
     }
-    if memory.len() != outline.words as usize {
+    if memory.len() != outline.memory_length as usize {
         return serve_refused(WRONG_MEMORY, counts);
     }
     let loads = outline.loads;

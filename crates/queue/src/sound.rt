@@ -29,38 +29,38 @@ pub(crate) fn depth_right(depth: u32) -> bool
 }
 
 // The memory length is 1 to 4,096.
-pub(crate) fn memory_right(words: u32) -> bool
-    ensures { λ r. ⌜ r ≡ memoryRight words ⌝ }
+pub(crate) fn memory_right(memory_length: u32) -> bool
+    ensures { λ r. ⌜ r ≡ memoryRight «memory_length» ⌝ }
 {
-    if words < 1 {
+    if memory_length < 1 {
         return false;
     }
-    words <= 4096
+    memory_length <= 4096
 }
 
 // An entry remembers no more of the other kind than are held, and its address, where filled in, is below the memory length.
-fn entry_right(entry: Entry, words: u16, others: u8) -> bool
-    ensures { λ r. ⌜ r ≡ entryRight words others entry ⌝ }
+fn entry_right(entry: Entry, memory_length: u16, others: u8) -> bool
+    ensures { λ r. ⌜ r ≡ entryRight «memory_length» others entry ⌝ }
 {
     if others < entry.before {
         return false;
     }
     if entry.addressed {
-        return entry.address < words;
+        return entry.address < memory_length;
     }
     true
 }
 
 // Is every entry held right?
-fn entries_right(entries: &[u64], held: u8, words: u16, others: u8) -> bool
+fn entries_right(entries: &[u64], held: u8, memory_length: u16, others: u8) -> bool
     requires { ⌜ held ≤ length (now entries) ⌝ }
-    ensures { λ r. ⌜ r ≡ allOf (entryRight words others) (entriesHeld held (now (entries .entry))) ⌝ }
+    ensures { λ r. ⌜ r ≡ allOf (entryRight «memory_length» others) (entriesHeld held (now (entries .entry))) ⌝ }
 {
     let count = held as usize;
     let mut i: usize = 0;
     while i < count {
         let entry = unpack(entries[i]);
-        if !entry_right(entry, words, others) {
+        if !entry_right(entry, memory_length, others) {
             return false;
         }
         i += 1;
@@ -106,13 +106,23 @@ pub fn sound_in<'a>(
     if !side_right(stores) {
         return false;
     }
-    if !memory_right(outline.words as u32) {
+    if !memory_right(outline.memory_length as u32) {
         return false;
     }
-    if !entries_right(load_entries, loads.count, outline.words, stores.count) {
+    if !entries_right(
+        load_entries,
+        loads.count,
+        outline.memory_length,
+        stores.count,
+    ) {
         return false;
     }
-    if !entries_right(store_entries, stores.count, outline.words, loads.count) {
+    if !entries_right(
+        store_entries,
+        stores.count,
+        outline.memory_length,
+        loads.count,
+    ) {
         return false;
     }
     let fault = fault_in(outline.count, groups, load_places, store_places);

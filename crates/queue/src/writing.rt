@@ -105,7 +105,7 @@ fn write_at(
     memory: &mut [u32],
     place: u32,
 ) -> Step
-    requires { ⌜ Checked outline (now «load_entries») (now «store_entries») × (length (now memory) ≡ outline .words) ⌝ }
+    requires { ⌜ Checked outline (now «load_entries») (now «store_entries») × (length (now memory) ≡ outline .«memory_length») ⌝ }
     ensures { λ r. ⌜ ((table : Table) → let frame = frameWith table outline in
         Writes (queueOf frame (now («load_entries» .entry)) (now («store_entries» .entry))) (now (memory .entry))
         (writeAt (contentsOf (queueOf frame (now («load_entries» .entry)) (now («store_entries» .entry)))) (now (memory .entry)) place)
@@ -157,7 +157,7 @@ pub fn write_in<'a>(
     ) {
         return refused(UNSOUND, outline);
     }
-    if memory.len() != outline.words as usize {
+    if memory.len() != outline.memory_length as usize {
         return refused(WRONG_MEMORY, outline);
     }
     let stores = outline.stores;

@@ -39,7 +39,7 @@ fn with_field(mut side: Side, field: usize, value: u32) -> Side {
 // A depth, a count, a next serial or the memory length.
 fn with_number(mut frame: Frame, command: usize, value: u32) -> Frame {
     if command == command::SET_WORDS {
-        frame.words = (value % 65536) as u16;
+        frame.memory_length = (value % 65536) as u16;
         return frame;
     }
     // Of each side the commands come in the order of the fields.

@@ -110,7 +110,7 @@ fn show_queue(queue: Queue) {
     let stores = frame.stores;
     let load_entries = queue.load_entries;
     let store_entries = queue.store_entries;
-    show::number(b": words ", frame.words as u64);
+    show::number(b": words ", frame.memory_length as u64);
     show::side(true, loads, load_entries);
     show::side(false, stores, store_entries);
 }

@@ -93,7 +93,7 @@ fn same_side(a: Side, b: Side) -> bool {
 }
 
 fn same_frame(a: Frame, b: Frame) -> bool {
-    if a.words != b.words {
+    if a.memory_length != b.memory_length {
         return false;
     }
     let a_table = a.table;

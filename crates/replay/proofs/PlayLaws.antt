@@ -33,7 +33,8 @@ module _ (q : Queue) (c : Counts) (m : List ℕ) (e : Event) where
   now = playing (contentsOf q) m c
 
   -- what a step gives, piece by piece
-  from-step : (s : Response) (r : Counted) (left : List ℕ) → stepOf now e ≡ s → s .number ≡ r .answer → s .value ≡ valueIn (r .value) → s .machine ≡ machine (contentsOf (r .queue)) left → countsAfter now e ≡ r .counts → Plays q c m e r left
+  from-step : (s : Response) (r : Counted) (left : List ℕ) → stepOf now e ≡ s → s .number ≡ r .answer → s .value ≡ valueIn (r .value)
+      → s .machine ≡ machine (contentsOf (r .queue)) left → countsAfter now e ≡ r .counts → Plays q c m e r left
   from-step s r left is number value next counts = record {
     answer = ap (λ (x : Response). x .number) is ∙ number;
     value = ap (λ (x : Response). x .value) is ∙ value;
@@ -47,24 +48,32 @@ module _ (q : Queue) (c : Counts) (m : List ℕ) (e : Event) where
       from-step _ (withCounts o c) left is (sym (ap (λ (x : Handed). x .answer) h)) (sym (ap (λ (x : Handed). x .value) h))
       (ap₂ machine (sym (ap (λ (x : Handed). contentsOf (x .queue)) h)) (sym same)) counts
 
-  moves-play : (rule : Ruled Contents) (o : Outcome) → stepOf now e ≡ moveResponse (machine (contentsOf q) m) rule → countsAfter now e ≡ c → Moves q rule o → Plays q c m e (withCounts o c) m
+  moves-play : (rule : Ruled Contents) (o : Outcome) → stepOf now e ≡ moveResponse (machine (contentsOf q) m) rule → countsAfter now e ≡ c
+      → Moves q rule o → Plays q c m e (withCounts o c) m
   moves-play (refuse n) o is counts w = refused-plays o m is w refl counts
-  moves-play (accept next) o is counts w = from-step _ (withCounts o c) m is (sym (w .answer)) (sym (w .gives)) (ap (λ (x : Contents). machine x m) (sym (w .holds))) counts
+  moves-play (accept next) o is counts w = from-step _ (withCounts o c) m is (sym (w .answer)) (sym (w .gives))
+      (ap (λ (x : Contents). machine x m) (sym (w .holds))) counts
 
-  takes-play : (rule : Ruled Taken) (o : Outcome) → stepOf now e ≡ takeResponse (machine (contentsOf q) m) rule → countsAfter now e ≡ c → Takes q rule o → Plays q c m e (withCounts o c) m
+  takes-play : (rule : Ruled Taken) (o : Outcome) → stepOf now e ≡ takeResponse (machine (contentsOf q) m) rule → countsAfter now e ≡ c
+      → Takes q rule o → Plays q c m e (withCounts o c) m
   takes-play (refuse n) o is counts w = refused-plays o m is w refl counts
-  takes-play (accept t) o is counts w = from-step _ (withCounts o c) m is (sym (w .answer)) (sym (w .gives)) (ap (λ (x : Contents). machine x m) (sym (w .holds))) counts
+  takes-play (accept t) o is counts w = from-step _ (withCounts o c) m is (sym (w .answer)) (sym (w .gives))
+      (ap (λ (x : Contents). machine x m) (sym (w .holds))) counts
 
-  writes-play : (rule : Ruled Written) (o : Outcome) (left : List ℕ) → stepOf now e ≡ writeResponse (machine (contentsOf q) m) rule → countsAfter now e ≡ c → Writes q m rule o left → Plays q c m e (withCounts o c) left
+  writes-play : (rule : Ruled Written) (o : Outcome) (left : List ℕ) → stepOf now e ≡ writeResponse (machine (contentsOf q) m) rule
+      → countsAfter now e ≡ c → Writes q m rule o left → Plays q c m e (withCounts o c) left
   writes-play (refuse n) o left is counts w = refused-plays o left is (w .outcome) (w .memory-is) counts
-  writes-play (accept t) o left is counts w = from-step _ (withCounts o c) left is (sym (w .outcome .answer)) (sym (w .outcome .gives)) (ap₂ machine (sym (w .outcome .holds)) (sym (w .memory-is))) counts
+  writes-play (accept t) o left is counts w = from-step _ (withCounts o c) left is (sym (w .outcome .answer)) (sym (w .outcome .gives))
+      (ap₂ machine (sym (w .outcome .holds)) (sym (w .memory-is))) counts
 
-  serves-play : (rule : Ruled Served) (r : Counted) → stepOf now e ≡ serveResponse (machine (contentsOf q) m) rule → countsAfter now e ≡ afterServe c rule → Serves q c rule r → Plays q c m e r m
+  serves-play : (rule : Ruled Served) (r : Counted) → stepOf now e ≡ serveResponse (machine (contentsOf q) m) rule
+      → countsAfter now e ≡ afterServe c rule → Serves q c rule r → Plays q c m e r m
   serves-play (refuse n) r is counts w =
       let h = ap (λ (x : HandedCounts). x .outcome) w in
       from-step _ r m is (sym (ap (λ (x : Handed). x .answer) h)) (sym (ap (λ (x : Handed). x .value) h))
       (sym (ap (λ (x : Handed). machine (contentsOf (x .queue)) m) h)) (counts ∙ sym (ap (λ (x : HandedCounts). x .counts) w))
-  serves-play (accept s) r is counts w = from-step _ r m is (sym (w .answer)) (sym (w .gives)) (ap (λ (x : Contents). machine x m) (sym (w .holds))) (counts ∙ sym (w .counts))
+  serves-play (accept s) r is counts w = from-step _ r m is (sym (w .answer)) (sym (w .gives)) (ap (λ (x : Contents). machine x m) (sym (w .holds)))
+      (counts ∙ sym (w .counts))
 
 -- the event that an argument is given by
 abbrev pub giving : Argument → ℕ → ℕ → Event
@@ -83,7 +92,8 @@ module _ (q : Queue) (c : Counts) (m : List ℕ) (full : whole (q .«load_entrie
 
   pub play-give : {e : Event} (argument : Argument) (p x : ℕ) (o : Outcome) → e ≡ giving argument p x
       → Moves q (onRuns (give argument (contentsOf q) p x)) o → Plays q c m e (withCounts o c) m
-  play-give argument p x o is w = rw is (moves-play q c m (giving argument p x) (give argument (contentsOf q) p x) o (stepped argument) (uncounted argument) (rw full at w))
+  play-give argument p x o is w =
+      rw is (moves-play q c m (giving argument p x) (give argument (contentsOf q) p x) o (stepped argument) (uncounted argument) (rw full at w))
     where
       stepped : (a : Argument) → stepOf (playing (contentsOf q) m c) (giving a p x) ≡ moveResponse (machine (contentsOf q) m) (give a (contentsOf q) p x)
       stepped Argument.LoadAddress = refl

@@ -29,29 +29,31 @@ use Rattle.replay.specs.Internal.{Plays, PutAnswer, Playable, eventsIn, 
 use Rattle.trace.proofs.TraceSteps.{EventGot}
 
 abbrev pub buffers : List ℕ → List ℕ → List ℕ → Buffers
-buffers a g w = record { answers = a; given = g; words = w }
+buffers a g w = record { answers = a; given = g; values = w }
 
 -- one number more behind those at a buffer's front
-over-more : (f : Logged → ℕ) (done : List Logged) (l : Logged) (d : List ℕ) (i : ℕ) → length done ≡ i → i < length d → set (atFront (map f done) d) i (f l) ≡ atFront (map f (done ++ l ∷ [])) d
+over-more : (f : Logged → ℕ) (done : List Logged) (l : Logged) (d : List ℕ) (i : ℕ) → length done ≡ i → i < length d
+    → set (atFront (map f done) d) i (f l) ≡ atFront (map f (done ++ l ∷ [])) d
 over-more f done l d i many h =
     let n : length (map f done) ≡ i = length-map done f ∙ many in
     let m : length (map f done ++ f l ∷ []) ≡ suc i = length-append (map f done) (f l ∷ []) ∙ omega arith in
-    rw (map-append f done (l ∷ []), m, n, drop-cons d i 0 h) (set-at (map f done) (getD d i 0) (drop (suc i) d) (f l) i n ∙ sym (append-snoc (map f done) (f l) (drop (suc i) d)))
+    rw (map-append f done (l ∷ []), m, n, drop-cons d i 0 h) (set-at (map f done) (getD d i 0) (drop (suc i) d) (f l) i n
+    ∙ sym (append-snoc (map f done) (f l) (drop (suc i) d)))
 
 over-length : (f : Logged → ℕ) (done : List Logged) (d : List ℕ) → length done ≤ length d → length (atFront (map f done) d) ≡ length d
 over-length f done d h = rw (length-append, length-drop, length-map) (omega arith)
 
 -- room in every buffer
 module _ (n : ℕ) (b : Buffers) where
-  room-for : fits n b ≡ true → (n ≤ length (b .answers)) × (n ≤ length (b .given)) × (n ≤ length (b .words))
+  room-for : fits n b ≡ true → (n ≤ length (b .answers)) × (n ≤ length (b .given)) × (n ≤ length (b .values))
   room-for h =
       let a = leb n (length (b .answers)) in
       let g = leb n (length (b .given)) in
-      let w = leb n (length (b .words)) in
+      let w = leb n (length (b .values)) in
       let front = and-left (a && g) w h in
       (leb-true _ _ (and-left a g front), leb-true _ _ (and-right a g front), leb-true _ _ (and-right (a && g) w h))
 
-  pub long-enough : n ≤ length (b .answers) → n ≤ length (b .given) → n ≤ length (b .words) → fits n b ≡ true
+  pub long-enough : n ≤ length (b .answers) → n ≤ length (b .given) → n ≤ length (b .values) → fits n b ≡ true
   long-enough e f h = rw (le-leb _ _ e, le-leb _ _ f, le-leb _ _ h)
 
 -- The events up to a place have been played: these answers were logged, and these events are left.
@@ -65,7 +67,7 @@ pub record Walk (s : List ℕ) (start : ℕ) (p₀ : Playing) (b₀ : Buffers) (
   pub are : b ≡ logIn done b₀
   pub answers : i + length left ≤ length (b₀ .answers)
   pub given : i + length left ≤ length (b₀ .given)
-  pub words : i + length left ≤ length (b₀ .words)
+  pub values : i + length left ≤ length (b₀ .values)
 
 pub walk-none : {s : List ℕ} {start : ℕ} {p₀ : Playing} {b₀ : Buffers} → Playable s start b₀ → Walk s start p₀ b₀ start 0 p₀ b₀
 walk-none {p₀ = p₀} {b₀} w = record {
@@ -78,7 +80,7 @@ walk-none {p₀ = p₀} {b₀} w = record {
   are = refl;
   answers = omega (arith, room-for (length (w .events)) b₀ (w .room) .0);
   given = omega (arith, room-for (length (w .events)) b₀ (w .room) .1);
-  words = omega (arith, room-for (length (w .events)) b₀ (w .room) .2);
+  values = omega (arith, room-for (length (w .events)) b₀ (w .room) .2);
 }
 
 -- the next event is one of those that are left
@@ -102,31 +104,33 @@ abbrev asLogged : ℕ → Option ℕ → Logged
 asLogged n v = record { number = n; value = v }
 
 module _ {s : List ℕ} {start : ℕ} {p₀ : Playing} {b₀ : Buffers} {place i : ℕ} {p : Playing} {b : Buffers} (w : Walk s start p₀ b₀ place i p b) where
-  pub walk-lengths : (length (b .answers) ≡ length (b₀ .answers)) × (length (b .given) ≡ length (b₀ .given)) × (length (b .words) ≡ length (b₀ .words))
+  pub walk-lengths : (length (b .answers) ≡ length (b₀ .answers)) × (length (b .given) ≡ length (b₀ .given)) × (length (b .values) ≡ length (b₀ .values))
   walk-lengths = (
     rw (w .are) (over-length answerOf (w .done) (b₀ .answers) (omega (arith, w .many, w .answers))),
     rw (w .are) (over-length givenOf (w .done) (b₀ .given) (omega (arith, w .many, w .given))),
-    rw (w .are) (over-length wordOf (w .done) (b₀ .words) (omega (arith, w .many, w .words))),
+    rw (w .are) (over-length wordOf (w .done) (b₀ .values) (omega (arith, w .many, w .values))),
   )
 
   -- there is room for the next event's answer
   pub record Room : Type 0 where
     pub answers : i < length (b .answers)
     pub given : i < length (b .given)
-    pub words : i < length (b .words)
+    pub values : i < length (b .values)
 
   pub walk-room : {e : Event} {next : ℕ} → EventGot s place e next → Room
   walk-room e =
       let n = next-left (w .left) (w .reads) e in
       let l : length (w .left) ≡ suc (length (n .rest)) = ap length (n .is) in
       let (a, g, v) = walk-lengths in
-      record { answers = omega (arith, l, w .answers, a); given = omega (arith, l, w .given, g); words = omega (arith, l, w .words, v) }
+      record { answers = omega (arith, l, w .answers, a); given = omega (arith, l, w .given, g); values = omega (arith, l, w .values, v) }
 
 same-buffers : {a a₂ g g₂ w w₂ : List ℕ} → a ≡ a₂ → g ≡ g₂ → w ≡ w₂ → buffers a g w ≡ buffers a₂ g₂ w₂
 same-buffers e f h = cc
 
 -- one event more
-pub walk-more : {s : List ℕ} {start : ℕ} {p₀ : Playing} {b₀ b b₂ : Buffers} {place i next : ℕ} {q : Queue} {c : Counts} {m left : List ℕ} {e : Event} (r : Counted) → Walk s start p₀ b₀ place i (playing (contentsOf q) m c) b → EventGot s place e next → Plays q c m e r left → PutAnswer (r .answer) (r .value) i b b₂ → Walk s start p₀ b₀ next (i + 1) (playing (contentsOf (r .queue)) left (r .counts)) b₂
+pub walk-more : {s : List ℕ} {start : ℕ} {p₀ : Playing} {b₀ b b₂ : Buffers} {place i next : ℕ} {q : Queue} {c : Counts} {m left : List ℕ} {e : Event}
+    (r : Counted) → Walk s start p₀ b₀ place i (playing (contentsOf q) m c) b → EventGot s place e next → Plays q c m e r left
+    → PutAnswer (r .answer) (r .value) i b b₂ → Walk s start p₀ b₀ next (i + 1) (playing (contentsOf (r .queue)) left (r .counts)) b₂
 walk-more {s} {start} {p₀} {b₀} {b} {b₂} {place} {i} {next} {q} {c} {m} {left} {e} r k ev pl put =
     let n = next-left (k .left) (k .reads) ev in
     let l : length (k .left) ≡ suc (length (n .rest)) = ap length (n .is) in
@@ -143,16 +147,21 @@ walk-more {s} {start} {p₀} {b₀} {b} {b₂} {place} {i} {next} {q} {c} {m} {l
       ends = k .ends ∙ ap (playedAll p) (n .is) ∙ ap (λ (z : Playing). playedAll z (n .rest)) (pl .next);
       many = length-append (k .done) (new ∷ []) ∙ omega (arith, k .many);
       are = same-buffers
-          (put .answers ∙ ap (λ (z : Buffers). set (z .answers) i (answerOf new)) (k .are) ∙ over-more answerOf (k .done) new (b₀ .answers) i (k .many) (omega (arith, k .answers)))
-          (put .given ∙ ap (λ (z : Buffers). set (z .given) i (givenOf new)) (k .are) ∙ over-more givenOf (k .done) new (b₀ .given) i (k .many) (omega (arith, k .given)))
-          (put .words ∙ ap (λ (z : Buffers). set (z .words) i (wordOf new)) (k .are) ∙ over-more wordOf (k .done) new (b₀ .words) i (k .many) (omega (arith, k .words)));
+          (put .answers ∙ ap (λ (z : Buffers). set (z .answers) i (answerOf new)) (k .are)
+          ∙ over-more answerOf (k .done) new (b₀ .answers) i (k .many) (omega (arith, k .answers)))
+          (put .given ∙ ap (λ (z : Buffers). set (z .given) i (givenOf new)) (k .are)
+          ∙ over-more givenOf (k .done) new (b₀ .given) i (k .many) (omega (arith, k .given)))
+          (put .values ∙ ap (λ (z : Buffers). set (z .values) i (wordOf new)) (k .are)
+          ∙ over-more wordOf (k .done) new (b₀ .values) i (k .many) (omega (arith, k .values)));
       answers = omega (arith, k .answers);
       given = omega (arith, k .given);
-      words = omega (arith, k .words);
+      values = omega (arith, k .values);
     }
 
 -- no event is left
-pub walk-end : {s : List ℕ} {start : ℕ} {p₀ : Playing} {b₀ : Buffers} {place i : ℕ} {p : Playing} {b : Buffers} → Walk s start p₀ b₀ place i p b → eventsFrom s place ≡ got [] [] → ReplayedWell (through p₀ (eventsIn (eventsFrom s start))) b₀ (record { answer = 0; events = i; counts = p .counts }) (p .machine .memory) b
+pub walk-end : {s : List ℕ} {start : ℕ} {p₀ : Playing} {b₀ : Buffers} {place i : ℕ} {p : Playing} {b : Buffers} → Walk s start p₀ b₀ place i p b
+    → eventsFrom s place ≡ got [] []
+    → ReplayedWell (through p₀ (eventsIn (eventsFrom s start))) b₀ (record { answer = 0; events = i; counts = p .counts }) (p .machine .memory) b
 walk-end {s} {start} {p₀} {b₀} {place} {i} {p} {b} w h =
     let z : got (w .left) [] ≡ got [] [] = sym (w .reads) ∙ h in
     let none : w .left ≡ [] = cc in
@@ -165,7 +174,8 @@ walk-end {s} {start} {p₀} {b₀} {place} {i} {p} {b} w h =
     }
 
 -- every event that is left can be read
-pub walk-no-fault : {s : List ℕ} {start : ℕ} {p₀ : Playing} {b₀ : Buffers} {place i : ℕ} {p : Playing} {b : Buffers} {k : ℕ} → Walk s start p₀ b₀ place i p b → eventsFrom s place ≡ bad k → ⊥
+pub walk-no-fault : {s : List ℕ} {start : ℕ} {p₀ : Playing} {b₀ : Buffers} {place i : ℕ} {p : Playing} {b : Buffers} {k : ℕ}
+    → Walk s start p₀ b₀ place i p b → eventsFrom s place ≡ bad k → ⊥
 walk-no-fault {k = k} w h =
     let z : got (w .left) [] ≡ bad k = sym (w .reads) ∙ h in
     let y : _≡_ {A = ℕ} 0 1 = cc in

@@ -34,7 +34,7 @@ only-traces-prepared gs bytes s e = go (readHeader bytes) refl e
     Known = (t : Trace) × (readTrace bytes ≡ got t []) × (startOn gs t ≡ accept s)
 
     read : (h : Header) (rest : List ℕ) (q : Contents) → readHeader bytes ≡ got h rest →
-        openQueue gs (h .loads) (h .stores) (h .serial) (h .words) ≡ accept q →
+        openQueue gs (h .«load_depth») (h .«store_depth») (h .first) (h .«memory_length») ≡ accept q →
         (g : Got (List Event)) → readEvents rest ≡ g → startOf q g ≡ accept s → Known
     read h rest q d opens (bad n) k f = let z : _≡_ {A = ℕ} 0 1 = cc in absurd (omega arith)
     read h rest q d opens (got es left) k f =
@@ -45,7 +45,7 @@ only-traces-prepared gs bytes s e = go (readHeader bytes) refl e
     go : (g : Got Header) → readHeader bytes ≡ g → andThen (openTrace gs g) (λ q. startOf q (eventsBehind g)) ≡ accept s → Known
     go (bad n) d f = let z : _≡_ {A = ℕ} 0 1 = cc in absurd (omega arith)
     go (got h rest) d f =
-        let (q, opens, starts) = andThen-accepts (openQueue gs (h .loads) (h .stores) (h .serial) (h .words)) _ f in
+        let (q, opens, starts) = andThen-accepts (openQueue gs (h .«load_depth») (h .«store_depth») (h .first) (h .«memory_length»)) _ f in
         read h rest q d opens (readEvents rest) refl starts
 
 pub traces-replayed : TracesReplayed

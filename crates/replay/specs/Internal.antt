@@ -46,7 +46,7 @@ abbrev pub playedOf : Frame → Played → List ℕ → List ℕ → Counted
 playedOf frame r loads stores = record {
   answer = r .answer;
   value = r .value;
-  queue = queueOf (record { table = frame .table; words = frame .words; loads = r .loads; stores = r .stores }) loads stores;
+  queue = queueOf (record { table = frame .table; «memory_length» = frame .«memory_length»; loads = r .loads; stores = r .stores }) loads stores;
   counts = r .counts;
 }
 
@@ -54,4 +54,4 @@ playedOf frame r loads stores = record {
 pub record PutAnswer (answer : ℕ) (value : Value) (i : ℕ) (b b₂ : Buffers) : Type 0 where
   pub answers : b₂ .answers ≡ set (b .answers) i answer
   pub given : b₂ .given ≡ set (b .given) i (givenIn (valueIn value))
-  pub words : b₂ .words ≡ set (b .words) i (wordIn (valueIn value))
+  pub values : b₂ .values ≡ set (b .values) i (wordIn (valueIn value))

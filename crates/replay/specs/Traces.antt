@@ -16,7 +16,7 @@ use Rattle.replay.specs.Replay.{Start, prepare, Replay, replayed, Buffer
 
 -- opening with a trace's leading numbers
 abbrev pub openFor : List GroupPairs → Trace → Ruled Contents
-openFor gs t = openQueue gs (t .header .loads) (t .header .stores) (t .header .serial) (t .header .words)
+openFor gs t = openQueue gs (t .header .«load_depth») (t .header .«store_depth») (t .header .first) (t .header .«memory_length»)
 
 abbrev pub startWith : Contents → Trace → Start
 startWith q t = record { queue = q; events = t .events }
@@ -28,7 +28,7 @@ startOn gs t = andThen (openFor gs t) λ q. accept (startWith q t)
 abbrev pub replayOn : List GroupPairs → Trace → List ℕ → Counts → Buffers → Ruled Replay
 replayOn gs t memory c b =
     andThen (openFor gs t) λ q.
-    need (eqb (length memory) (t .header .words)) wrongMemory
+    need (eqb (length memory) (t .header .«memory_length»)) wrongMemory
     (need (fits (length (t .events)) b) tooShort
     (accept (replayed (startWith q t) memory c)))
 

@@ -203,13 +203,13 @@ pub(crate) fn put(
     i: usize,
     answers: &mut [u8],
     given: &mut [u8],
-    words: &mut [u32],
+    values: &mut [u32],
 )
-    requires { ⌜ (i < length (now answers)) × (i < length (now given)) × (i < length (now words)) ⌝ }
-    ensures { λ _. ⌜ PutAnswer answer value i (record { answers = now (answers .entry); given = now (given .entry); words = now (words .entry) })
-        (record { answers = now (answers .exit); given = now (given .exit); words = now (words .exit) }) ⌝ }
+    requires { ⌜ (i < length (now answers)) × (i < length (now given)) × (i < length (now values)) ⌝ }
+    ensures { λ _. ⌜ PutAnswer answer value i (record { answers = now (answers .entry); given = now (given .entry); values = now (values .entry) })
+        (record { answers = now (answers .exit); given = now (given .exit); values = now (values .exit) }) ⌝ }
 {
     answers[i] = answer;
     given[i] = value_given(value);
-    words[i] = value_word(value);
+    values[i] = value_word(value);
 }

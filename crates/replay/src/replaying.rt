@@ -55,12 +55,12 @@ fn play_all(
     memory: &mut [u32],
     answers: &mut [u8],
     given: &mut [u8],
-    words: &mut [u32],
+    values: &mut [u32],
 ) -> Replayed
-    requires { ⌜ Playable (now trace) from (record { answers = now answers; given = now given; words = now words }) ⌝ }
+    requires { ⌜ Playable (now trace) from (record { answers = now answers; given = now given; values = now values }) ⌝ }
     ensures { λ r. ⌜ ReplayedWell (through (playing (contentsOf queue) (now (memory .entry)) counts) (eventsIn (eventsFrom (now (trace .entry)) from)))
-        (record { answers = now (answers .entry); given = now (given .entry); words = now (words .entry) }) r (now (memory .exit))
-        (record { answers = now (answers .exit); given = now (given .exit); words = now (words .exit) }) ⌝ }
+        (record { answers = now (answers .entry); given = now (given .entry); values = now (values .entry) }) r (now (memory .exit))
+        (record { answers = now (answers .exit); given = now (given .exit); values = now (values .exit) }) ⌝ }
 {
     let frame = queue.frame;
     let mut outline = outline_of(frame);
@@ -85,7 +85,7 @@ fn play_all(
             event,
         );
         let value = step.value;
-        put(step.answer, value, i, answers, given, words);
+        put(step.answer, value, i, answers, given, values);
         let loads_left = step.loads;
         let stores_left = step.stores;
         outline.loads = loads_left;
@@ -97,8 +97,8 @@ fn play_all(
 }
 
 // Buffers of these lengths have room for so many events.
-fn have_room(events: usize, answers: usize, given: usize, words: usize) -> bool
-    ensures { λ r. ⌜ r ≡ leb events answers && leb events given && leb events words ⌝ }
+fn have_room(events: usize, answers: usize, given: usize, values: usize) -> bool
+    ensures { λ r. ⌜ r ≡ leb events answers && leb events given && leb events values ⌝ }
 {
     if answers < events {
         return false;
@@ -106,7 +106,7 @@ fn have_room(events: usize, answers: usize, given: usize, words: usize) -> bool
     if given < events {
         return false;
     }
-    events <= words
+    events <= values
 }
 
 // Replays the events of a trace from a place on, on a queue, on the memory and the counts as they are lent, and puts what each
@@ -120,13 +120,13 @@ pub fn replay_from(
     counts: Counts,
     answers: &mut [u8],
     given: &mut [u8],
-    words: &mut [u32],
+    values: &mut [u32],
 ) -> Replayed
     ensures { λ r. ⌜ Replays (now (memory .entry)) counts
-        (record { answers = now (answers .entry); given = now (given .entry); words = now (words .entry) })
+        (record { answers = now (answers .entry); given = now (given .entry); values = now (values .entry) })
         (replayFrom (contentsOf queue) (eventsFrom (now (trace .entry)) at) (now (memory .entry)) counts
-        (record { answers = now (answers .entry); given = now (given .entry); words = now (words .entry) }))
-        r (now (memory .exit)) (record { answers = now (answers .exit); given = now (given .exit); words = now (words .exit) }) ⌝ }
+        (record { answers = now (answers .entry); given = now (given .entry); values = now (values .entry) }))
+        r (now (memory .exit)) (record { answers = now (answers .exit); given = now (given .exit); values = now (values .exit) }) ⌝ }
 {
     let count = count_events(trace, at);
     let events = match count {
@@ -134,13 +134,13 @@ pub fn replay_from(
         EventCount::BadEvent(number) => return unplayed(number, counts),
     };
     let frame = queue.frame;
-    if memory.len() != frame.words as usize {
+    if memory.len() != frame.memory_length as usize {
         return unplayed(WRONG_MEMORY, counts);
     }
-    if !have_room(events, answers.len(), given.len(), words.len()) {
+    if !have_room(events, answers.len(), given.len(), values.len()) {
         return unplayed(TOO_SHORT, counts);
     }
-    play_all(queue, counts, trace, at, memory, answers, given, words)
+    play_all(queue, counts, trace, at, memory, answers, given, values)
 }
 
 // Replays a trace from a fresh opening of the table, as its events are replayed; where it cannot be opened it answers that fault,
@@ -152,13 +152,13 @@ pub fn replay(
     counts: Counts,
     answers: &mut [u8],
     given: &mut [u8],
-    words: &mut [u32],
+    values: &mut [u32],
 ) -> Replayed
     ensures { λ r. ⌜ Replays (now (memory .entry)) counts
-        (record { answers = now (answers .entry); given = now (given .entry); words = now (words .entry) })
+        (record { answers = now (answers .entry); given = now (given .entry); values = now (values .entry) })
         (replay (groupsOf table) (now (trace .entry)) (now (memory .entry)) counts
-        (record { answers = now (answers .entry); given = now (given .entry); words = now (words .entry) }))
-        r (now (memory .exit)) (record { answers = now (answers .exit); given = now (given .exit); words = now (words .exit) }) ⌝ }
+        (record { answers = now (answers .entry); given = now (given .entry); values = now (values .entry) }))
+        r (now (memory .exit)) (record { answers = now (answers .exit); given = now (given .exit); values = now (values .exit) }) ⌝ }
 {
     let opened = open_trace(table, trace);
     if opened.answer != 0 {
@@ -173,6 +173,6 @@ pub fn replay(
         counts,
         answers,
         given,
-        words,
+        values,
     )
 }

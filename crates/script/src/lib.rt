@@ -9,7 +9,8 @@ ghost use Rattle.script.specs.Decimal.{withDigit, wrongNumbers, spaced, 
 ghost use Rattle.script.specs.Hexadecimal.{hexadecimal, wrongBytes, firstDigit, secondDigit, byteBegun, byteStep, bytesEnd, bytesFrom};
 
 // The numbers of a line, as many as `count`, each with one space before it; one of 18446744073709551610 or more
-// counts as 18446744073709551615. `right` says that there was nothing else. `bare` has a meaning while the line is read: a space is not followed by a digit yet.
+// counts as 18446744073709551615. `right` says that there was nothing else. `bare` has a meaning while the line
+// is read: a space is not followed by a digit yet.
 pub struct Numbers {
     pub right: bool,
     pub bare: bool,

@@ -23,8 +23,10 @@ use Rattle.sequential.proofs.Invariant.{Holds, LogSeen, rightLoad, righ
 
 -- ---- the queue's part
 
-pub holds-load : {q : Contents} {m memory : List ℕ} {log : List LogEntry} → Holds q m memory log → {i : ℕ} {pre : List LogEntry} {it : Load} {post : List LogEntry}
-    → Located loads stores log (q .loads) (q .stores) i pre it post → (f : Load → Load) → ((n : ℕ) (l : Load) → f (loads .remember n l) ≡ loads .remember n (f l))
+pub holds-load : {q : Contents} {m memory : List ℕ} {log : List LogEntry} → Holds q m memory log
+    → {i : ℕ} {pre : List LogEntry} {it : Load} {post : List LogEntry}
+    → Located loads stores log (q .loads) (q .stores) i pre it post → (f : Load → Load)
+    → ((n : ℕ) (l : Load) → f (loads .remember n l) ≡ loads .remember n (f l))
     → rightLoad (q .memoryLength) (f it) ≡ true → MemoriesAgree m memory (pre ++ ofLoad (f it) ∷ post)
     → Holds (withLoads q (updateAt f i (q .loads))) m memory (pre ++ ofLoad (f it) ∷ post)
 holds-load {q} {m} {memory} {log} h {i} {pre} {it} {post} l f blind right agree = record {
@@ -35,13 +37,16 @@ holds-load {q} {m} {memory} {log} h {i} {pre} {it} {post} l f blind right agree 
   windows = l .anew f blind;
   rightLoads =
       rw (ownIn-append loads pre (ofLoad (f it) ∷ post))
-      (all-replace (rightLoad (q .memoryLength)) (ownIn loads pre) (ownIn loads post) it (f it) (rw (l .log-is, ownIn-append loads pre (ofLoad it ∷ post)) at (h .rightLoads)) right);
+      (all-replace (rightLoad (q .memoryLength)) (ownIn loads pre) (ownIn loads post) it (f it)
+      (rw (l .log-is, ownIn-append loads pre (ofLoad it ∷ post)) at (h .rightLoads)) right);
   rightStores = rw (ownIn-append stores pre (ofLoad (f it) ∷ post)) (rw (l .log-is, ownIn-append stores pre (ofLoad it ∷ post)) at (h .rightStores));
   agree = agree;
 }
 
-pub holds-store : {q : Contents} {m memory : List ℕ} {log : List LogEntry} → Holds q m memory log → {i : ℕ} {pre : List LogEntry} {it : Store} {post : List LogEntry}
-    → Located stores loads log (q .stores) (q .loads) i pre it post → (f : Store → Store) → ((n : ℕ) (s : Store) → f (stores .remember n s) ≡ stores .remember n (f s))
+pub holds-store : {q : Contents} {m memory : List ℕ} {log : List LogEntry} → Holds q m memory log
+    → {i : ℕ} {pre : List LogEntry} {it : Store} {post : List LogEntry}
+    → Located stores loads log (q .stores) (q .loads) i pre it post → (f : Store → Store)
+    → ((n : ℕ) (s : Store) → f (stores .remember n s) ≡ stores .remember n (f s))
     → rightStore (q .memoryLength) (f it) ≡ true → (m′ : List ℕ) → length m′ ≡ length m → MemoriesAgree m′ memory (pre ++ ofStore (f it) ∷ post)
     → Holds (withStores q (updateAt f i (q .stores))) m′ memory (pre ++ ofStore (f it) ∷ post)
 holds-store {q} {m} {memory} {log} h {i} {pre} {it} {post} l f blind right m′ long agree = record {
@@ -53,7 +58,8 @@ holds-store {q} {m} {memory} {log} h {i} {pre} {it} {post} l f blind right m′ 
   rightLoads = rw (ownIn-append loads pre (ofStore (f it) ∷ post)) (rw (l .log-is, ownIn-append loads pre (ofStore it ∷ post)) at (h .rightLoads));
   rightStores =
       rw (ownIn-append stores pre (ofStore (f it) ∷ post))
-      (all-replace (rightStore (q .memoryLength)) (ownIn stores pre) (ownIn stores post) it (f it) (rw (l .log-is, ownIn-append stores pre (ofStore it ∷ post)) at (h .rightStores)) right);
+      (all-replace (rightStore (q .memoryLength)) (ownIn stores pre) (ownIn stores post) it (f it)
+      (rw (l .log-is, ownIn-append stores pre (ofStore it ∷ post)) at (h .rightStores)) right);
   agree = agree;
 }
 
@@ -81,10 +87,12 @@ holds-retired {q} {m} {memory} {log} h = record {
 -- ---- the answers' part
 
 -- a row to which nothing is added, and whose cells are as they were
-pub row-kept : (cell : LogEntry → RowCell) (e e′ : LogEntry) → cell e ≡ cell e′ → (post pre : List LogEntry) (row : List ℕ) → Row cell (pre ++ e ∷ post) row → Row cell (pre ++ e′ ∷ post) (row ++ [])
+pub row-kept : (cell : LogEntry → RowCell) (e e′ : LogEntry) → cell e ≡ cell e′ → (post pre : List LogEntry) (row : List ℕ)
+    → Row cell (pre ++ e ∷ post) row → Row cell (pre ++ e′ ∷ post) (row ++ [])
 row-kept cell e e′ same post pre row h = rw (append-nil row) (row-same cell e e′ same post pre row h)
 
-count-anew : (p : LogEntry → Bool) (e e′ : LogEntry) (n : ℕ) → countWhere p (e′ ∷ []) ≡ countWhere p (e ∷ []) + n → (pre post : List LogEntry) → countWhere p (pre ++ e′ ∷ post) ≡ countWhere p (pre ++ e ∷ post) + n
+count-anew : (p : LogEntry → Bool) (e e′ : LogEntry) (n : ℕ) → countWhere p (e′ ∷ []) ≡ countWhere p (e ∷ []) + n → (pre post : List LogEntry)
+    → countWhere p (pre ++ e′ ∷ post) ≡ countWhere p (pre ++ e ∷ post) + n
 count-anew p e e′ n h pre post = rw (count-append p pre (e′ ∷ post), count-append p pre (e ∷ post)) (go (p e) (p e′) (countWhere p post) h)
   where
     go : (b b′ : Bool) (c : ℕ) → pick b′ 1 0 ≡ pick b 1 0 + n → countWhere p pre + pick b′ (suc c) c ≡ countWhere p pre + pick b (suc c) c + n
@@ -103,9 +111,11 @@ module _ (groups : List GroupPairs) (answered : List Answered) (a : Answered) (p
   seen-anew s same no-access rows takes serves writes =
       seen-more groups answered a (pre ++ e′ ∷ post) shape rows takes
       (count-anew isServed e e′ (length (gather serveOf (tell a ∷ []))) serves pre post ∙ ap (λ (n : ℕ). n + length (gather serveOf (tell a ∷ []))) (s .serves))
-      (count-anew isWritten e e′ (length (gather writeOf (tell a ∷ []))) writes pre post ∙ ap (λ (n : ℕ). n + length (gather writeOf (tell a ∷ []))) (s .writes))
+      (count-anew isWritten e e′ (length (gather writeOf (tell a ∷ []))) writes pre post
+      ∙ ap (λ (n : ℕ). n + length (gather writeOf (tell a ∷ []))) (s .writes))
     where
       shape : map accessOf (pre ++ e′ ∷ post) ≡ accesses groups (told answered) ++ accesses groups (tell a ∷ [])
       shape =
-          map-append accessOf pre (e′ ∷ post) ∙ ap (λ (x : Access). map accessOf pre ++ x ∷ map accessOf post) same ∙ sym (map-append accessOf pre (e ∷ post)) ∙ s .shape
+          map-append accessOf pre (e′ ∷ post) ∙ ap (λ (x : Access). map accessOf pre ++ x ∷ map accessOf post) same
+          ∙ sym (map-append accessOf pre (e ∷ post)) ∙ s .shape
           ∙ sym (append-nil (accesses groups (told answered))) ∙ ap (λ (l : List Access). accesses groups (told answered) ++ l) (sym no-access)

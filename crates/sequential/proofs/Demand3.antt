@@ -29,7 +29,8 @@ written-stores [] = omega arith
 written-stores (ofLoad l ∷ es) = written-stores es
 written-stores (ofStore s ∷ es) = go (s .written) (written-stores es)
   where
-    go : (b : Bool) → countWhere isWritten es ≤ countWhere isStore (map accessOf es) → pick b (suc (countWhere isWritten es)) (countWhere isWritten es) ≤ suc (countWhere isStore (map accessOf es))
+    go : (b : Bool) → countWhere isWritten es ≤ countWhere isStore (map accessOf es)
+        → pick b (suc (countWhere isWritten es)) (countWhere isWritten es) ≤ suc (countWhere isStore (map accessOf es))
     go true h = omega arith
     go false h = omega arith
 
@@ -38,8 +39,10 @@ all-written [] h = refl
 all-written (ofLoad l ∷ es) h = all-written es h
 all-written (ofStore s ∷ es) h = go (s .written) refl h (written-stores es) (λ k. all-written es k)
   where
-    go : (b : Bool) → s .written ≡ b → pick b (suc (countWhere isWritten es)) (countWhere isWritten es) ≡ suc (countWhere isStore (map accessOf es)) → countWhere isWritten es ≤ countWhere isStore (map accessOf es)
-        → (countWhere isWritten es ≡ countWhere isStore (map accessOf es) → allOf storeFinished (ownIn stores es) ≡ true) → (s .written) && allOf storeFinished (ownIn stores es) ≡ true
+    go : (b : Bool) → s .written ≡ b → pick b (suc (countWhere isWritten es)) (countWhere isWritten es) ≡ suc (countWhere isStore (map accessOf es))
+        → countWhere isWritten es ≤ countWhere isStore (map accessOf es)
+        → (countWhere isWritten es ≡ countWhere isStore (map accessOf es) → allOf storeFinished (ownIn stores es) ≡ true)
+        → (s .written) && allOf storeFinished (ownIn stores es) ≡ true
     go true e k le rec = and-both e (rec (omega arith))
     go false e k le rec = absurd (omega arith)
 
@@ -51,7 +54,8 @@ unfolding plainLoads plainMemory
 sequential groups memory answered left st fill = record {
   takes = λ port n v h.
       rw (st .seen .shape) at
-      (taken-is-loaded fill port (st .log) 0 (left .memory) memory (rowsOf (told answered)) (st .seen .rows) (st .holds .agree) (takenAt port answered) (st .seen .takes port) n v h);
+      (taken-is-loaded fill port (st .log) 0 (left .memory) memory (rowsOf (told answered)) (st .seen .rows) (st .holds .agree)
+      (takenAt port answered) (st .seen .takes port) n v h);
   writes = λ full.
       rw (st .seen .shape) at
       (written-is-plain fill (st .log) 0 (left .memory) memory (rowsOf (told answered)) (st .seen .rows) (st .holds .agree)
@@ -67,7 +71,8 @@ demand3 groups memory m o calls fill low = sequential groups memory (answers m c
 -- ---- two lists alike
 
 -- the plain run's values depend on the accepted activations and the rows alone
-alike-loads : (groups : List GroupPairs) (memory : List ℕ) (a b : List Told) → Alike a b → (fill : Filling) (port : ℕ) → plainLoads groups memory a fill port ≡ plainLoads groups memory b fill port
+alike-loads : (groups : List GroupPairs) (memory : List ℕ) (a b : List Told) → Alike a b → (fill : Filling) (port : ℕ)
+    → plainLoads groups memory a fill port ≡ plainLoads groups memory b fill port
 unfolding plainLoads
 alike-loads groups memory a b h fill port =
     let rows : rowsOf a ≡ rowsOf b = fun-ext (λ kind. fun-ext (λ p. h .arguments kind p)) in
@@ -82,8 +87,10 @@ pub alike : AlikeLists
 unfolding zeros
 alike groups memory m₁ m₂ o₁ o₂ calls₁ calls₂ same port n v w h₁ h₂ =
     let low : 0 < length memory = leb-true 1 (length memory) (and-left (leb 1 (length memory)) _ (opening-limits o₁ .wordsRight)) in
-    let e₁ : getElem? (plainLoads groups memory (told (answers m₁ calls₁)) zeros port) n ≡ some v = demand3 groups memory m₁ o₁ calls₁ zeros (λ k. low) .takes port n v h₁ in
-    let e₂ : getElem? (plainLoads groups memory (told (answers m₂ calls₂)) zeros port) n ≡ some w = demand3 groups memory m₂ o₂ calls₂ zeros (λ k. low) .takes port n w h₂ in
+    let e₁ : getElem? (plainLoads groups memory (told (answers m₁ calls₁)) zeros port) n ≡ some v =
+    demand3 groups memory m₁ o₁ calls₁ zeros (λ k. low) .takes port n v h₁ in
+    let e₂ : getElem? (plainLoads groups memory (told (answers m₂ calls₂)) zeros port) n ≡ some w =
+    demand3 groups memory m₂ o₂ calls₂ zeros (λ k. low) .takes port n w h₂ in
     let e : plainLoads groups memory (told (answers m₁ calls₁)) zeros port ≡ plainLoads groups memory (told (answers m₂ calls₂)) zeros port
     = alike-loads groups memory (told (answers m₁ calls₁)) (told (answers m₂ calls₂)) same zeros port in
     let both : some v ≡ some w = sym e₁ ∙ ap (λ (l : List ℕ). getElem? l n) e ∙ e₂ in

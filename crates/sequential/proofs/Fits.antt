@@ -200,7 +200,8 @@ module _ (q : Contents) (m : List ℕ) (f : Fits (machine q m)) where
       go (s, at, w) =
           let after : Contents = withStores q (updateAt storeDone (storePlace q serial) (q .stores)) in
           let word : wordFits (some (w .put .word)) ≡ true =
-          rw (w .may .worded) at (and-right (bitsFit 5 (s .port)) (wordFits (s .word)) (all-found storeFits (q .stores) (storePlace q serial) at (f .stores))) in
+          rw (w .may .worded) at
+          (and-right (bitsFit 5 (s .port)) (wordFits (s .word)) (all-found storeFits (q .stores) (storePlace q serial) at (f .stores))) in
           rw (w .result)
           (with-memory (retire after) m (retire-fits after m (with-stores q m f storeDone (λ x h. h) (storePlace q serial)))
           (w .put .address) (w .put .word) word)

@@ -113,7 +113,8 @@ gather-append {A} f (t ∷ xs) ys = go (t .accepted) (f (t .call)) (gather-appen
 
 inOrder-append : (groups : List GroupPairs) (xs ys : List ℕ) → inOrder groups (xs ++ ys) ≡ inOrder groups xs ++ inOrder groups ys
 inOrder-append groups [] ys = refl
-inOrder-append groups (g ∷ xs) ys = rw (inOrder-append groups xs ys) (sym (append-assoc (accessesOf (getElem? groups g)) (inOrder groups xs) (inOrder groups ys)))
+inOrder-append groups (g ∷ xs) ys =
+    rw (inOrder-append groups xs ys) (sym (append-assoc (accessesOf (getElem? groups g)) (inOrder groups xs) (inOrder groups ys)))
 
 takenAt-append : (port : ℕ) (xs ys : List Answered) → takenAt port (xs ++ ys) ≡ takenAt port xs ++ takenAt port ys
 takenAt-append port [] ys = refl
@@ -140,7 +141,8 @@ module _ (groups : List GroupPairs) (answered : List Answered) (a : Answered) wh
       → countWhere isWritten log ≡ length (gather writeOf (told answered)) + length (gather writeOf (tell a ∷ []))
       → LogSeen groups (answered ++ a ∷ []) log
   seen-more log shape rows takes serves writes = record {
-    shape = shape ∙ sym (ap (inOrder groups) (gather-told activationOf) ∙ inOrder-append groups (gather activationOf (told answered)) (gather activationOf (tell a ∷ [])));
+    shape = shape ∙ sym (ap (inOrder groups) (gather-told activationOf)
+        ∙ inOrder-append groups (gather activationOf (told answered)) (gather activationOf (tell a ∷ [])));
     rows = λ kind port. rw (gather-told (argumentOf kind port)) (rows kind port);
     takes = λ port. rw (takenAt-append port answered (a ∷ [])) (takes port);
     serves = serves ∙ sym (ap length (gather-told serveOf) ∙ length-append (gather serveOf (told answered)) (gather serveOf (tell a ∷ [])));
@@ -148,8 +150,10 @@ module _ (groups : List GroupPairs) (answered : List Answered) (a : Answered) wh
   }
 
   -- an answer that adds nothing
-  silent : (log : List LogEntry) → LogSeen groups answered log → gather activationOf (tell a ∷ []) ≡ [] → ((kind : Argument) (port : ℕ) → rowsOf (tell a ∷ []) kind port ≡ [])
-      → ((port : ℕ) → takenAt port (a ∷ []) ≡ []) → gather serveOf (tell a ∷ []) ≡ [] → gather writeOf (tell a ∷ []) ≡ [] → LogSeen groups (answered ++ a ∷ []) log
+  silent : (log : List LogEntry) → LogSeen groups answered log → gather activationOf (tell a ∷ []) ≡ []
+      → ((kind : Argument) (port : ℕ) → rowsOf (tell a ∷ []) kind port ≡ [])
+      → ((port : ℕ) → takenAt port (a ∷ []) ≡ []) → gather serveOf (tell a ∷ []) ≡ [] → gather writeOf (tell a ∷ []) ≡ []
+      → LogSeen groups (answered ++ a ∷ []) log
   silent log s no-group no-row no-take no-serve no-write =
       seen-more log
       (rw (no-group, append-nil (accesses groups (told answered))) (s .shape))
@@ -172,7 +176,8 @@ seen-refused groups answered c n o e log s =
 pub seen-ready : (groups : List GroupPairs) (answered : List Answered) (kind : Kind) (run : List ℕ) (n : ℕ) (log : List LogEntry)
     → LogSeen groups answered log → LogSeen groups (answered ++ record { call = Ready kind run; number = n; value = none } ∷ []) log
 seen-ready groups answered kind run n log s =
-    silent groups answered (record { call = Ready kind run; number = n; value = none }) log s (go (eqb n 0)) (λ kind port. go (eqb n 0)) (λ port. refl) (go (eqb n 0)) (go (eqb n 0))
+    silent groups answered (record { call = Ready kind run; number = n; value = none }) log s (go (eqb n 0)) (λ kind port. go (eqb n 0))
+    (λ port. refl) (go (eqb n 0)) (go (eqb n 0))
   where
     go : (b : Bool) → _≡_ {A = List ℕ} (pick b [] []) []
     go true = refl

@@ -125,7 +125,8 @@ module _ {A : Type 0} (K : LogKind A) where
   side-append n [] ys = rw (add-zero n)
   side-append n (e ∷ xs) ys = go (K .own e) (side-append n xs ys) (side-append (suc n) xs ys)
     where
-      go : (o : Option A) → side K n (xs ++ ys) ≡ side K n xs ++ side K (n + others K xs) ys → side K (suc n) (xs ++ ys) ≡ side K (suc n) xs ++ side K (suc n + others K xs) ys
+      go : (o : Option A) → side K n (xs ++ ys) ≡ side K n xs ++ side K (n + others K xs) ys
+          → side K (suc n) (xs ++ ys) ≡ side K (suc n) xs ++ side K (suc n + others K xs) ys
           → onto o n (side K n (xs ++ ys)) (side K (suc n) (xs ++ ys)) ≡ onto o n (side K n xs) (side K (suc n) xs) ++ side K (n + counting o (others K xs)) ys
       go none h k = rw (add-suc n (others K xs), ← suc-add n (others K xs)) k
       go (some a) h k = ap (λ (l : List (Placed A)). place n a ∷ l) h
@@ -161,7 +162,8 @@ module _ {A : Type 0} (K : LogKind A) where
   side-before n [] = refl
   side-before n (e ∷ es) = go (K .own e) (side-before n es) (side-before (suc n) es)
     where
-      go : (o : Option A) → allOf (λ x. leb (x .before) (n + others K es)) (side K n es) ≡ true → allOf (λ x. leb (x .before) (suc n + others K es)) (side K (suc n) es) ≡ true
+      go : (o : Option A) → allOf (λ x. leb (x .before) (n + others K es)) (side K n es) ≡ true
+          → allOf (λ x. leb (x .before) (suc n + others K es)) (side K (suc n) es) ≡ true
           → allOf (λ x. leb (x .before) (n + counting o (others K es))) (onto o n (side K n es) (side K (suc n) es)) ≡ true
       go none h k = rw (add-suc n (others K es), ← suc-add n (others K es)) k
       go (some a) h k = and-both (le-leb n (n + others K es) (omega arith)) h
@@ -182,4 +184,5 @@ module _ {A : Type 0} (K : LogKind A) where
           → Found n (e ∷ es) zs
       go none own zs k here passed = let (pre, post, is, f) = passed zs k in (e ∷ pre, post, ap (λ (l : List LogEntry). e ∷ l) is, rw (own, f))
       go (some a) own [] k here passed = let same : x .entry ≡ a = sym (ap placedEntry (head-eq-of-cons-eq k)) in ([], es, rw (same, K .put-own e a own), refl)
-      go (some a) own (z ∷ zs) k here passed = let (pre, post, is, f) = here zs (tail-eq-of-cons-eq k) in (e ∷ pre, post, ap (λ (l : List LogEntry). e ∷ l) is, rw (own, f, head-eq-of-cons-eq k))
+      go (some a) own (z ∷ zs) k here passed = let (pre, post, is, f) = here zs (tail-eq-of-cons-eq k) in
+          (e ∷ pre, post, ap (λ (l : List LogEntry). e ∷ l) is, rw (own, f, head-eq-of-cons-eq k))

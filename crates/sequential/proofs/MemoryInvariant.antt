@@ -126,15 +126,18 @@ agree-write s post a w address word unwritten (ofLoad l ∷ pre) m n tl ts g = (
   agree-write s post a w address word unwritten pre m n (and-right (noLoadConflict a l) (allOf (noLoadConflict a) (ownIn loads pre)) tl) ts (g .1),
 )
   where
-    ahead : (value address′ : Option ℕ) → isSome value || addressApart a address′ ≡ true → (b : ℕ) → valueFits address′ b → reads value m b ≡ getD n b 0 → reads value (set m a w) b ≡ getD n b 0
+    ahead : (value address′ : Option ℕ) → isSome value || addressApart a address′ ≡ true → (b : ℕ) → valueFits address′ b
+        → reads value m b ≡ getD n b 0 → reads value (set m a w) b ≡ getD n b 0
     ahead (some v) address′ t b f h = h
     ahead none none t b f h = false-true t
     ahead none (some c) t b f h = rw (getD-set-other m a b w 0 (λ p. eqb-false c a (not-true (eqb c a) t) (f ∙ p))) h
 agree-write s post a w address word unwritten (ofStore r ∷ pre) m n tl ts g =
     λ b x f h. rw (ahead (r .written) (r .address) (and-left (noStoreConflict a r) (allOf (noStoreConflict a) (ownIn stores pre)) ts) b x f)
-    (agree-write s post a w address word unwritten pre (does (r .written) m b x) (set n b x) tl (and-right (noStoreConflict a r) (allOf (noStoreConflict a) (ownIn stores pre)) ts) (g b x f h))
+    (agree-write s post a w address word unwritten pre (does (r .written) m b x) (set n b x) tl
+    (and-right (noStoreConflict a r) (allOf (noStoreConflict a) (ownIn stores pre)) ts) (g b x f h))
   where
-    ahead : (written : Bool) (address′ : Option ℕ) → written || addressApart a address′ ≡ true → (b x : ℕ) → valueFits address′ b → does written (set m a w) b x ≡ set (does written m b x) a w
+    ahead : (written : Bool) (address′ : Option ℕ) → written || addressApart a address′ ≡ true → (b x : ℕ) → valueFits address′ b
+        → does written (set m a w) b x ≡ set (does written m b x) a w
     ahead true address′ t b x f = refl
     ahead false none t b x f = false-true t
     ahead false (some c) t b x f = set-comm m a b w x (λ p. eqb-false c a (not-true (eqb c a) t) (f ∙ sym p))

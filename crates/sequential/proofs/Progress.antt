@@ -36,14 +36,16 @@ use Rattle.sequential.proofs.ReachedSound.{holds-sound}
 
 -- ---- what is accepted
 
-serve-accepted : (q : Contents) (m : List ℕ) (serial : ℕ) (l : Load) (a : ℕ) → sound q ≡ true → length m ≡ q .memoryLength → getElem? (q .loads) (loadPlace q serial) ≡ some l
+serve-accepted : (q : Contents) (m : List ℕ) (serial : ℕ) (l : Load) (a : ℕ) → sound q ≡ true → length m ≡ q .memoryLength
+    → getElem? (q .loads) (loadPlace q serial) ≡ some l
     → l .value ≡ none → l .address ≡ some a → source a fromMemory (take (l .before) (q .stores)) ≡ fromMemory
     → number (serve q m serial) ≡ 0
 unfolding serve
 serve-accepted q m serial l a right long at unserved address sourced =
     rw (right, eq-eqb (length m) (q .memoryLength) long, at, unserved, address, sourced)
 
-write-accepted : (q : Contents) (m : List ℕ) (serial : ℕ) (s : Store) (a w : ℕ) → sound q ≡ true → length m ≡ q .memoryLength → getElem? (q .stores) (storePlace q serial) ≡ some s
+write-accepted : (q : Contents) (m : List ℕ) (serial : ℕ) (s : Store) (a w : ℕ) → sound q ≡ true → length m ≡ q .memoryLength
+    → getElem? (q .stores) (storePlace q serial) ≡ some s
     → s .written ≡ false → s .address ≡ some a → s .word ≡ some w → allOf (noLoadConflict a) (take (s .before) (q .loads)) ≡ true
     → allOf (noStoreConflict a) (take (storePlace q serial) (q .stores)) ≡ true → number (write q m serial) ≡ 0
 unfolding write
@@ -61,7 +63,8 @@ isDone (ofLoad l) = isSome (l .value)
 isDone (ofStore s) = s .written
 
 -- a test of entries, read for one kind
-all-own : {A : Type 0} (K : LogKind A) (p : LogEntry → Bool) (r : A → Bool) → ((a : A) → p (K .put a) ≡ true → r a ≡ true) → (es : List LogEntry) → allOf p es ≡ true → allOf r (ownIn K es) ≡ true
+all-own : {A : Type 0} (K : LogKind A) (p : LogEntry → Bool) (r : A → Bool) → ((a : A) → p (K .put a) ≡ true → r a ≡ true) → (es : List LogEntry)
+    → allOf p es ≡ true → allOf r (ownIn K es) ≡ true
 all-own K p r w [] h = refl
 all-own {A} K p r w (e ∷ es) h = go (K .own e) refl (all-own K p r w es (and-right (p e) (allOf p es) h))
   where
@@ -106,12 +109,15 @@ count-uses kind port [] = refl
 count-uses kind port (e ∷ es) = rw (given-uses kind port e, count-uses kind port es)
 
 -- all is done, or there is an oldest entry that is not
-first-undone : (es : List LogEntry) → (allOf isDone es ≡ true) ⊎ ((pre : List LogEntry) × (e : LogEntry) × (post : List LogEntry) × (es ≡ pre ++ e ∷ post) × (allOf isDone pre ≡ true) × (isDone e ≡ false))
+first-undone : (es : List LogEntry)
+    → (allOf isDone es ≡ true) ⊎ ((pre : List LogEntry) × (e : LogEntry) × (post : List LogEntry) × (es ≡ pre ++ e ∷ post) × (allOf isDone pre ≡ true)
+    × (isDone e ≡ false))
 first-undone [] = inl refl
 first-undone (e ∷ es) = go (isDone e) refl (first-undone es)
   where
     Undone : List LogEntry → Type 0
-    Undone l = (allOf isDone l ≡ true) ⊎ ((pre : List LogEntry) × (d : LogEntry) × (post : List LogEntry) × (l ≡ pre ++ d ∷ post) × (allOf isDone pre ≡ true) × (isDone d ≡ false))
+    Undone l = (allOf isDone l ≡ true)
+        ⊎ ((pre : List LogEntry) × (d : LogEntry) × (post : List LogEntry) × (l ≡ pre ++ d ∷ post) × (allOf isDone pre ≡ true) × (isDone d ≡ false))
 
     go : (b : Bool) → isDone e ≡ b → Undone es → Undone (e ∷ es)
     go false t rest = inr ([], e, es, refl, refl, t)
@@ -120,7 +126,8 @@ first-undone (e ∷ es) = go (isDone e) refl (first-undone es)
 
 done-served : (es : List LogEntry) → allOf isDone es ≡ true → countWhere isServed es ≡ countWhere isLoad (map accessOf es)
 done-served [] h = refl
-done-served (ofLoad l ∷ es) h = rw (and-left (isSome (l .value)) (allOf isDone es) h) (ap suc (done-served es (and-right (isSome (l .value)) (allOf isDone es) h)))
+done-served (ofLoad l ∷ es) h =
+    rw (and-left (isSome (l .value)) (allOf isDone es) h) (ap suc (done-served es (and-right (isSome (l .value)) (allOf isDone es) h)))
 done-served (ofStore s ∷ es) h = done-served es (and-right (s .written) (allOf isDone es) h)
 
 done-written : (es : List LogEntry) → allOf isDone es ≡ true → countWhere isWritten es ≡ countWhere isStore (map accessOf es)
@@ -148,7 +155,8 @@ module _ (q : Contents) (m memory : List ℕ) (log : List LogEntry) (h : Holds q
   load-moves : (pre : List LogEntry) (l : Load) (post : List LogEntry) → log ≡ pre ++ ofLoad l ∷ post → allOf isDone pre ≡ true → isSome (l .value) ≡ false
       → wouldMove (record { queue = q; memory = m })
   load-moves pre l post log-is before unserved =
-      go (unfinished-queued loads stores loads-stores (h .windows) pre l post log-is untaken) (is-some (l .address) (all-middle complete pre post (ofLoad l) (rw log-is at filled)))
+      go (unfinished-queued loads stores loads-stores (h .windows) pre l post log-is untaken)
+      (is-some (l .address) (all-middle complete pre post (ofLoad l) (rw log-is at filled)))
     where
       value : l .value ≡ none
       value = is-none (l .value) (rw unserved)
@@ -156,19 +164,23 @@ module _ (q : Contents) (m memory : List ℕ) (log : List LogEntry) (h : Holds q
       untaken : l .taken ≡ false
       untaken =
           untaken-unserved (q .memoryLength) l
-          (all-middle (rightLoad (q .memoryLength)) (ownIn loads pre) (ownIn loads post) l (rw (log-is, ownIn-append loads pre (ofLoad l ∷ post)) at (h .rightLoads))) value
+          (all-middle (rightLoad (q .memoryLength)) (ownIn loads pre) (ownIn loads post) l
+          (rw (log-is, ownIn-append loads pre (ofLoad l ∷ post)) at (h .rightLoads))) value
 
       storesWritten : allOf storeFinished (ownIn stores pre) ≡ true
       storesWritten = all-own stores isDone storeFinished (λ s t. t) pre before
 
       storesAddressed : allOf hasAddress (ownIn stores pre) ≡ true
-      storesAddressed = all-own stores complete hasAddress (λ s t. and-left (isSome (s .address)) _ t) pre (all-left complete pre (ofLoad l ∷ post) (rw log-is at filled))
+      storesAddressed = all-own stores complete hasAddress (λ s t. and-left (isSome (s .address)) _ t) pre
+          (all-left complete pre (ofLoad l ∷ post) (rw log-is at filled))
 
-      go : (i : ℕ) × Located loads stores log (q .loads) (q .stores) i pre l post → (a : ℕ) × (l .address ≡ some a) → wouldMove (record { queue = q; memory = m })
+      go : (i : ℕ) × Located loads stores log (q .loads) (q .stores) i pre l post → (a : ℕ) × (l .address ≡ some a)
+          → wouldMove (record { queue = q; memory = m })
       go (i, place) (a, address) =
           let low : i < 2 ^ 32 = (let short : i < length (q .loads) = getElem?-short (q .loads) i (place .at) in omega (arith, h .roomLoads, load-depth)) in
           let serial : ℕ = after (oldest (q .nextLoad) (length (q .loads))) i in
-          let is : loadPlace q serial ≡ i = place-of-serial (oldest (q .nextLoad) (length (q .loads))) i (oldest-small (q .nextLoad) (length (q .loads))) low in (
+          let is : loadPlace q serial ≡ i =
+          place-of-serial (oldest (q .nextLoad) (length (q .loads))) i (oldest-small (q .nextLoad) (length (q .loads))) low in (
             serial,
             after-small (oldest (q .nextLoad) (length (q .loads))) i,
             inl
@@ -181,7 +193,8 @@ module _ (q : Contents) (m memory : List ℕ) (log : List LogEntry) (h : Holds q
       → wouldMove (record { queue = q; memory = m })
   store-moves pre s post log-is before unwritten =
       go (unfinished-queued stores loads stores-loads (turned (h .windows)) pre s post log-is unwritten)
-      (is-some (s .address) (and-left (isSome (s .address)) (isSome (s .word)) filled-it)) (is-some (s .word) (and-right (isSome (s .address)) (isSome (s .word)) filled-it))
+      (is-some (s .address) (and-left (isSome (s .address)) (isSome (s .word)) filled-it))
+      (is-some (s .word) (and-right (isSome (s .address)) (isSome (s .word)) filled-it))
     where
       filled-it : isSome (s .address) && isSome (s .word) ≡ true
       filled-it = all-middle complete pre post (ofStore s) (rw log-is at filled)
@@ -197,11 +210,13 @@ module _ (q : Contents) (m memory : List ℕ) (log : List LogEntry) (h : Holds q
       go (i, place) (a, address) (w, word) =
           let low : i < 2 ^ 32 = (let short : i < length (q .stores) = getElem?-short (q .stores) i (place .at) in omega (arith, h .roomStores, store-depth)) in
           let serial : ℕ = after (oldest (q .nextStore) (length (q .stores))) i in
-          let is : storePlace q serial ≡ i = place-of-serial (oldest (q .nextStore) (length (q .stores))) i (oldest-small (q .nextStore) (length (q .stores))) low in (
+          let is : storePlace q serial ≡ i = place-of-serial (oldest (q .nextStore) (length (q .stores))) i
+          (oldest-small (q .nextStore) (length (q .stores))) low in (
             serial,
             after-small (oldest (q .nextStore) (length (q .stores))) i,
             inr
-                (write-accepted q m serial (stores .remember (place .number) s) a w right (h .long) (ap (getElem? (q .stores)) is ∙ place .at) unwritten address word
+                (write-accepted q m serial (stores .remember (place .number) s) a w right (h .long) (ap (getElem? (q .stores)) is ∙ place .at)
+                unwritten address word
                 (before-queued (place .before′) (noLoadConflict a) (λ n l. refl) (loadsApart a))
                 (rw is (before-queued (place .before) (noStoreConflict a) (λ n r. refl) (storesApart a)))),
           )
@@ -210,11 +225,14 @@ module _ (q : Contents) (m memory : List ℕ) (log : List LogEntry) (h : Holds q
   pub undone-moves : (allOf isDone log ≡ true) ⊎ wouldMove (record { queue = q; memory = m })
   undone-moves = go (first-undone log)
     where
-      at : (pre : List LogEntry) (e : LogEntry) (post : List LogEntry) → log ≡ pre ++ e ∷ post → allOf isDone pre ≡ true → isDone e ≡ false → wouldMove (record { queue = q; memory = m })
+      at : (pre : List LogEntry) (e : LogEntry) (post : List LogEntry) → log ≡ pre ++ e ∷ post → allOf isDone pre ≡ true → isDone e ≡ false
+          → wouldMove (record { queue = q; memory = m })
       at pre (ofLoad l) post is before undone = load-moves pre l post is before undone
       at pre (ofStore s) post is before undone = store-moves pre s post is before undone
 
-      go : (allOf isDone log ≡ true) ⊎ ((pre : List LogEntry) × (e : LogEntry) × (post : List LogEntry) × (log ≡ pre ++ e ∷ post) × (allOf isDone pre ≡ true) × (isDone e ≡ false))
+      go : (allOf isDone log ≡ true)
+          ⊎ ((pre : List LogEntry) × (e : LogEntry) × (post : List LogEntry) × (log ≡ pre ++ e ∷ post) × (allOf isDone pre ≡ true)
+          × (isDone e ≡ false))
           → (allOf isDone log ≡ true) ⊎ wouldMove (record { queue = q; memory = m })
       go (inl h₁) = inl h₁
       go (inr (pre, e, post, is, before, undone)) = inr (at pre e post is before undone)
@@ -232,8 +250,10 @@ state-moves groups memory answered m st undone full = go (undone-moves (m .queue
     go : (allOf isDone (st .log) ≡ true) ⊎ wouldMove m → (someUnserved groups (told answered) ⊎ someUnwritten groups (told answered)) → wouldMove m
     go (inr moves) u = moves
     go (inl h) (inl fewer) =
-        let e : countWhere isServed (st .log) ≡ countWhere isLoad (accesses groups (told answered)) = done-served (st .log) h ∙ ap (countWhere isLoad) (st .seen .shape) in
+        let e : countWhere isServed (st .log) ≡ countWhere isLoad (accesses groups (told answered)) = done-served (st .log) h
+        ∙ ap (countWhere isLoad) (st .seen .shape) in
         absurd (omega (arith, st .seen .serves))
     go (inl h) (inr fewer) =
-        let e : countWhere isWritten (st .log) ≡ countWhere isStore (accesses groups (told answered)) = done-written (st .log) h ∙ ap (countWhere isStore) (st .seen .shape) in
+        let e : countWhere isWritten (st .log) ≡ countWhere isStore (accesses groups (told answered)) = done-written (st .log) h
+        ∙ ap (countWhere isStore) (st .seen .shape) in
         absurd (omega (arith, st .seen .writes))

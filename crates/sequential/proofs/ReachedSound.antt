@@ -35,7 +35,8 @@ holds-sound q m memory log h =
 
     loadsRight : allOf (loadRight words (length (q .stores))) (q .loads) ≡ true
     loadsRight =
-        all-weaken₂ (λ l. leb (l .before) (length (q .stores))) (λ l. addressRight words (l .address)) (loadRight words (length (q .stores))) (λ l s t. and-both s t) (q .loads)
+        all-weaken₂ (λ l. leb (l .before) (length (q .stores))) (λ l. addressRight words (l .address)) (loadRight words (length (q .stores)))
+        (λ l s t. and-both s t) (q .loads)
         (remembered-held loads stores loads-stores log (h .windows .ours) (h .windows .theirs))
         (before-queued (window-before loads stores loads-stores (h .windows .ours)) (λ l. addressRight words (l .address)) (λ n l. refl)
         (all-weaken (rightLoad words) (λ l. addressRight words (l .address))
@@ -43,7 +44,8 @@ holds-sound q m memory log h =
 
     storesRight : allOf (storeRight words (length (q .loads))) (q .stores) ≡ true
     storesRight =
-        all-weaken₂ (λ s. leb (s .before) (length (q .loads))) (λ s. addressRight words (s .address)) (storeRight words (length (q .loads))) (λ s t u. and-both t u) (q .stores)
+        all-weaken₂ (λ s. leb (s .before) (length (q .loads))) (λ s. addressRight words (s .address)) (storeRight words (length (q .loads)))
+        (λ s t u. and-both t u) (q .stores)
         (remembered-held stores loads stores-loads log (h .windows .theirs) (h .windows .ours))
         (before-queued (window-before stores loads stores-loads (h .windows .theirs)) (λ s. addressRight words (s .address)) (λ n s. refl)
         (all-weaken (rightStore words) (λ s. addressRight words (s .address)) (store-in-range words) (ownIn stores log) (h .rightStores)))

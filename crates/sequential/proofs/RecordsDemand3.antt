@@ -32,7 +32,8 @@ use Rattle.queue.specs.Ready.{ready, Readies}
 use Rattle.queue.specs.Parts.{queueOf, OpensFrame}
 use Rattle.queue.proofs.Refusals.{proper, need-proper, refusal-not-zero}
 use Rattle.sequential.specs.Calls.{Call, Activate, Give, Serve, Write, Take, Ready}
-use Rattle.sequential.specs.Answers.{Machine, Response, moveResponse, serveResponse, writeResponse, takeResponse, step, Answered, answers, machineAfter, machine}
+use Rattle.sequential.specs.Answers.{Machine, Response, moveResponse, serveResponse, writeResponse, takeResponse}
+use Rattle.sequential.specs.Answers.{step, Answered, answers, machineAfter, machine}
 use Rattle.sequential.specs.Records.{answeredWith, Hands, Runs, run-none, run-one, machineOf, OpenedRecord}
 use Rattle.sequential.specs.Records.{ServeCountedHands, ServeHands, ReadyIntoHands, ReadyHands}
 use Rattle.sequential.specs.Records.{RecordsDemand3, FramesDemand3, AlikeRecords, RecordsSound}
@@ -68,7 +69,8 @@ module _ (q : Queue) (m : List ℕ) where
   takes-same (refuse n) r e = refused-same e
   takes-same (accept t) r w = accepted-same m w
 
-  serves-same : (rule : Ruled Served) (lent left : Counts) (r : Outcome) → Serves q lent rule (withCounts r left) → Same (serveResponse (machineOf q m) rule) r m
+  serves-same : (rule : Ruled Served) (lent left : Counts) (r : Outcome) → Serves q lent rule (withCounts r left)
+      → Same (serveResponse (machineOf q m) rule) r m
   serves-same (refuse n) lent left r e = refused-same (ap (λ (x : HandedCounts). x .outcome) e)
   serves-same (accept s) lent left r w = record { number = sym (w .answer); value = sym (w .gives); queue = sym (w .holds); memory = refl }
 

@@ -61,7 +61,8 @@ hasNone none = true
 hasNone (some none) = true
 hasNone (some (some x)) = false
 
-fed-map : (c : RowCell) (P Q : List ℕ → Type 0) (f : List ℕ → List ℕ) → f [] ≡ [] → ((x : ℕ) (r : List ℕ) → f (x ∷ r) ≡ x ∷ f r) → ((r : List ℕ) → P r → Q (f r))
+fed-map : (c : RowCell) (P Q : List ℕ → Type 0) (f : List ℕ → List ℕ) → f [] ≡ [] → ((x : ℕ) (r : List ℕ) → f (x ∷ r) ≡ x ∷ f r)
+    → ((r : List ℕ) → P r → Q (f r))
     → (row : List ℕ) → fed c P row → fed c Q (f row)
 fed-map none P Q f z s w row h = w row h
 fed-map (some none) P Q f z s w row h = (rw (h .0) z, rw z at (w [] (h .1)))
@@ -69,13 +70,15 @@ fed-map (some (some x)) P Q f z s w row h = (f (h .0), rw (h .1) (s x (h .0)), w
 
 module _ (cell : LogEntry → RowCell) where
   -- an entry made anew with the same cell
-  pub row-same : (e e′ : LogEntry) → cell e ≡ cell e′ → (post pre : List LogEntry) (row : List ℕ) → Row cell (pre ++ e ∷ post) row → Row cell (pre ++ e′ ∷ post) row
+  pub row-same : (e e′ : LogEntry) → cell e ≡ cell e′ → (post pre : List LogEntry) (row : List ℕ) → Row cell (pre ++ e ∷ post) row
+      → Row cell (pre ++ e′ ∷ post) row
   row-same e e′ same post [] row h = rw same at h
   row-same e e′ same post (d ∷ pre) row h =
       fed-map (cell d) (Row cell (pre ++ e ∷ post)) (Row cell (pre ++ e′ ∷ post)) (λ r. r) refl (λ x r. refl) (λ r k. row-same e e′ same post pre r k) row h
 
   -- the first cell that waits gets the value that joins the row
-  pub row-fill : (e e′ : LogEntry) (x : ℕ) → cell e ≡ some none → cell e′ ≡ some (some x) → (post pre : List LogEntry) → allOf (λ d. not (lacking (cell d))) pre ≡ true
+  pub row-fill : (e e′ : LogEntry) (x : ℕ) → cell e ≡ some none → cell e′ ≡ some (some x) → (post pre : List LogEntry)
+      → allOf (λ d. not (lacking (cell d))) pre ≡ true
       → (row : List ℕ) → Row cell (pre ++ e ∷ post) row → Row cell (pre ++ e′ ∷ post) (row ++ x ∷ [])
   row-fill e e′ x waits filled post [] t row h = rw filled (start (rw waits at h))
     where
@@ -92,12 +95,14 @@ module _ (cell : LogEntry → RowCell) where
       go (some (some y)) l (r, is, k) rec = (r ++ x ∷ [], rw is, rec r k)
 
   -- entries that have nothing yet leave the row as it is
-  pub row-append : (new : List LogEntry) → allOf (λ d. hasNone (cell d)) new ≡ true → (es : List LogEntry) (row : List ℕ) → Row cell es row → Row cell (es ++ new) row
+  pub row-append : (new : List LogEntry) → allOf (λ d. hasNone (cell d)) new ≡ true → (es : List LogEntry) (row : List ℕ) → Row cell es row
+      → Row cell (es ++ new) row
   row-append new t [] row h = rw h (empty new t)
     where
       empty : (l : List LogEntry) → allOf (λ d. hasNone (cell d)) l ≡ true → Row cell l []
       empty [] u = refl
-      empty (d ∷ l) u = go (cell d) (and-left (hasNone (cell d)) (allOf (λ d. hasNone (cell d)) l) u) (empty l (and-right (hasNone (cell d)) (allOf (λ d. hasNone (cell d)) l) u))
+      empty (d ∷ l) u = go (cell d) (and-left (hasNone (cell d)) (allOf (λ d. hasNone (cell d)) l) u)
+          (empty l (and-right (hasNone (cell d)) (allOf (λ d. hasNone (cell d)) l) u))
         where
           go : (c : RowCell) → hasNone c ≡ true → Row cell l [] → fed c (Row cell l) []
           go none u₁ k = k
@@ -106,11 +111,13 @@ module _ (cell : LogEntry → RowCell) where
   row-append new t (d ∷ es) row h = fed-map (cell d) (Row cell es) (Row cell (es ++ new)) (λ r. r) refl (λ x r. refl) (λ r k. row-append new t es r k) row h
 
   -- a row that is as long as it has cells leaves none waiting
-  pub row-full : (es : List LogEntry) (row : List ℕ) → Row cell es row → length row ≡ countWhere (λ d. isSome (cell d)) es → allOf (λ d. not (lacking (cell d))) es ≡ true
+  pub row-full : (es : List LogEntry) (row : List ℕ) → Row cell es row → length row ≡ countWhere (λ d. isSome (cell d)) es
+      → allOf (λ d. not (lacking (cell d))) es ≡ true
   row-full [] row h e = refl
   row-full (d ∷ es) row h e = go (cell d) h e (λ r k l. row-full es r k l)
     where
-      go : (c : RowCell) → fed c (Row cell es) row → length row ≡ pick (isSome c) (suc (countWhere (λ d. isSome (cell d)) es)) (countWhere (λ d. isSome (cell d)) es)
+      go : (c : RowCell) → fed c (Row cell es) row
+          → length row ≡ pick (isSome c) (suc (countWhere (λ d. isSome (cell d)) es)) (countWhere (λ d. isSome (cell d)) es)
           → ((r : List ℕ) → Row cell es r → length r ≡ countWhere (λ d. isSome (cell d)) es → allOf (λ d. not (lacking (cell d))) es ≡ true)
           → not (lacking c) && allOf (λ d. not (lacking (cell d))) es ≡ true
       go none k l rec = rec row k l
@@ -118,14 +125,17 @@ module _ (cell : LogEntry → RowCell) where
       go (some (some x)) (r, is, k) l rec = let z : length row ≡ suc (length r) = ap length is in rec r k (omega arith)
 
 -- a row for each port: the port's first cell that waits gets the value, and the other ports' rows are as they were
-pub row-of-port : (cell : ℕ → LogEntry → RowCell) (e e′ : LogEntry) (x port : ℕ) (pre post : List LogEntry) → cell port e ≡ some none → cell port e′ ≡ some (some x)
+pub row-of-port : (cell : ℕ → LogEntry → RowCell) (e e′ : LogEntry) (x port : ℕ) (pre post : List LogEntry) → cell port e ≡ some none
+    → cell port e′ ≡ some (some x)
     → allOf (λ d. not (lacking (cell port d))) pre ≡ true → ((p : ℕ) → eqb port p ≡ false → cell p e ≡ cell p e′)
-    → (rows : ℕ → List ℕ) → ((p : ℕ) → Row (cell p) (pre ++ e ∷ post) (rows p)) → (p : ℕ) → Row (cell p) (pre ++ e′ ∷ post) (rows p ++ pick (eqb port p) (x ∷ []) [])
+    → (rows : ℕ → List ℕ) → ((p : ℕ) → Row (cell p) (pre ++ e ∷ post) (rows p)) → (p : ℕ)
+    → Row (cell p) (pre ++ e′ ∷ post) (rows p ++ pick (eqb port p) (x ∷ []) [])
 row-of-port cell e e′ x port pre post waits filled t other rows h p = go (eqb port p) refl
   where
     go : (b : Bool) → eqb port p ≡ b → Row (cell p) (pre ++ e′ ∷ post) (rows p ++ pick b (x ∷ []) [])
     go true same =
-        subst (λ (k : ℕ). Row (cell k) (pre ++ e′ ∷ post) (rows k ++ x ∷ [])) (eqb-true port p same) (row-fill (cell port) e e′ x waits filled post pre t (rows port) (h port))
+        subst (λ (k : ℕ). Row (cell k) (pre ++ e′ ∷ post) (rows k ++ x ∷ [])) (eqb-true port p same)
+        (row-fill (cell port) e e′ x waits filled post pre t (rows port) (h port))
     go false differs = rw (append-nil (rows p)) (row-same (cell p) e e′ (other p differs) post pre (rows p) (h p))
 
 -- no cell before waits, where no entry of the kind does
@@ -174,27 +184,33 @@ abbrev pub AllRows : List LogEntry → Rows → Type 0
 AllRows es rows = (kind : Argument) (port : ℕ) → Row (given kind port) es (rows kind port)
 
 pub rows-after-load : (l : Load) (es : List LogEntry) (rows : Rows) → AllRows (ofLoad l ∷ es) rows → AllRows es (usedUp LoadAddress (l .port) rows)
-rows-after-load l es rows h LoadAddress port = fed-used (l .port) port (l .address) (Row (given LoadAddress port) es) (rows LoadAddress port) (h LoadAddress port)
+rows-after-load l es rows h LoadAddress port = fed-used (l .port) port (l .address) (Row (given LoadAddress port) es) (rows LoadAddress port)
+    (h LoadAddress port)
 rows-after-load l es rows h StoreAddress port = h StoreAddress port
 rows-after-load l es rows h StoreData port = h StoreData port
 
-pub rows-after-store : (s : Store) (es : List LogEntry) (rows : Rows) → AllRows (ofStore s ∷ es) rows → AllRows es (usedUp StoreData (s .port) (usedUp StoreAddress (s .port) rows))
+pub rows-after-store : (s : Store) (es : List LogEntry) (rows : Rows) → AllRows (ofStore s ∷ es) rows
+    → AllRows es (usedUp StoreData (s .port) (usedUp StoreAddress (s .port) rows))
 rows-after-store s es rows h LoadAddress port = h LoadAddress port
-rows-after-store s es rows h StoreAddress port = fed-used (s .port) port (s .address) (Row (given StoreAddress port) es) (rows StoreAddress port) (h StoreAddress port)
+rows-after-store s es rows h StoreAddress port = fed-used (s .port) port (s .address) (Row (given StoreAddress port) es) (rows StoreAddress port)
+    (h StoreAddress port)
 rows-after-store s es rows h StoreData port = fed-used (s .port) port (s .word) (Row (given StoreData port) es) (rows StoreData port) (h StoreData port)
 
 -- what the plain run takes completes the entry
-pub load-fits : (l : Load) (es : List LogEntry) (rows : Rows) (filled : ℕ) → AllRows (ofLoad l ∷ es) rows → valueFits (l .address) (nextOf (rows LoadAddress (l .port)) filled)
+pub load-fits : (l : Load) (es : List LogEntry) (rows : Rows) (filled : ℕ) → AllRows (ofLoad l ∷ es) rows
+    → valueFits (l .address) (nextOf (rows LoadAddress (l .port)) filled)
 load-fits l es rows filled h =
     fed-fits (l .address) (Row (given LoadAddress (l .port)) es) (rows LoadAddress (l .port)) filled
     (rw (eqb-self (l .port)) at (h LoadAddress (l .port)))
 
-pub store-fits : (s : Store) (es : List LogEntry) (rows : Rows) (filled : ℕ) → AllRows (ofStore s ∷ es) rows → valueFits (s .address) (nextOf (rows StoreAddress (s .port)) filled)
+pub store-fits : (s : Store) (es : List LogEntry) (rows : Rows) (filled : ℕ) → AllRows (ofStore s ∷ es) rows
+    → valueFits (s .address) (nextOf (rows StoreAddress (s .port)) filled)
 store-fits s es rows filled h =
     fed-fits (s .address) (Row (given StoreAddress (s .port)) es) (rows StoreAddress (s .port)) filled
     (rw (eqb-self (s .port)) at (h StoreAddress (s .port)))
 
-pub word-fits : (s : Store) (es : List LogEntry) (rows : Rows) (filled : ℕ) → AllRows (ofStore s ∷ es) rows → valueFits (s .word) (nextOf (rows StoreData (s .port)) filled)
+pub word-fits : (s : Store) (es : List LogEntry) (rows : Rows) (filled : ℕ) → AllRows (ofStore s ∷ es) rows
+    → valueFits (s .word) (nextOf (rows StoreData (s .port)) filled)
 word-fits s es rows filled h =
     fed-fits (s .word) (Row (given StoreData (s .port)) es) (rows StoreData (s .port)) filled
     (rw (eqb-self (s .port)) at (h StoreData (s .port)))

@@ -33,7 +33,8 @@ use Rattle.sequential.proofs.Steps.Take.{take-keeps}
 
 -- ---- the opening
 
-pub limits-opened : (groups : List GroupPairs) (loadDepth storeDepth first words : ℕ) (q : Contents) → openQueue groups loadDepth storeDepth first words ≡ accept q
+pub limits-opened : (groups : List GroupPairs) (loadDepth storeDepth first words : ℕ) (q : Contents)
+    → openQueue groups loadDepth storeDepth first words ≡ accept q
     → Limits groups words loadDepth storeDepth × (opened groups loadDepth storeDepth first words ≡ q)
 unfolding openQueue
 limits-opened groups loadDepth storeDepth first words q h₀ =
@@ -67,14 +68,16 @@ opened-state groups memory loadDepth storeDepth first limits = record {
   seen = record { shape = refl; rows = λ kind port. refl; takes = λ port. refl; serves = refl; writes = refl };
 }
 
-pub opening-limits : {groups : List GroupPairs} {memory : List ℕ} {m : Machine} → (o : Opening groups memory m) → Limits groups (length memory) (o .loadDepth) (o .storeDepth)
+pub opening-limits : {groups : List GroupPairs} {memory : List ℕ} {m : Machine} → (o : Opening groups memory m)
+    → Limits groups (length memory) (o .loadDepth) (o .storeDepth)
 opening-limits {groups} {memory} {m} o = limits-opened groups (o .loadDepth) (o .storeDepth) (o .first) (length memory) (m .queue) (o .accepted) .0
 
 pub opening-state : {groups : List GroupPairs} {memory : List ℕ} {m : Machine} → Opening groups memory m → Invariant groups memory [] m
 opening-state {groups} {memory} {m} o =
     let (limits, queue-is) = limits-opened groups (o .loadDepth) (o .storeDepth) (o .first) (length memory) (m .queue) (o .accepted) in
     let memory-is : memory ≡ m .memory = sym (o .lent) in
-    subst (Invariant groups memory []) (λ i. record { queue = queue-is i; memory = memory-is i }) (opened-state groups memory (o .loadDepth) (o .storeDepth) (o .first) limits)
+    subst (Invariant groups memory []) (λ i. record { queue = queue-is i; memory = memory-is i })
+    (opened-state groups memory (o .loadDepth) (o .storeDepth) (o .first) limits)
 
 -- ---- a call
 
@@ -87,7 +90,8 @@ module _ (groups : List GroupPairs) (memory : List ℕ) (answered : List Answere
   unfolding After
   refused c n e = record { log = st .log; table = st .table; holds = st .holds; seen = seen-refused groups answered c n none e (st .log) (st .seen) }
 
-  pub step-keeps : (c : Call) → Invariant groups memory (answered ++ record { call = c; number = step m c .number; value = step m c .value } ∷ []) (step m c .machine)
+  pub step-keeps : (c : Call)
+      → Invariant groups memory (answered ++ record { call = c; number = step m c .number; value = step m c .value } ∷ []) (step m c .machine)
   unfolding After
   step-keeps (Activate g) = go (activate (m .queue) g) refl
     where
@@ -115,7 +119,13 @@ module _ (groups : List GroupPairs) (memory : List ℕ) (answered : List Answere
       go (refuse n) e = refused (Take p) n (refusal-not-zero (takeRule (m .queue) p) n (take-proper (m .queue) p) e)
       go (accept r) e = take-keeps groups memory answered m st p r e
   step-keeps (Ready kind run) =
-      record { log = st .log; table = st .table; holds = st .holds; seen = seen-ready groups answered kind run (number (ready kind (m .queue) run)) (st .log) (st .seen) }
+      record {
+        log = st .log;
+        table = st .table;
+        holds = st .holds;
+        seen = seen-ready groups answered kind run (number (ready kind (m .queue) run))
+            (st .log) (st .seen);
+      }
 
 -- ---- a list of calls
 
@@ -130,5 +140,6 @@ run-keeps groups memory answered m st (c ∷ calls) =
     a = record { call = c; number = step m c .number; value = step m c .value }
 
 -- the state that a list of calls leads to from an opening
-pub reached : {groups : List GroupPairs} {memory : List ℕ} {m : Machine} → Opening groups memory m → (calls : List Call) → Invariant groups memory (answers m calls) (machineAfter m calls)
+pub reached : {groups : List GroupPairs} {memory : List ℕ} {m : Machine} → Opening groups memory m → (calls : List Call)
+    → Invariant groups memory (answers m calls) (machineAfter m calls)
 reached {groups} {memory} {m} o calls = run-keeps groups memory [] m (opening-state o) calls

@@ -56,7 +56,8 @@ module _ (q : Queue) (m : List ℕ) where
   abbrev Packed : Response → Type 0
   Packed s = contentsOf (recordOf (q .frame .table) (s .machine .queue)) ≡ s .machine .queue
 
-  moves-next : (rule : Ruled Contents) → Packed (moveResponse (machineOf q m) rule) → Next q (moveResponse (machineOf q m) rule) (λ r left. Moves q rule r × (left ≡ m))
+  moves-next : (rule : Ruled Contents) → Packed (moveResponse (machineOf q m) rule)
+      → Next q (moveResponse (machineOf q m) rule) (λ r left. Moves q rule r × (left ≡ m))
   moves-next (refuse n) p = record { outcome = answered n q; left = m; given = (refl, refl); kept = inl refl }
   moves-next (accept c) p = record {
     outcome = record { answer = 0; value = Nothing; queue = recordOf (q .frame .table) c };
@@ -65,7 +66,8 @@ module _ (q : Queue) (m : List ℕ) where
     kept = inr refl;
   }
 
-  takes-next : (rule : Ruled Taken) → Packed (takeResponse (machineOf q m) rule) → Next q (takeResponse (machineOf q m) rule) (λ r left. Takes q rule r × (left ≡ m))
+  takes-next : (rule : Ruled Taken) → Packed (takeResponse (machineOf q m) rule)
+      → Next q (takeResponse (machineOf q m) rule) (λ r left. Takes q rule r × (left ≡ m))
   takes-next (refuse n) p = record { outcome = answered n q; left = m; given = (refl, refl); kept = inl refl }
   takes-next (accept t) p = record {
     outcome = record { answer = 0; value = Word (t .value); queue = recordOf (q .frame .table) (t .queue) };

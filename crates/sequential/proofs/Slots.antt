@@ -62,7 +62,8 @@ loadAddresses = record {
     other p (ofStore s) h = refl
 
 -- where no entry of the kind stands, a store's slots have no cell
-pub store-other : (kind : Argument) → ((p : ℕ) (l : Load) → given kind p (ofLoad l) ≡ none) → (p : ℕ) (e : LogEntry) → stores .own e ≡ none → given kind p e ≡ none
+pub store-other : (kind : Argument) → ((p : ℕ) (l : Load) → given kind p (ofLoad l) ≡ none) → (p : ℕ) (e : LogEntry) → stores .own e ≡ none
+    → given kind p e ≡ none
 store-other kind h p (ofLoad l) e = h p l
 store-other kind h p (ofStore s) e = cc
 

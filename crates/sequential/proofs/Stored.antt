@@ -145,7 +145,7 @@ abbrev pub recordOf : Table → Contents → Queue
 recordOf table c = record {
   frame = record {
     table = table;
-    words = c .memoryLength;
+    «memory_length» = c .memoryLength;
     loads = record { depth = c .loadDepth; count = length (c .loads); next = c .nextLoad };
     stores = record { depth = c .storeDepth; count = length (c .stores); next = c .nextStore };
   };

@@ -46,7 +46,8 @@ pub record Windows {A B : Type 0} (K : LogKind A) (K′ : LogKind B) (log : List
   pub ours : Window K log gone gone′ held
   pub theirs : Window K′ log gone′ gone held′
 
-pub turned : {A B : Type 0} {K : LogKind A} {K′ : LogKind B} {log : List LogEntry} {held : List A} {held′ : List B} → Windows K K′ log held held′ → Windows K′ K log held′ held
+pub turned : {A B : Type 0} {K : LogKind A} {K′ : LogKind B} {log : List LogEntry} {held : List A} {held′ : List B} → Windows K K′ log held held′
+    → Windows K′ K log held′ held
 turned w = record { gone = w .gone′; gone′ = w .gone; ours = w .theirs; theirs = w .ours }
 
 -- The entries of a kind in the first part of the log, beside those of them that are still queued: the others are finished.
@@ -73,7 +74,8 @@ pub record Located {A B : Type 0} (K : LogKind A) (K′ : LogKind B) (log : List
 
 -- ---- what a test says of the queue's part it says of the log's, and back
 
-module _ {A : Type 0} {K : LogKind A} {queued : List A} {pre : List LogEntry} (b : Before K queued pre) (p : A → Bool) (blind : (n : ℕ) (a : A) → p (K .remember n a) ≡ p a) where
+module _ {A : Type 0} {K : LogKind A} {queued : List A} {pre : List LogEntry} (b : Before K queued pre) (p : A → Bool) (blind : (n : ℕ) (a : A)
+    → p (K .remember n a) ≡ p a) where
   -- the queue's part, for a test that does not look at remembered numbers
   queued-all : allOf p queued ≡ allOf (λ x. p (x .entry)) (b .rest)
   queued-all = rw (b .shows) (all-map p (λ x. p (x .entry)) (remembering K (b .out)) (λ x. blind (x .before - b .out) (x .entry)) (b .rest))
@@ -89,7 +91,8 @@ module _ {A : Type 0} {K : LogKind A} {queued : List A} {pre : List LogEntry} (b
   module _ (right : A → Bool) (w : (a : A) → right a ≡ true → K .finished a ≡ true → p a ≡ true) (h : allOf right (ownIn K pre) ≡ true) where
     pub past-passes : allOf p (map placedEntry (b .past)) ≡ true
     past-passes =
-        all-weaken₂ right (K .finished) p w (map placedEntry (b .past)) (all-left right (map placedEntry (b .past)) (map placedEntry (b .rest)) (rw (b .parts) at h))
+        all-weaken₂ right (K .finished) p w (map placedEntry (b .past))
+        (all-left right (map placedEntry (b .past)) (map placedEntry (b .rest)) (rw (b .parts) at h))
         (all-map (K .finished) (isOver K) placedEntry (λ x. refl) (b .past) ∙ b .ended)
 
     -- from the queue to the log
@@ -102,7 +105,8 @@ module _ {A B : Type 0} (K : LogKind A) (K′ : LogKind B) (opposite : Opposite 
   others-length [] = refl
   others-length (e ∷ es) = go (K .own e) (K′ .own e) (opposite e) (others-length es)
     where
-      go : (o : Option A) (o′ : Option B) → isSome o ≡ not (isSome o′) → others K es ≡ length (ownIn K′ es) → counting o (others K es) ≡ length (consOption o′ (ownIn K′ es))
+      go : (o : Option A) (o′ : Option B) → isSome o ≡ not (isSome o′) → others K es ≡ length (ownIn K′ es)
+          → counting o (others K es) ≡ length (consOption o′ (ownIn K′ es))
       go none none t h = false-true t
       go none (some b) t h = ap suc h
       go (some a) none t h = h
@@ -130,10 +134,12 @@ module _ {A B : Type 0} (K : LogKind A) (K′ : LogKind B) (opposite : Opposite 
     side-is : (a : A) → side K 0 (pre ++ K .put a ∷ post) ≡ w .old ++ (near ++ place (others K pre) a ∷ side K (others K pre) post)
     side-is a =
         side-append K 0 pre (K .put a ∷ post)
-        ∙ rw (zero-add (others K pre), side-put (others K pre) a post, pre-is) (append-assoc (w .old) near (place (others K pre) a ∷ side K (others K pre) post))
+        ∙ rw (zero-add (others K pre), side-put (others K pre) a post, pre-is)
+        (append-assoc (w .old) near (place (others K pre) a ∷ side K (others K pre) post))
 
     live-is : w .live ≡ near ++ place (others K pre) it ∷ side K (others K pre) post
-    live-is = append-cancel-left (w .old) (w .live) (near ++ place (others K pre) it ∷ side K (others K pre) post) (sym (w .parts) ∙ ap (side K 0) log-is ∙ side-is it)
+    live-is = append-cancel-left (w .old) (w .live) (near ++ place (others K pre) it ∷ side K (others K pre) post) (sym (w .parts)
+        ∙ ap (side K 0) log-is ∙ side-is it)
 
     held-is : held ≡ map (remembering K gone′) near ++ remembering K gone′ (place (others K pre) it) ∷ map (remembering K gone′) (side K (others K pre) post)
     held-is = rw (w .shows, live-is) (map-append (remembering K gone′) near (place (others K pre) it ∷ side K (others K pre) post))
@@ -142,7 +148,9 @@ module _ {A B : Type 0} (K : LogKind A) (K′ : LogKind B) (opposite : Opposite 
     i-is = length-map near (remembering K gone′)
 
     located-at : getElem? held (length near) ≡ some (remembering K gone′ (place (others K pre) it))
-    located-at = rw (held-is, ← i-is) (getElem?-seam (map (remembering K gone′) near) (remembering K gone′ (place (others K pre) it)) (map (remembering K gone′) (side K (others K pre) post)))
+    located-at = rw (held-is, ← i-is)
+        (getElem?-seam (map (remembering K gone′) near) (remembering K gone′ (place (others K pre) it))
+        (map (remembering K gone′) (side K (others K pre) post)))
 
     located-before : Before K (take (length near) held) pre
     located-before = record {
@@ -151,7 +159,8 @@ module _ {A B : Type 0} (K : LogKind A) (K′ : LogKind B) (opposite : Opposite 
       rest = near;
       parts = sym (map-side K 0 pre) ∙ ap (map placedEntry) pre-is ∙ map-append placedEntry (w .old) near;
       ended = w .ended;
-      shows = rw held-is (take-at (map (remembering K gone′) near) (remembering K gone′ (place (others K pre) it) ∷ map (remembering K gone′) (side K (others K pre) post)) (length near) i-is);
+      shows = rw held-is (take-at (map (remembering K gone′) near)
+          (remembering K gone′ (place (others K pre) it) ∷ map (remembering K gone′) (side K (others K pre) post)) (length near) i-is);
     }
 
     -- the other side's entries of the first part
@@ -167,19 +176,23 @@ module _ {A B : Type 0} (K : LogKind A) (K′ : LogKind B) (opposite : Opposite 
       out = gone;
       past = take (others K pre) (w′ .old);
       rest = take (others K pre - gone′) (w′ .live);
-      parts = sym (map-side K′ 0 pre) ∙ ap (map placedEntry) side′-pre ∙ map-append placedEntry (take (others K pre) (w′ .old)) (take (others K pre - gone′) (w′ .live));
+      parts = sym (map-side K′ 0 pre) ∙ ap (map placedEntry) side′-pre
+          ∙ map-append placedEntry (take (others K pre) (w′ .old)) (take (others K pre - gone′) (w′ .live));
       ended = all-take (isOver K′) (others K pre) (w′ .old) (w′ .ended);
       shows = rw (w′ .shows) (take-map (remembering K′ gone) (others K pre - gone′) (w′ .live));
     }
 
     updated : (f : A → A) → ((n : ℕ) (a : A) → f (K .remember n a) ≡ K .remember n (f a))
-        → updateAt f (length (map (remembering K gone′) near)) (map (remembering K gone′) near ++ remembering K gone′ (place (others K pre) it) ∷ map (remembering K gone′) (side K (others K pre) post))
+        → updateAt f (length (map (remembering K gone′) near))
+        (map (remembering K gone′) near ++ remembering K gone′ (place (others K pre) it) ∷ map (remembering K gone′) (side K (others K pre) post))
         ≡ map (remembering K gone′) near ++ remembering K gone′ (place (others K pre) (f it)) ∷ map (remembering K gone′) (side K (others K pre) post)
     updated f blind =
-        updateAt-seam f (map (remembering K gone′) near) (remembering K gone′ (place (others K pre) it)) (map (remembering K gone′) (side K (others K pre) post))
+        updateAt-seam f (map (remembering K gone′) near) (remembering K gone′ (place (others K pre) it))
+        (map (remembering K gone′) (side K (others K pre) post))
         ∙ rw (blind (others K pre - gone′) it)
 
-    located-anew : (f : A → A) → ((n : ℕ) (a : A) → f (K .remember n a) ≡ K .remember n (f a)) → Windows K K′ (pre ++ K .put (f it) ∷ post) (updateAt f (length near) held) held′
+    located-anew : (f : A → A) → ((n : ℕ) (a : A) → f (K .remember n a) ≡ K .remember n (f a))
+        → Windows K K′ (pre ++ K .put (f it) ∷ post) (updateAt f (length near) held) held′
     located-anew f blind = record {
       gone = gone;
       gone′ = gone′;
@@ -226,17 +239,21 @@ module _ {A B : Type 0} (K : LogKind A) (K′ : LogKind B) (opposite : Opposite 
       at-place y (near, far, e, l) =
           at-log near far y e l (side-split K 0 log (w .ours .old ++ near) y far (w .ours .parts ∙ rw e (sym (append-assoc (w .ours .old) near (y ∷ far)))))
 
-      at-live : (y : Placed A) × (getElem? (w .ours .live) i ≡ some y) → (pre : List LogEntry) × (it : A) × (post : List LogEntry) × Located K K′ log held held′ i pre it post
+      at-live : (y : Placed A) × (getElem? (w .ours .live) i ≡ some y) → (pre : List LogEntry) × (it : A) × (post : List LogEntry)
+          × Located K K′ log held held′ i pre it post
       at-live (y, e) = at-place y (getElem?-split (w .ours .live) i e)
 
   -- an unfinished entry of the log has a place in the queue
-  pub unfinished-queued : {log : List LogEntry} {held : List A} {held′ : List B} → Windows K K′ log held held′ → (pre : List LogEntry) (it : A) (post : List LogEntry)
+  pub unfinished-queued : {log : List LogEntry} {held : List A} {held′ : List B} → Windows K K′ log held held′
+      → (pre : List LogEntry) (it : A) (post : List LogEntry)
       → log ≡ pre ++ K .put it ∷ post → K .finished it ≡ false → (i : ℕ) × Located K K′ log held held′ i pre it post
   unfinished-queued {log} {held} {held′} w pre it post log-is f =
-      go (failing-behind (isOver K) (side K 0 pre) (place (others K pre) it) (side K (others K pre) post) (w .ours .old) (w .ours .live) parts (w .ours .ended) f)
+      go (failing-behind (isOver K) (side K 0 pre) (place (others K pre) it) (side K (others K pre) post) (w .ours .old) (w .ours .live) parts
+      (w .ours .ended) f)
     where
       parts : side K 0 pre ++ place (others K pre) it ∷ side K (others K pre) post ≡ w .ours .old ++ w .ours .live
-      parts = sym (side-append K 0 pre (K .put it ∷ post) ∙ rw (zero-add (others K pre), side-put (others K pre) it post)) ∙ ap (side K 0) (sym log-is) ∙ w .ours .parts
+      parts = sym (side-append K 0 pre (K .put it ∷ post) ∙ rw (zero-add (others K pre), side-put (others K pre) it post))
+          ∙ ap (side K 0) (sym log-is) ∙ w .ours .parts
 
       go : (near : List (Placed A)) × (side K 0 pre ≡ w .ours .old ++ near) → (i : ℕ) × Located K K′ log held held′ i pre it post
       go (near, pre-is) = (length near, located pre post it log-is (w .ours) (w .theirs) near pre-is)
@@ -267,7 +284,8 @@ module _ {A B : Type 0} (K : LogKind A) (K′ : LogKind B) (opposite : Opposite 
       rw (w .shows)
       (all-map (λ a. leb (K .remembered a) (length held′)) (λ x. leb (x .before - gone′) (length held′)) (remembering K gone′)
       (λ x. rw (K .remembered-remember (x .before - gone′) (x .entry))) (w .live)
-      ∙ all-weaken (λ x. leb (x .before) (others K log)) (λ x. leb (x .before - gone′) (length held′)) lower (w .live) (all-right (λ x. leb (x .before) (others K log)) (w .old) (w .live) known))
+      ∙ all-weaken (λ x. leb (x .before) (others K log)) (λ x. leb (x .before - gone′) (length held′)) lower (w .live)
+      (all-right (λ x. leb (x .before) (others K log)) (w .old) (w .live) known))
     where
       known : allOf (λ x. leb (x .before) (others K log)) (w .old ++ w .live) ≡ true
       known = rw (← w .parts, ← zero-add (others K log)) (side-before K 0 log)
@@ -284,7 +302,8 @@ module _ {A B : Type 0} (K : LogKind A) (K′ : LogKind B) (opposite : Opposite 
   window-append log {gone} {gone′} {held} {held′} w w′ new = record {
     old = w .old;
     live = w .live ++ side K (gone′ + length held′) new;
-    parts = side-append K 0 log new ∙ rw (zero-add (others K log), others-queued log w′, w .parts) (append-assoc (w .old) (w .live) (side K (gone′ + length held′) new));
+    parts = side-append K 0 log new
+        ∙ rw (zero-add (others K log), others-queued log w′, w .parts) (append-assoc (w .old) (w .live) (side K (gone′ + length held′) new));
     many = w .many;
     ended = w .ended;
     shows = rw (w .shows) (sym (map-append (remembering K gone′) (w .live) (side K (gone′ + length held′) new)));
@@ -302,11 +321,17 @@ module _ {A B : Type 0} (K : LogKind A) (K′ : LogKind B) (opposite : Opposite 
         ∙ sym (append-assoc (w .old) (frontWhile (isOver K) (w .live)) (afterWhile (isOver K) (w .live)));
     many =
         length-append (w .old) (frontWhile (isOver K) (w .live))
-        ∙ rw (w .many, w .shows, length-frontWhile-map (K .finished) (isOver K) (remembering K out) (λ x. K .finished-remember (x .before - out) (x .entry)) (w .live));
+        ∙ rw (
+          w .many,
+          w .shows,
+          length-frontWhile-map (K .finished) (isOver K) (remembering K out)
+              (λ x. K .finished-remember (x .before - out) (x .entry)) (w .live),
+        );
     ended = all-join (isOver K) (w .old) (frontWhile (isOver K) (w .live)) (w .ended) (all-frontWhile (isOver K) (w .live));
     shows =
         rw (w .shows, afterWhile-map (K .finished) (isOver K) (remembering K out) (λ x. K .finished-remember (x .before - out) (x .entry)) (w .live))
-        (map-map (leave j) (remembering K out) (afterWhile (isOver K) (w .live)) ∙ map-same (λ x. leave j (remembering K out x)) (remembering K (out + j)) lower (afterWhile (isOver K) (w .live)));
+        (map-map (leave j) (remembering K out) (afterWhile (isOver K) (w .live))
+        ∙ map-same (λ x. leave j (remembering K out x)) (remembering K (out + j)) lower (afterWhile (isOver K) (w .live)));
   }
     where
       lower : (x : Placed A) → leave j (remembering K out x) ≡ remembering K (out + j) x

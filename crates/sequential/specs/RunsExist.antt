@@ -49,7 +49,7 @@ pub record StoredEntries (l : List ℕ) : Type 0 where
   pub numbers : allOf (bitsFit 64) l ≡ true
 
 pub record Stored (q : Queue) : Type 0 where
-  pub words : q .frame .words < 2 ^ 16
+  pub words : q .frame .«memory_length» < 2 ^ 16
   pub loads : StoredSide (q .frame .loads)
   pub stores : StoredSide (q .frame .stores)
   pub loadEntries : StoredEntries (q .«load_entries»)

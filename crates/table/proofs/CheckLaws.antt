@@ -114,7 +114,8 @@ pub count-above : (low : ℕ) (l : List Pair) (o j : ℕ) → Rising low l → o
 count-above low [] o j r h k = absurd (omega arith)
 count-above low (p ∷ ps) zero j r h k = rw (le-leb (p .offset) j k) (omega arith)
 count-above low (p ∷ ps) (suc o) j r h k =
-    rw (le-leb (p .offset) j (le-trans (rising-least (p .offset) ps o (r .1) (omega arith)) k)) (omega (arith, count-above (p .offset) ps o j (r .1) (omega arith) k))
+    rw (le-leb (p .offset) j (le-trans (rising-least (p .offset) ps o (r .1) (omega arith)) k))
+    (omega (arith, count-above (p .offset) ps o j (r .1) (omega arith) k))
 
 -- a store's offset agrees where not more than it come before, and, unless it is 0, more than one less
 pub agrees-more : (o n : ℕ) → ltb o n ≡ true → false ≡ eqb o n
@@ -204,11 +205,15 @@ module _ {rule : ℕ → ℕ → ℕ → Bool} {seen : List Bool} {l : List Pair
 pub rising-checked : (stores low i : ℕ) (seen : List Bool) (l : List Pair) → pairsFault (loadRule stores) low i seen l ≡ 0 → Rising low l
 unfolding pairsFault
 rising-checked stores low i seen [] e = tt
-rising-checked stores low i seen (p ∷ ps) e = go (pairFault (loadRule stores low i (p .offset)) seen (p .port)) refl (λ d. rising-checked stores (p .offset) (suc i) (set seen (p .port) true) ps d) e
+rising-checked stores low i seen (p ∷ ps) e = go (pairFault (loadRule stores low i (p .offset)) seen (p .port)) refl
+    (λ d. rising-checked stores (p .offset) (suc i) (set seen (p .port) true) ps d) e
   where
-    go : (n : ℕ) → pairFault (loadRule stores low i (p .offset)) seen (p .port) ≡ n → (pairsFault (loadRule stores) (p .offset) (suc i) (set seen (p .port) true) ps ≡ 0 → Rising (p .offset) ps) → firstFault n (pairsFault (loadRule stores) (p .offset) (suc i) (set seen (p .port) true) ps) ≡ 0 → (low ≤ p .offset) × Rising (p .offset) ps
+    go : (n : ℕ) → pairFault (loadRule stores low i (p .offset)) seen (p .port) ≡ n
+        → (pairsFault (loadRule stores) (p .offset) (suc i) (set seen (p .port) true) ps ≡ 0 → Rising (p .offset) ps)
+        → firstFault n (pairsFault (loadRule stores) (p .offset) (suc i) (set seen (p .port) true) ps) ≡ 0 → (low ≤ p .offset) × Rising (p .offset) ps
     go zero f rest d = (leb-true _ _ (and-left _ _ (fault-none _ seen (p .port) f .0)), rest d)
-    go (suc n) f rest d = let q = or-else-some (suc n) (pairsFault (loadRule stores) (p .offset) (suc i) (set seen (p .port) true) ps) (λ z. omega arith) in absurd (omega arith)
+    go (suc n) f rest d = let q = or-else-some (suc n) (pairsFault (loadRule stores) (p .offset) (suc i) (set seen (p .port) true) ps)
+        (λ z. omega arith) in absurd (omega arith)
 
 -- ---- checking a group
 pub counts-few : (a b : ℕ) → countsRight a b ≡ true → (a ≤ 16) × (b ≤ 16)
@@ -222,11 +227,13 @@ module _ (ls ss : List ℕ) (g : Group) (seen : Seen) where
   group-counts e = rw (view-length ls (g .loads), view-length ss (g .stores), e)
 
   module _ (right : countsRight (g .loads .count) (g .stores .count) ≡ true) where
-    pub group-loads : {n : ℕ} → n ≡ pairsFault (loadRule (g .stores .count)) 0 0 (seen .loads) (listOf ls (g .loads)) → (n ≡ 0 → ⊥) → n ≡ groupFault seen (pairsOf ls ss g)
+    pub group-loads : {n : ℕ} → n ≡ pairsFault (loadRule (g .stores .count)) 0 0 (seen .loads) (listOf ls (g .loads)) → (n ≡ 0 → ⊥)
+        → n ≡ groupFault seen (pairsOf ls ss g)
     unfolding groupFault
     group-loads {n} e some = rw (view-length ls (g .loads), view-length ss (g .stores), right, ← e) (sym (or-else-some n _ some))
 
-    pub group-stores : {n : ℕ} → pairsFault (loadRule (g .stores .count)) 0 0 (seen .loads) (listOf ls (g .loads)) ≡ 0 → n ≡ pairsFault (storeRule (listOf ls (g .loads))) 0 0 (seen .stores) (listOf ss (g .stores)) → n ≡ groupFault seen (pairsOf ls ss g)
+    pub group-stores : {n : ℕ} → pairsFault (loadRule (g .stores .count)) 0 0 (seen .loads) (listOf ls (g .loads)) ≡ 0
+        → n ≡ pairsFault (storeRule (listOf ls (g .loads))) 0 0 (seen .stores) (listOf ss (g .stores)) → n ≡ groupFault seen (pairsOf ls ss g)
     unfolding groupFault
     group-stores d e = rw (view-length ls (g .loads), view-length ss (g .stores), right, d) e
 
@@ -291,6 +298,14 @@ module _ (t : Table) where
   table-groups e n d = rw (groups-size, e) d
 
 -- a right offset is at most 16
-pub rule-small : (storing : Bool) (stores : ℕ) (places : List ℕ) (loads : Span) (low i offset : ℕ) → RuleRight storing stores places loads → ruleOf storing stores (listOf places loads) low i offset ≡ true → offset ≤ 16
-rule-small true stores places loads low i offset w e = omega (arith, eqb-true offset (countWhere (beforeStore i) (listOf places loads)) e, count-most (beforeStore i) (listOf places loads), view-length places loads, w .few)
+pub rule-small : (storing : Bool) (stores : ℕ) (places : List ℕ) (loads : Span) (low i offset : ℕ) → RuleRight storing stores places loads
+    → ruleOf storing stores (listOf places loads) low i offset ≡ true → offset ≤ 16
+rule-small true stores places loads low i offset w e =
+    omega (
+      arith,
+      eqb-true offset (countWhere (beforeStore i) (listOf places loads)) e,
+      count-most (beforeStore i) (listOf places loads),
+      view-length places loads,
+      w .few,
+    )
 rule-small false stores places loads low i offset w e = omega (arith, leb-true offset stores (and-right (leb low offset) _ e), w .few-stores)

@@ -51,7 +51,8 @@ between-rest : (j low top : ℕ) (ls : List Pair) → Between low top ls → Bet
 between-rest j low top [] b = tt
 between-rest j low top (p ∷ ps) b = go (leb (p .offset) j) refl (between-rest j (p .offset) top ps (b .2))
   where
-    go : (t : Bool) → leb (p .offset) j ≡ t → Between (suc j) top (afterWhile (beforeStore j) ps) → Between (suc j) top (pick t (afterWhile (beforeStore j) ps) (p ∷ ps))
+    go : (t : Bool) → leb (p .offset) j ≡ t → Between (suc j) top (afterWhile (beforeStore j) ps)
+        → Between (suc j) top (pick t (afterWhile (beforeStore j) ps) (p ∷ ps))
     go true e r = r
     go false e r = (leb-false (p .offset) j e, b .1, b .2)
 
@@ -62,8 +63,10 @@ loads-from j ls [] b =
 loads-from j ls (s ∷ ss) b =
     let e : j + suc (length ss) ≡ suc j + length ss = omega arith in
     let b′ : Between j (suc j + length ss) ls = rw e at b in
-    loads-first j (frontWhile (beforeStore j) ls) (store (s .port) ∷ orderFrom (suc j) (afterWhile (beforeStore j) ls) ss) (between-while j j (suc j + length ss) ls (omega arith) b′)
-    ∙ ap (λ (t : List Pair). frontWhile (beforeStore j) ls ++ t) (loads-from (suc j) (afterWhile (beforeStore j) ls) ss (between-rest j j (suc j + length ss) ls b′))
+    loads-first j (frontWhile (beforeStore j) ls) (store (s .port) ∷ orderFrom (suc j) (afterWhile (beforeStore j) ls) ss)
+    (between-while j j (suc j + length ss) ls (omega arith) b′)
+    ∙ ap (λ (t : List Pair). frontWhile (beforeStore j) ls ++ t)
+    (loads-from (suc j) (afterWhile (beforeStore j) ls) ss (between-rest j j (suc j + length ss) ls b′))
     ∙ frontWhile-afterWhile (beforeStore j) ls
 
 -- ---- stores
@@ -74,12 +77,15 @@ Agree passed j ls [] = Unit {0}
 Agree passed j ls (s ∷ ss) = (s .offset ≡ passed + countWhere (beforeStore j) ls) × Agree passed (suc j) ls ss
 
 -- loads before store j are before each later one
-count-while : (j i : ℕ) (ls : List Pair) → j ≤ i → countWhere (beforeStore i) ls ≡ length (frontWhile (beforeStore j) ls) + countWhere (beforeStore i) (afterWhile (beforeStore j) ls)
+count-while : (j i : ℕ) (ls : List Pair) → j ≤ i
+    → countWhere (beforeStore i) ls ≡ length (frontWhile (beforeStore j) ls) + countWhere (beforeStore i) (afterWhile (beforeStore j) ls)
 count-while j i [] h = refl
 count-while j i (p ∷ ps) h = go (leb (p .offset) j) refl (count-while j i ps h)
   where
-    go : (t : Bool) → leb (p .offset) j ≡ t → countWhere (beforeStore i) ps ≡ length (frontWhile (beforeStore j) ps) + countWhere (beforeStore i) (afterWhile (beforeStore j) ps)
-        → countWhere (beforeStore i) (p ∷ ps) ≡ length (pick t (p ∷ frontWhile (beforeStore j) ps) []) + countWhere (beforeStore i) (pick t (afterWhile (beforeStore j) ps) (p ∷ ps))
+    go : (t : Bool) → leb (p .offset) j ≡ t
+        → countWhere (beforeStore i) ps ≡ length (frontWhile (beforeStore j) ps) + countWhere (beforeStore i) (afterWhile (beforeStore j) ps)
+        → countWhere (beforeStore i) (p ∷ ps) ≡ length (pick t (p ∷ frontWhile (beforeStore j) ps) []) + countWhere (beforeStore i)
+        (pick t (afterWhile (beforeStore j) ps) (p ∷ ps))
     go true e r = rw (le-leb (p .offset) i (le-trans (leb-true (p .offset) j e) h), suc-add) (ap suc r)
     go false e r = sym (zero-add (countWhere (beforeStore i) (p ∷ ps)))
 
@@ -90,13 +96,18 @@ none-before j low top (p ∷ ps) h b = rw (lt-leb (p .offset) j (le-trans h (b .
 count-here : (j low top : ℕ) (ls : List Pair) → Between low top ls → countWhere (beforeStore j) ls ≡ length (frontWhile (beforeStore j) ls)
 count-here j low top ls b =
     count-while j j ls (omega arith)
-    ∙ ap (λ (n : ℕ). length (frontWhile (beforeStore j) ls) + n) (none-before j (suc j) top (afterWhile (beforeStore j) ls) (omega arith) (between-rest j low top ls b))
+    ∙ ap (λ (n : ℕ). length (frontWhile (beforeStore j) ls) + n)
+    (none-before j (suc j) top (afterWhile (beforeStore j) ls) (omega arith) (between-rest j low top ls b))
     ∙ add-zero (length (frontWhile (beforeStore j) ls))
 
-agree-on : (passed j i : ℕ) (ls ss : List Pair) → j ≤ i → Agree passed i ls ss → Agree (passed + length (frontWhile (beforeStore j) ls)) i (afterWhile (beforeStore j) ls) ss
+agree-on : (passed j i : ℕ) (ls ss : List Pair) → j ≤ i → Agree passed i ls ss
+    → Agree (passed + length (frontWhile (beforeStore j) ls)) i (afterWhile (beforeStore j) ls) ss
 agree-on passed j i ls [] h a = tt
-agree-on passed j i ls (s ∷ ss) h a =
-    (a .0 ∙ rw (count-while j i ls h) (sym (add-assoc passed (length (frontWhile (beforeStore j) ls)) (countWhere (beforeStore i) (afterWhile (beforeStore j) ls)))), agree-on passed j (suc i) ls ss (omega arith) (a .1))
+agree-on passed j i ls (s ∷ ss) h a = (
+  a .0 ∙ rw (count-while j i ls h)
+      (sym (add-assoc passed (length (frontWhile (beforeStore j) ls)) (countWhere (beforeStore i) (afterWhile (beforeStore j) ls)))),
+  agree-on passed j (suc i) ls ss (omega arith) (a .1),
+)
 
 no-stores-first : (k : ℕ) (ls : List Pair) (rest : List Access) → storePairs k (map asLoad ls ++ rest) ≡ storePairs (k + length ls) rest
 no-stores-first k [] rest = rw add-zero
@@ -108,7 +119,9 @@ stores-from k j low top ls (s ∷ ss) b a =
     let n = length (frontWhile (beforeStore j) ls) in
     let e : s .offset ≡ k + n = a .0 ∙ ap (λ (m : ℕ). k + m) (count-here j low top ls b) in
     no-stores-first k (frontWhile (beforeStore j) ls) (store (s .port) ∷ orderFrom (suc j) (afterWhile (beforeStore j) ls) ss)
-    ∙ ap (λ (t : List Pair). record { offset = k + n; port = s .port } ∷ t) (stores-from (k + n) (suc j) (suc j) top (afterWhile (beforeStore j) ls) ss (between-rest j low top ls b) (agree-on k j (suc j) ls ss (omega arith) (a .1)))
+    ∙ ap (λ (t : List Pair). record { offset = k + n; port = s .port } ∷ t)
+    (stores-from (k + n) (suc j) (suc j) top (afterWhile (beforeStore j) ls) ss (between-rest j low top ls b)
+    (agree-on k j (suc j) ls ss (omega arith) (a .1)))
     ∙ ap (λ (o : ℕ). record { offset = o; port = s .port } ∷ ss) (sym e)
 
 -- ---- from the check
@@ -147,19 +160,27 @@ module _ (rule : ℕ → ℕ → ℕ → Bool) (low i : ℕ) (seen : List Bool) 
 loads-checked : (stores low i : ℕ) (seen : List Bool) (ls : List Pair) → pairsFault (loadRule stores) low i seen ls ≡ 0 → Between low stores ls
 loads-checked stores low i seen [] e = tt
 loads-checked stores low i seen (p ∷ ps) e =
-    let r = pair-right (loadRule stores) low i seen p ps e in
-    (leb-true _ _ (and-left (leb low (p .offset)) _ r), leb-true _ _ (and-right (leb low (p .offset)) _ r), loads-checked stores (p .offset) (suc i) (set seen (p .port) true) ps (rest-right (loadRule stores) low i seen p ps e))
+    let r = pair-right (loadRule stores) low i seen p ps e in (
+      leb-true _ _ (and-left (leb low (p .offset)) _ r),
+      leb-true _ _ (and-right (leb low (p .offset)) _ r),
+      loads-checked stores (p .offset) (suc i) (set seen (p .port) true) ps (rest-right (loadRule stores) low i seen p ps e),
+    )
 
 stores-checked : (ls : List Pair) (low i : ℕ) (seen : List Bool) (ss : List Pair) → pairsFault (storeRule ls) low i seen ss ≡ 0 → Agree 0 i ls ss
 stores-checked ls low i seen [] e = tt
-stores-checked ls low i seen (s ∷ ss) e =
-    (eqb-true _ _ (pair-right (storeRule ls) low i seen s ss e) ∙ sym (zero-add _), stores-checked ls (s .offset) (suc i) (set seen (s .port) true) ss (rest-right (storeRule ls) low i seen s ss e))
+stores-checked ls low i seen (s ∷ ss) e = (
+  eqb-true _ _ (pair-right (storeRule ls) low i seen s ss e)
+      ∙ sym (zero-add _),
+  stores-checked ls (s .offset) (suc i) (set seen (s .port) true) ss (rest-right (storeRule ls) low i seen s ss e),
+)
 
 -- ports are at most 31
-ports-checked : (rule : ℕ → ℕ → ℕ → Bool) (low i : ℕ) (seen : List Bool) (ps : List Pair) → pairsFault rule low i seen ps ≡ 0 → (j : ℕ) → j < length ps → getD ps j blankPair .port ≤ 31
+ports-checked : (rule : ℕ → ℕ → ℕ → Bool) (low i : ℕ) (seen : List Bool) (ps : List Pair) → pairsFault rule low i seen ps ≡ 0 → (j : ℕ)
+    → j < length ps → getD ps j blankPair .port ≤ 31
 ports-checked rule low i seen [] e j h = absurd (not-suc-le-zero h)
 ports-checked rule low i seen (p ∷ ps) e zero h = port-right rule low i seen p ps e
-ports-checked rule low i seen (p ∷ ps) e (suc j) h = ports-checked rule (p .offset) (suc i) (set seen (p .port) true) ps (rest-right rule low i seen p ps e) j (le-of-suc-le-suc h)
+ports-checked rule low i seen (p ∷ ps) e (suc j) h = ports-checked rule (p .offset) (suc i) (set seen (p .port) true) ps
+    (rest-right rule low i seen p ps e) j (le-of-suc-le-suc h)
 
 -- offsets are at most the number of the other kind
 between-at : (low top : ℕ) (ls : List Pair) → Between low top ls → (i : ℕ) → i < length ls → getD ls i blankPair .offset ≤ top
@@ -188,7 +209,8 @@ module _ (seen : Seen) (g : GroupPairs) (e : groupFault seen g ≡ 0) where
   unfolding groupFault
   few = counts-few _ _ (check-left (countsRight (length (g .loads)) (length (g .stores))) badCounts _ (λ z. omega arith) e)
 
-  pairs-fault : firstFault (pairsFault (loadRule (length (g .stores))) 0 0 (seen .loads) (g .loads)) (pairsFault (storeRule (g .loads)) 0 0 (seen .stores) (g .stores)) ≡ 0
+  pairs-fault : firstFault (pairsFault (loadRule (length (g .stores))) 0 0 (seen .loads) (g .loads))
+      (pairsFault (storeRule (g .loads)) 0 0 (seen .stores) (g .stores)) ≡ 0
   unfolding groupFault
   pairs-fault = check-right (countsRight (length (g .loads)) (length (g .stores))) badCounts _ (λ z. omega arith) e
 
@@ -196,7 +218,8 @@ module _ (seen : Seen) (g : GroupPairs) (e : groupFault seen g ≡ 0) where
   between = loads-checked (length (g .stores)) 0 0 (seen .loads) (g .loads) (or-else-left _ _ pairs-fault)
 
   agree : Agree 0 0 (g .loads) (g .stores)
-  agree = stores-checked (g .loads) 0 0 (seen .stores) (g .stores) (or-else-right (pairsFault (loadRule (length (g .stores))) 0 0 (seen .loads) (g .loads)) _ pairs-fault)
+  agree = stores-checked (g .loads) 0 0 (seen .stores) (g .stores)
+      (or-else-right (pairsFault (loadRule (length (g .stores))) 0 0 (seen .loads) (g .loads)) _ pairs-fault)
 
   pub right-group : GroupRight g
   right-group = record {
@@ -205,7 +228,8 @@ module _ (seen : Seen) (g : GroupPairs) (e : groupFault seen g ≡ 0) where
     load-offset = λ i h. le-trans (between-at 0 (length (g .stores)) (g .loads) between i h) (few .1);
     store-offset = λ i h. le-trans (agree-at 0 (g .loads) (g .stores) agree i h) (few .0);
     load-port = ports-checked (loadRule (length (g .stores))) 0 0 (seen .loads) (g .loads) (or-else-left _ _ pairs-fault);
-    store-port = ports-checked (storeRule (g .loads)) 0 0 (seen .stores) (g .stores) (or-else-right (pairsFault (loadRule (length (g .stores))) 0 0 (seen .loads) (g .loads)) _ pairs-fault);
+    store-port = ports-checked (storeRule (g .loads)) 0 0 (seen .stores) (g .stores)
+        (or-else-right (pairsFault (loadRule (length (g .stores))) 0 0 (seen .loads) (g .loads)) _ pairs-fault);
     loads-are = loads-from 0 (g .loads) (g .stores) (rw (zero-add (length (g .stores))) between);
     stores-are = stores-from 0 0 0 (length (g .stores)) (g .loads) (g .stores) between agree;
   }
@@ -220,7 +244,8 @@ groups-right seen (g ∷ gs) e (suc i) d h = groups-right (seenAfter g seen) gs 
 module _ (gs : List GroupPairs) (e : tableFault gs ≡ 0) where
   pub table-groups-few : length gs ≤ 16
   unfolding tableFault
-  table-groups-few = leb-true _ _ (and-right (leb 1 (length gs)) _ (check-left (within 1 16 (length gs)) badGroupCount (groupsFault noneSeen gs) (λ z. omega arith) e))
+  table-groups-few = leb-true _ _
+      (and-right (leb 1 (length gs)) _ (check-left (within 1 16 (length gs)) badGroupCount (groupsFault noneSeen gs) (λ z. omega arith) e))
 
   pub table-group-right : (i : ℕ) (d : GroupPairs) → i < length gs → GroupRight (getD gs i d)
   unfolding tableFault

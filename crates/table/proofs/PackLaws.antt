@@ -17,7 +17,8 @@ use Rattle.number.specs.Basics.{pick, held, countWhere, flatMap, within, check}
 use Rattle.number.specs.Refusal.{badGroupCount, badCounts}
 use Rattle.table.specs.Packed.{pairIn, packedPair, groupIn, packedGroup, SmallPair, SmallSpan}
 use Rattle.table.specs.Group.{GroupPairs, listOf, beforeStore}
-use Rattle.table.specs.Table.{spanMeant, meantIn, groupsOf, loadRule, storeRule, pairFault, pairsFault, seeing, countsRight, Seen, noneSeen, seenAfter, groupFault, groupsFault, tableFault}
+use Rattle.table.specs.Table.{spanMeant, meantIn, groupsOf, loadRule, storeRule, pairFault, pairsFault, seeing}
+use Rattle.table.specs.Table.{countsRight, Seen, noneSeen, seenAfter, groupFault, groupsFault, tableFault}
 use Rattle.table.specs.TableBytes.{filled, placed, spans, loadsIn, storesIn, pack}
 use Rattle.table.specs.RoundTrip.{AccessesFit}
 use Rattle.table.specs.Internal.{front, packPairs, packGroup, putIn, Grown}
@@ -27,7 +28,9 @@ use Rattle.number.proofs.Both.{and-right}
 use Rattle.table.proofs.WriteLaws.{or-else-both, check-both}
 
 -- the parts of a right group
-pub group-fault : (seen : Seen) (g : GroupPairs) → groupFault seen g ≡ 0 → (countsRight (length (g .loads)) (length (g .stores)) ≡ true) × (pairsFault (loadRule (length (g .stores))) 0 0 (seen .loads) (g .loads) ≡ 0) × (pairsFault (storeRule (g .loads)) 0 0 (seen .stores) (g .stores) ≡ 0)
+pub group-fault : (seen : Seen) (g : GroupPairs) → groupFault seen g ≡ 0 → (countsRight (length (g .loads)) (length (g .stores)) ≡ true)
+    × (pairsFault (loadRule (length (g .stores))) 0 0 (seen .loads) (g .loads) ≡ 0)
+    × (pairsFault (storeRule (g .loads)) 0 0 (seen .stores) (g .stores) ≡ 0)
 unfolding groupFault
 group-fault seen g e =
     let f = check-both (countsRight (length (g .loads)) (length (g .stores))) badCounts _ (λ z. omega arith) e in
@@ -45,7 +48,8 @@ marked-more [] port e h = absurd (omega arith)
 marked-more (b ∷ seen) zero e h = rw e
 marked-more (b ∷ seen) (suc port) e h = go b (marked-more seen port e (omega arith))
   where
-    go : (t : Bool) → marked (set seen port true) ≡ suc (marked seen) → pick t (suc (marked (set seen port true))) (marked (set seen port true)) ≡ suc (pick t (suc (marked seen)) (marked seen))
+    go : (t : Bool) → marked (set seen port true) ≡ suc (marked seen)
+        → pick t (suc (marked (set seen port true))) (marked (set seen port true)) ≡ suc (pick t (suc (marked seen)) (marked seen))
     go true d = ap suc d
     go false d = d
 
@@ -64,13 +68,15 @@ pub record Marking (seen : List Bool) (ps : List Pair) : Type 0 where
   pub long : length (seeing ps seen) ≡ length seen
   pub many : marked (seeing ps seen) ≡ marked seen + length ps
 
-pub pairs-marked : (rule : ℕ → ℕ → ℕ → Bool) (low i : ℕ) (seen : List Bool) (ps : List Pair) → length seen ≡ 32 → pairsFault rule low i seen ps ≡ 0 → Marking seen ps
+pub pairs-marked : (rule : ℕ → ℕ → ℕ → Bool) (low i : ℕ) (seen : List Bool) (ps : List Pair) → length seen ≡ 32 → pairsFault rule low i seen ps ≡ 0
+    → Marking seen ps
 unfolding pairsFault seeing
 pairs-marked rule low i seen [] h e = record { long = refl; many = omega arith }
 pairs-marked rule low i seen (p ∷ ps) h e =
     let f = or-else-both (pairFault (rule low i (p .offset)) seen (p .port)) _ e in
     let l = length-set seen (p .port) true in
-    let m = marked-more seen (p .port) (fault-unseen (rule low i (p .offset)) seen (p .port) (f .0)) (omega (arith, fault-none (rule low i (p .offset)) seen (p .port) (f .0) .1)) in
+    let m = marked-more seen (p .port) (fault-unseen (rule low i (p .offset)) seen (p .port) (f .0))
+    (omega (arith, fault-none (rule low i (p .offset)) seen (p .port) (f .0) .1)) in
     let w = pairs-marked rule (p .offset) (suc i) (set seen (p .port) true) ps (l ∙ h) (f .1) in
     record { long = w .long ∙ l; many = w .many ∙ rw m (omega arith) }
 
@@ -86,7 +92,10 @@ marks-none = record { loads-long = refl; stores-long = refl; loads-many = refl; 
 
 module _ {seen : Seen} {loads stores : ℕ} (w : Marks seen loads stores) where
   pub marks-room : (loads ≤ 32) × (stores ≤ 32)
-  marks-room = (omega (arith, count-most (λ (b : Bool). b) (seen .loads), w .loads-long, w .loads-many), omega (arith, count-most (λ (b : Bool). b) (seen .stores), w .stores-long, w .stores-many))
+  marks-room = (
+    omega (arith, count-most (λ (b : Bool). b) (seen .loads), w .loads-long, w .loads-many),
+    omega (arith, count-most (λ (b : Bool). b) (seen .stores), w .stores-long, w .stores-many),
+  )
 
   pub marks-more : (g : GroupPairs) → groupFault seen g ≡ 0 → Marks (seenAfter g seen) (loads + length (g .loads)) (stores + length (g .stores))
   marks-more g e =
@@ -100,7 +109,8 @@ module _ {seen : Seen} {loads stores : ℕ} (w : Marks seen loads stores) where
         stores-many = s .many ∙ rw (w .stores-many);
       }
 
-marks-groups : (seen : Seen) (gs : List GroupPairs) {loads stores : ℕ} → Marks seen loads stores → groupsFault seen gs ≡ 0 → (loads + length (loadsIn gs) ≤ 32) × (stores + length (storesIn gs) ≤ 32)
+marks-groups : (seen : Seen) (gs : List GroupPairs) {loads stores : ℕ} → Marks seen loads stores → groupsFault seen gs ≡ 0
+    → (loads + length (loadsIn gs) ≤ 32) × (stores + length (storesIn gs) ≤ 32)
 unfolding groupsFault
 marks-groups seen [] w e = let r = marks-room w in (omega (arith, r .0), omega (arith, r .1))
 marks-groups seen (g ∷ gs) w e =
@@ -125,8 +135,11 @@ unfolding pairsFault
 pairs-small rule top h most low i seen [] e = tt
 pairs-small rule top h most low i seen (p ∷ ps) e =
     let f = or-else-both (pairFault (rule low i (p .offset)) seen (p .port)) _ e in
-    let g = fault-none (rule low i (p .offset)) seen (p .port) (f .0) in
-    (record { offset = omega (arith, most low i (p .offset) (g .0)); port = omega (arith, g .1) }, pairs-small rule top h most (p .offset) (suc i) (set seen (p .port) true) ps (f .1))
+    let g = fault-none (rule low i (p .offset)) seen (p .port) (f .0) in (
+      record { offset = omega (arith, most low i (p .offset) (g .0)); port = omega (arith, g .1) },
+      pairs-small rule top h most (p .offset) (suc i)
+          (set seen (p .port) true) ps (f .1),
+    )
 
 -- the pairs of every group are small
 abbrev SmallGroups : List GroupPairs → Type 0
@@ -140,8 +153,12 @@ groups-small seen (g ∷ gs) e =
     let f = or-else-both (groupFault seen g) _ e in
     let (right, ls, ss) = group-fault seen g (f .0) in
     let few = counts-few (length (g .loads)) (length (g .stores)) right in (
-      pairs-small (loadRule (length (g .stores))) 16 (omega arith) (λ low i offset r. omega (arith, leb-true offset (length (g .stores)) (and-right (leb low offset) _ r), few .1)) 0 0 (seen .loads) (g .loads) ls,
-      pairs-small (storeRule (g .loads)) 16 (omega arith) (λ low i offset r. omega (arith, eqb-true offset (countWhere (beforeStore i) (g .loads)) r, count-most (beforeStore i) (g .loads), few .0)) 0 0 (seen .stores) (g .stores) ss,
+      pairs-small (loadRule (length (g .stores))) 16 (omega arith)
+          (λ low i offset r. omega (arith, leb-true offset (length (g .stores)) (and-right (leb low offset) _ r), few .1)) 0 0 (seen .loads)
+          (g .loads) ls,
+      pairs-small (storeRule (g .loads)) 16 (omega arith)
+          (λ low i offset r. omega (arith, eqb-true offset (countWhere (beforeStore i) (g .loads)) r, count-most (beforeStore i) (g .loads), few .0))
+          0 0 (seen .stores) (g .stores) ss,
       groups-small (seenAfter g seen) gs (f .1),
     )
 
@@ -155,14 +172,20 @@ front-held xs rest small =
     ap (map pairIn) (held-few 0 (length xs) (map packedPair xs ++ rest) h ∙ take-at (map packedPair xs) rest (length xs) n) ∙ all-read-back xs small
 
 -- accesses that stand behind others: where they are few enough they are just these
-part-front : (places : List ℕ) (first : ℕ) (xs rest : List Pair) (more : List ℕ) → drop first places ≡ map packedPair (xs ++ rest) ++ more → first + length xs ≤ 32 → AllSmall xs
+part-front : (places : List ℕ) (first : ℕ) (xs rest : List Pair) (more : List ℕ) → drop first places ≡ map packedPair (xs ++ rest) ++ more
+    → first + length xs ≤ 32 → AllSmall xs
     → (listOf places (spanMeant (record { first = first; count = length xs })) ≡ xs) × (drop (first + length xs) places ≡ map packedPair rest ++ more)
 part-front places first xs rest more e few small =
     let n : length (map packedPair xs) ≡ length xs = length-map xs packedPair in
-    let d : drop first places ≡ map packedPair xs ++ (map packedPair rest ++ more) = e ∙ ap (λ (l : List ℕ). l ++ more) (map-append packedPair xs rest) ∙ append-assoc (map packedPair xs) (map packedPair rest) more in
-    (rw (le-leb (first + length xs) 32 few, d) (front-held xs (map packedPair rest ++ more) small), sym (drop-drop (length xs) first places) ∙ rw d (drop-at (map packedPair xs) (map packedPair rest ++ more) (length xs) n))
+    let d : drop first places ≡ map packedPair xs ++ (map packedPair rest ++ more) = e
+    ∙ ap (λ (l : List ℕ). l ++ more) (map-append packedPair xs rest) ∙ append-assoc (map packedPair xs) (map packedPair rest) more in (
+      rw (le-leb (first + length xs) 32 few, d) (front-held xs (map packedPair rest ++ more) small),
+      sym (drop-drop (length xs) first places)
+          ∙ rw d (drop-at (map packedPair xs) (map packedPair rest ++ more) (length xs) n),
+    )
 
-spans-hold : (loads stores : List ℕ) (load store : ℕ) (gs : List GroupPairs) (l s : List ℕ) → drop load loads ≡ map packedPair (loadsIn gs) ++ l → drop store stores ≡ map packedPair (storesIn gs) ++ s
+spans-hold : (loads stores : List ℕ) (load store : ℕ) (gs : List GroupPairs) (l s : List ℕ) → drop load loads ≡ map packedPair (loadsIn gs) ++ l
+    → drop store stores ≡ map packedPair (storesIn gs) ++ s
     → load + length (loadsIn gs) ≤ 32 → store + length (storesIn gs) ≤ 32 → SmallGroups gs → map (meantIn loads stores) (spans load store gs) ≡ gs
 spans-hold loads stores load store [] l s e f h k small = refl
 spans-hold loads stores load store (g ∷ gs) l s e f h k small =
@@ -170,8 +193,16 @@ spans-hold loads stores load store (g ∷ gs) l s e f h k small =
     let y : store + (length (g .stores) + length (storesIn gs)) ≤ 32 = rw length-append at k in
     let p = part-front loads load (g .loads) (loadsIn gs) l e (omega (arith, x)) (small .0) in
     let q = part-front stores store (g .stores) (storesIn gs) s f (omega (arith, y)) (small .1) in
-    let b : groupIn (packedGroup (placed load store g)) ≡ placed load store g = groups-read-back (placed load store g) (record { first = omega (arith, x); count = omega (arith, x) }) (record { first = omega (arith, y); count = omega (arith, y) }) in
-    rw (b, p .0, q .0, spans-hold loads stores (load + length (g .loads)) (store + length (g .stores)) gs l s (p .1) (q .1) (omega (arith, x)) (omega (arith, y)) (small .2))
+    let b : groupIn (packedGroup (placed load store g)) ≡ placed load store g =
+    groups-read-back (placed load store g) (record { first = omega (arith, x); count = omega (arith, x) })
+    (record { first = omega (arith, y); count = omega (arith, y) }) in
+    rw (
+      b,
+      p .0,
+      q .0,
+      spans-hold loads stores (load + length (g .loads)) (store + length (g .stores)) gs l s (p .1) (q .1) (omega (arith, x))
+          (omega (arith, y)) (small .2),
+    )
 
 spans-length : (load store : ℕ) (gs : List GroupPairs) → length (spans load store gs) ≡ length gs
 spans-length load store [] = refl
@@ -185,11 +216,13 @@ groups-packed gs right =
     let h : length gs ≤ length (spans 0 0 gs ++ blanks) = rw (length-append, n) (omega arith) in
     let f = check-both (within 1 16 (length gs)) badGroupCount (groupsFault noneSeen gs) (λ z. omega arith) right in
     ap (map (meantIn (pack gs .loads) (pack gs .stores))) (held-few 0 (length gs) (spans 0 0 gs ++ blanks) h ∙ take-at (spans 0 0 gs) blanks (length gs) n)
-    ∙ spans-hold (pack gs .loads) (pack gs .stores) 0 0 gs _ _ refl refl (omega (arith, accesses-fit gs right .0)) (omega (arith, accesses-fit gs right .1)) (groups-small noneSeen gs (f .1))
+    ∙ spans-hold (pack gs .loads) (pack gs .stores) 0 0 gs _ _ refl refl (omega (arith, accesses-fit gs right .0))
+    (omega (arith, accesses-fit gs right .1)) (groups-small noneSeen gs (f .1))
 
 -- ---- the record with a group more
 
-spans-snoc : (load store : ℕ) (gs : List GroupPairs) (g : GroupPairs) → spans load store (gs ++ g ∷ []) ≡ spans load store gs ++ packedGroup (placed (load + length (loadsIn gs)) (store + length (storesIn gs)) g) ∷ []
+spans-snoc : (load store : ℕ) (gs : List GroupPairs) (g : GroupPairs)
+    → spans load store (gs ++ g ∷ []) ≡ spans load store gs ++ packedGroup (placed (load + length (loadsIn gs)) (store + length (storesIn gs)) g) ∷ []
 spans-snoc load store [] g = rw (add-zero, add-zero)
 spans-snoc load store (x ∷ gs) g =
     rw (length-append, length-append, ← add-assoc, ← add-assoc, spans-snoc (load + length (x .loads)) (store + length (x .stores)) gs g)
@@ -214,7 +247,8 @@ filled-more xs ls =
     in
     rw (take-at (map packedPair xs) blanks (length xs) n, take-at (map packedPair ls) (replicate (32 - length ls) 0) (length ls) m, d, map-append)
 
-spans-more : (done : List GroupPairs) (g : GroupPairs) → length done < 16 → set (pack done .groups) (length done) (packedGroup (placed (length (loadsIn done)) (length (storesIn done)) g)) ≡ pack (done ++ g ∷ []) .groups
+spans-more : (done : List GroupPairs) (g : GroupPairs) → length done < 16
+    → set (pack done .groups) (length done) (packedGroup (placed (length (loadsIn done)) (length (storesIn done)) g)) ≡ pack (done ++ g ∷ []) .groups
 spans-more done g h =
     let blanks : List ℕ = replicate (16 - (length done + 1)) 0 in
     let m : 16 - length done ≡ suc (16 - (length done + 1)) = omega arith in
@@ -234,7 +268,8 @@ pub record Packed (t : Table) (loads stores : ℕ) (done : List GroupPairs) : Ty
 pub packed-none : {t : Table} → t ≡ pack [] → Packed t 0 0 []
 packed-none e = record { table = e; loads-are = refl; stores-are = refl }
 
-pub packed-more : {t : Table} {loads stores : ℕ} {done : List GroupPairs} {x : NewGroup} {r : Table} → Packed t loads stores done → (g : GroupPairs) → x ≡ packGroup g → length done < 16 → Grown t loads stores x r → Packed r (loads + x .loads .count) (stores + x .stores .count) (done ++ g ∷ [])
+pub packed-more : {t : Table} {loads stores : ℕ} {done : List GroupPairs} {x : NewGroup} {r : Table} → Packed t loads stores done → (g : GroupPairs)
+    → x ≡ packGroup g → length done < 16 → Grown t loads stores x r → Packed r (loads + x .loads .count) (stores + x .stores .count) (done ++ g ∷ [])
 packed-more {t} {loads} {stores} {done} {x} {r} w g e h v =
     let ls = flat-snoc (λ (y : GroupPairs). y .loads) done g in
     let ss = flat-snoc (λ (y : GroupPairs). y .stores) done g in
@@ -243,7 +278,8 @@ packed-more {t} {loads} {stores} {done} {x} {r} w g e h v =
     let b : r .loads ≡ filled (loadsIn (done ++ g ∷ [])) = v .loads-are ∙ rw (w .table, w .loads-are, e, ls) (filled-more (loadsIn done) (g .loads)) in
     let c : r .stores ≡ filled (storesIn (done ++ g ∷ [])) = v .stores-are ∙ rw (w .table, w .stores-are, e, ss) (filled-more (storesIn done) (g .stores)) in
     record {
-      table = ap₂ (λ (n : ℕ) (a : List ℕ). tableMade n a (r .loads) (r .stores)) n a ∙ ap₂ (tableMade (length (done ++ g ∷ [])) (pack (done ++ g ∷ []) .groups)) b c;
+      table = ap₂ (λ (n : ℕ) (a : List ℕ). tableMade n a (r .loads) (r .stores)) n a
+          ∙ ap₂ (tableMade (length (done ++ g ∷ [])) (pack (done ++ g ∷ []) .groups)) b c;
       loads-are = rw (w .loads-are, e, ls, length-append);
       stores-are = rw (w .stores-are, e, ss, length-append);
     }

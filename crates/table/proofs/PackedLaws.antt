@@ -6,7 +6,8 @@ use mathlib.Core.List.{List, [], _∷_, _++_, map}
 use Rattle.table.specs.declared.Pair.{Pair}
 use Rattle.table.specs.declared.Span.{Span}
 use Rattle.table.specs.declared.Group.{Group}
-use Rattle.table.specs.Packed.{pairIn, packedPair, spanIn, packedSpan, groupIn, packedGroup, SmallPair, SmallSpan, PairsReadBack, PackedPairsReadBack, GroupsReadBack, PackedGroupsReadBack}
+use Rattle.table.specs.Packed.{pairIn, packedPair, spanIn, packedSpan, groupIn, packedGroup, SmallPair, SmallSpan}
+use Rattle.table.specs.Packed.{PairsReadBack, PackedPairsReadBack, GroupsReadBack, PackedGroupsReadBack}
 
 -- a byte below another
 module _ (a b : ℕ) (small : a < 256) where

@@ -29,7 +29,8 @@ use Rattle.table.proofs.CheckLaws.{held-few}
 use Rattle.table.proofs.PackLaws.{Marks, marks-none, marks-room, marks-more, Packed, packed-none, packed-more}
 
 -- ---- two numbers
-pub two-step : {A : Type 0} (s : List ℕ) (k : ℕ → ℕ → List ℕ → Got A) → (thenRead (readNumber s) λ x s₁. thenRead (readNumber s₁) λ y s₂. k x y s₂) ≡ (thenRead (readTwo s) λ t s₂. k (t .first) (t .second) s₂)
+pub two-step : {A : Type 0} (s : List ℕ) (k : ℕ → ℕ → List ℕ → Got A)
+    → (thenRead (readNumber s) λ x s₁. thenRead (readNumber s₁) λ y s₂. k x y s₂) ≡ (thenRead (readTwo s) λ t s₂. k (t .first) (t .second) s₂)
 unfolding readTwo
 two-step {A} s k = first (readNumber s)
   where
@@ -37,7 +38,8 @@ two-step {A} s k = first (readNumber s)
     second x (got y s₂) = refl
     second x (bad n) = refl
 
-    first : (g : Got ℕ) → (thenRead g λ x s₁. thenRead (readNumber s₁) λ y s₂. k x y s₂) ≡ (thenRead (thenRead g λ x s₁. thenRead (readNumber s₁) λ y s₂. got (twoNumbers x y) s₂) λ t s₂. k (t .first) (t .second) s₂)
+    first : (g : Got ℕ) → (thenRead g λ x s₁. thenRead (readNumber s₁) λ y s₂. k x y s₂)
+        ≡ (thenRead (thenRead g λ x s₁. thenRead (readNumber s₁) λ y s₂. got (twoNumbers x y) s₂) λ t s₂. k (t .first) (t .second) s₂)
     first (got x s₁) = second x (readNumber s₁)
     first (bad n) = refl
 
@@ -55,7 +57,8 @@ pub two-answer : (s : List ℕ) (place : ℕ) {x y next : ℕ} → accepts (read
 unfolding readTwo
 two-answer s place {x} {y} {next} e = first (readNumber (drop place s)) refl e
   where
-    both : (a b m n : ℕ) → NumberGot s place a m → NumberGot s m b n → accepts (reading (twoNumbers x y) next) ≡ accepts (reading (twoNumbers a b) n) → TwoGot s place x y next
+    both : (a b m n : ℕ) → NumberGot s place a m → NumberGot s m b n → accepts (reading (twoNumbers x y) next) ≡ accepts (reading (twoNumbers a b) n)
+        → TwoGot s place x y next
     both a b m n f g d =
         let t : twoNumbers x y ≡ twoNumbers a b = cc in
         let p : x ≡ a = ap (λ (w : Two). w .first) t in
@@ -63,11 +66,14 @@ two-answer s place {x} {y} {next} e = first (readNumber (drop place s)) refl e
         let r : next ≡ n = cc in
         rw (p, q, r) (two-got s place f g)
 
-    second : (a m : ℕ) → NumberGot s place a m → (h : Got ℕ) → readNumber (drop m s) ≡ h → accepts (reading (twoNumbers x y) next) ≡ readIn s (thenRead h λ b s₂. got (twoNumbers a b) s₂) → TwoGot s place x y next
+    second : (a m : ℕ) → NumberGot s place a m → (h : Got ℕ) → readNumber (drop m s) ≡ h
+        → accepts (reading (twoNumbers x y) next) ≡ readIn s (thenRead h λ b s₂. got (twoNumbers a b) s₂) → TwoGot s place x y next
     second a m f (got b s₂) g d = both a b m (placeOf s s₂) f (number-got s m (sym (ap (readIn s) g))) d
     second a m f (bad n) g d = let z : _≡_ {A = ℕ} 0 1 = cc in absurd (omega arith)
 
-    first : (g : Got ℕ) → readNumber (drop place s) ≡ g → accepts (reading (twoNumbers x y) next) ≡ readIn s (thenRead g λ a s₁. thenRead (readNumber s₁) λ b s₂. got (twoNumbers a b) s₂) → TwoGot s place x y next
+    first : (g : Got ℕ) → readNumber (drop place s) ≡ g
+        → accepts (reading (twoNumbers x y) next) ≡ readIn s (thenRead g λ a s₁. thenRead (readNumber s₁) λ b s₂. got (twoNumbers a b) s₂)
+        → TwoGot s place x y next
     first (got a s₁) f d =
         let w = number-got s place (sym (ap (readIn s) f)) in
         let t : s₁ ≡ drop (placeOf s s₁) s = cc (w .is) in
@@ -114,7 +120,8 @@ seeing-snoc [] p seen = refl
 seeing-snoc (q ∷ ps) p seen = seeing-snoc ps p (set seen (q .port) true)
 
 -- i of n pairs have been read into `places`, the rest of which is 0
-pub record PairsReading (rule : ℕ → ℕ → ℕ → Bool) (n : ℕ) (seen : List Bool) (s : List ℕ) (start i low : ℕ) (marks : List Bool) (place : ℕ) (places : List ℕ) : Type 0 where
+pub record PairsReading (rule : ℕ → ℕ → ℕ → Bool) (n : ℕ) (seen : List Bool) (s : List ℕ) (start i low : ℕ) (marks : List Bool) (place : ℕ)
+    (places : List ℕ) : Type 0 where
   pub is : readPairs rule n 0 0 seen (drop start s) ≡ after (map pairIn (take i places)) (readPairs rule (n - i) low i marks (drop place s))
   pub packs : map packedPair (map pairIn (take i places)) ≡ take i places
   pub blank : drop i places ≡ replicate (32 - i) 0
@@ -122,7 +129,8 @@ pub record PairsReading (rule : ℕ → ℕ → ℕ → Bool) (n : ℕ) (seen : 
   pub marks-are : marks ≡ seeing (map pairIn (take i places)) seen
   pub inside : place ≤ length s
 
-pub reading-none : {rule : ℕ → ℕ → ℕ → Bool} {n : ℕ} {seen : List Bool} {s : List ℕ} {start : ℕ} {places : List ℕ} → start ≤ length s → places ≡ replicate 32 0 → PairsReading rule n seen s start 0 0 seen start places
+pub reading-none : {rule : ℕ → ℕ → ℕ → Bool} {n : ℕ} {seen : List Bool} {s : List ℕ} {start : ℕ} {places : List ℕ} → start ≤ length s
+    → places ≡ replicate 32 0 → PairsReading rule n seen s start 0 0 seen start places
 unfolding seeing
 reading-none {rule} {n} {seen} {s} {start} h e = record {
   is = rw sub-zero (after-nil (readPairs rule n 0 0 seen (drop start s)));
@@ -133,15 +141,20 @@ reading-none {rule} {n} {seen} {s} {start} h e = record {
   inside = h;
 }
 
-module _ {rule : ℕ → ℕ → ℕ → Bool} {n : ℕ} {seen : List Bool} {s : List ℕ} {start i low : ℕ} {marks : List Bool} {place : ℕ} {places : List ℕ} (w : PairsReading rule n seen s start i low marks place places) where
+module _ {rule : ℕ → ℕ → ℕ → Bool} {n : ℕ} {seen : List Bool} {s : List ℕ} {start i low : ℕ} {marks : List Bool} {place : ℕ} {places : List ℕ}
+    (w : PairsReading rule n seen s start i low marks place places) where
   module _ (h : i < n) where
     one-less : n - i ≡ suc (n - (i + 1))
     one-less = omega arith
 
     -- what is left to read is a pair and the pairs after it
-    pub next-pair : readPairs rule (n - i) low i marks (drop place s) ≡ (thenRead (readTwo (drop place s)) λ t s₂. unless (pairFault (rule low i (t .first)) marks (t .second)) (before (pair (t .first) (t .second)) (readPairs rule (n - (i + 1)) (t .first) (suc i) (set marks (t .second) true) s₂)))
+    pub next-pair : readPairs rule (n - i) low i marks (drop place s)
+        ≡ (thenRead (readTwo (drop place s)) λ t s₂. unless (pairFault (rule low i (t .first)) marks (t .second))
+        (before (pair (t .first) (t .second)) (readPairs rule (n - (i + 1)) (t .first) (suc i) (set marks (t .second) true) s₂)))
     unfolding readPairs
-    next-pair = rw one-less (two-step (drop place s) (λ x y s₂. unless (pairFault (rule low i x) marks y) (before (pair x y) (readPairs rule (n - (i + 1)) x (suc i) (set marks y true) s₂))))
+    next-pair = rw one-less
+        (two-step (drop place s)
+        (λ x y s₂. unless (pairFault (rule low i x) marks y) (before (pair x y) (readPairs rule (n - (i + 1)) x (suc i) (set marks y true) s₂))))
 
     pub reading-refused : {k : ℕ} → readTwo (drop place s) ≡ bad k → readPairs rule n 0 0 seen (drop start s) ≡ bad k
     reading-refused e = w .is ∙ rw (next-pair, e)
@@ -150,15 +163,18 @@ module _ {rule : ℕ → ℕ → ℕ → Bool} {n : ℕ} {seen : List Bool} {s :
       pub reading-fault : {k : ℕ} → k ≡ pairFault (rule low i x) marks y → (k ≡ 0 → ⊥) → readPairs rule n 0 0 seen (drop start s) ≡ bad k
       reading-fault {k} e z = w .is ∙ rw (next-pair, g .is, ← e, ne-eqb k 0 z)
 
-      pub reading-more : n ≤ 16 → pairFault (rule low i x) marks y ≡ 0 → SmallPair (pair x y) → (number : ℕ) → number ≡ packedPair (pair x y) → PairsReading rule n seen s start (i + 1) x (set marks y true) next (set places i number)
+      pub reading-more : n ≤ 16 → pairFault (rule low i x) marks y ≡ 0 → SmallPair (pair x y) → (number : ℕ) → number ≡ packedPair (pair x y)
+          → PairsReading rule n seen s start (i + 1) x (set marks y true) next (set places i number)
       reading-more few e small number is-packed =
           let l : i < length places = omega (arith, w .long) in
           let p : Pair = pair x y in
           let t : take (i + 1) (set places i number) ≡ take i places ++ number ∷ [] = rw add-one (take-suc-set places i number l) in
           let q : pairIn number ≡ p = ap pairIn is-packed ∙ pairs-read-back p small in
-          let u : map pairIn (take (i + 1) (set places i number)) ≡ map pairIn (take i places) ++ p ∷ [] = rw t (map-append pairIn (take i places) (number ∷ []) ∙ rw q) in
+          let u : map pairIn (take (i + 1) (set places i number)) ≡ map pairIn (take i places) ++ p ∷ [] =
+          rw t (map-append pairIn (take i places) (number ∷ []) ∙ rw q) in
           record {
-            is = w .is ∙ rw (next-pair, g .is, e, u, add-one) (after-before (map pairIn (take i places)) p (readPairs rule (n - suc i) x (suc i) (set marks y true) (drop next s)));
+            is = w .is ∙ rw (next-pair, g .is, e, u, add-one)
+                (after-before (map pairIn (take i places)) p (readPairs rule (n - suc i) x (suc i) (set marks y true) (drop next s)));
             packs = rw (u, t) (map-append packedPair (map pairIn (take i places)) (p ∷ []) ∙ rw (w .packs, is-packed));
             blank = rw (drop-set-lt (i + 1) places i number (omega arith), add-one) (blank-after places i (w .blank) (omega arith));
             long = length-set places i number ∙ w .long;
@@ -173,7 +189,8 @@ module _ {rule : ℕ → ℕ → ℕ → Bool} {n : ℕ} {seen : List Bool} {s :
               let r : drop 1 (replicate {A = ℕ} (32 - j) 0) ≡ replicate (32 - suc j) 0 = rw m in
               sym q ∙ ap (drop 1) f ∙ r
 
-  pub reading-end : n ≤ 16 → n ≤ i → i ≤ n → (readPairs rule n 0 0 seen (drop start s) ≡ got (map pairIn (take i places)) (drop place s)) × (places ≡ take i places ++ replicate (32 - i) 0) × (length (take i places) ≡ i)
+  pub reading-end : n ≤ 16 → n ≤ i → i ≤ n → (readPairs rule n 0 0 seen (drop start s) ≡ got (map pairIn (take i places)) (drop place s))
+      × (places ≡ take i places ++ replicate (32 - i) 0) × (length (take i places) ≡ i)
   unfolding readPairs
   reading-end few h k =
       let z : n - i ≡ 0 = omega arith in
@@ -183,15 +200,18 @@ abbrev pub made : ℕ → List ℕ → Pairs
 made n places = record { count = n; places = places }
 
 -- what a caller is told, where the bytes give a refusal and where they give pairs
-pub pairs-refused : {s : List ℕ} {seen : List Bool} {g : Got (List Pair)} {r : PairsRead} {k : ℕ} → g ≡ bad k → r .answer ≡ k → (k ≡ 0 → ⊥) → PairsResult s seen g r
+pub pairs-refused : {s : List ℕ} {seen : List Bool} {g : Got (List Pair)} {r : PairsRead} {k : ℕ} → g ≡ bad k → r .answer ≡ k → (k ≡ 0 → ⊥)
+    → PairsResult s seen g r
 pairs-refused e f z = rw e (pairs-none (record { is = f; some = z }))
 
-pub pairs-found : {s : List ℕ} {seen : List Bool} {g : Got (List Pair)} {r : PairsRead} {ps : List Pair} {rest : List ℕ} → g ≡ got ps rest → PairsFound s seen ps rest r → PairsResult s seen g r
+pub pairs-found : {s : List ℕ} {seen : List Bool} {g : Got (List Pair)} {r : PairsRead} {ps : List Pair} {rest : List ℕ} → g ≡ got ps rest
+    → PairsFound s seen ps rest r → PairsResult s seen g r
 pairs-found e f = rw e (found f)
 
 -- the record that reading has filled is the one that its pairs make, and holds just them
 module _ (n i : ℕ) (places : List ℕ) (e : n ≡ i) (g : length (take i places) ≡ i) where
-  pub packed : places ≡ take i places ++ replicate (32 - i) 0 → map packedPair (map pairIn (take i places)) ≡ take i places → made n places ≡ packPairs (map pairIn (take i places))
+  pub packed : places ≡ take i places ++ replicate (32 - i) 0 → map packedPair (map pairIn (take i places)) ≡ take i places
+      → made n places ≡ packPairs (map pairIn (take i places))
   packed f p =
       let k : length (map pairIn (take i places)) ≡ i = length-map (take i places) pairIn ∙ g in
       ap₂ made (e ∙ sym k) (f ∙ rw (k, p))
@@ -215,7 +235,8 @@ pairs-got (found {ps} {rest} f) z = record { pairs = ps; rest = rest; is = refl;
 pairs-got (pairs-none f) z = absurd (f .some (sym (f .is) ∙ z))
 
 -- ---- pairs that were read are right, and as many as were asked for
-pub read-right : (rule : ℕ → ℕ → ℕ → Bool) (n low i : ℕ) (seen : List Bool) (s : List ℕ) {ps : List Pair} {rest : List ℕ} → readPairs rule n low i seen s ≡ got ps rest → (pairsFault rule low i seen ps ≡ 0) × (length ps ≡ n)
+pub read-right : (rule : ℕ → ℕ → ℕ → Bool) (n low i : ℕ) (seen : List Bool) (s : List ℕ) {ps : List Pair} {rest : List ℕ}
+    → readPairs rule n low i seen s ≡ got ps rest → (pairsFault rule low i seen ps ≡ 0) × (length ps ≡ n)
 unfolding readPairs pairsFault
 read-right rule zero low i seen s {ps} {rest} e = go ps e
   where
@@ -226,22 +247,32 @@ read-right rule (suc n) low i seen s {ps} {rest} e =
     both (readTwo s) (λ x y s₂ l r f. read-right rule n x (suc i) (set seen y true) s₂ f)
     (sym (two-step s (λ x y s₂. unless (pairFault (rule low i x) seen y) (before (pair x y) (readPairs rule n x (suc i) (set seen y true) s₂)))) ∙ e)
   where
-    put : (x y : ℕ) (g : Got (List Pair)) → ((l : List Pair) (r : List ℕ) → g ≡ got l r → (pairsFault rule x (suc i) (set seen y true) l ≡ 0) × (length l ≡ n)) → pairFault (rule low i x) seen y ≡ 0 → before (pair x y) g ≡ got ps rest → (pairsFault rule low i seen ps ≡ 0) × (length ps ≡ suc n)
+    put : (x y : ℕ) (g : Got (List Pair))
+        → ((l : List Pair) (r : List ℕ) → g ≡ got l r → (pairsFault rule x (suc i) (set seen y true) l ≡ 0) × (length l ≡ n))
+        → pairFault (rule low i x) seen y ≡ 0 → before (pair x y) g ≡ got ps rest → (pairsFault rule low i seen ps ≡ 0) × (length ps ≡ suc n)
     put x y (got l r) ih f d =
         let q : pair x y ∷ l ≡ ps = cc in
         let k = ih l r refl in
         rw (← q) (rw (f, k .0), ap suc (k .1))
     put x y (bad k) ih f d = let z : _≡_ {A = ℕ} 0 1 = cc in absurd (omega arith)
 
-    check-pair : (x y : ℕ) (g : Got (List Pair)) → ((l : List Pair) (r : List ℕ) → g ≡ got l r → (pairsFault rule x (suc i) (set seen y true) l ≡ 0) × (length l ≡ n)) → (k : ℕ) → pairFault (rule low i x) seen y ≡ k → unless k (before (pair x y) g) ≡ got ps rest → (pairsFault rule low i seen ps ≡ 0) × (length ps ≡ suc n)
+    check-pair : (x y : ℕ) (g : Got (List Pair))
+        → ((l : List Pair) (r : List ℕ) → g ≡ got l r → (pairsFault rule x (suc i) (set seen y true) l ≡ 0) × (length l ≡ n)) → (k : ℕ)
+        → pairFault (rule low i x) seen y ≡ k → unless k (before (pair x y) g) ≡ got ps rest
+        → (pairsFault rule low i seen ps ≡ 0) × (length ps ≡ suc n)
     check-pair x y g ih zero f d = put x y g ih f d
     check-pair x y g ih (suc k) f d =
         let t = ne-eqb (suc k) 0 (λ z. omega arith) in
         let u : bad (suc k) ≡ got ps rest = rw t at d in
         let z : _≡_ {A = ℕ} 0 1 = cc in absurd (omega arith)
 
-    both : (g : Got Two) → ((x y : ℕ) (s₂ : List ℕ) (l : List Pair) (r : List ℕ) → readPairs rule n x (suc i) (set seen y true) s₂ ≡ got l r → (pairsFault rule x (suc i) (set seen y true) l ≡ 0) × (length l ≡ n)) → (thenRead g λ t s₂. unless (pairFault (rule low i (t .first)) seen (t .second)) (before (pair (t .first) (t .second)) (readPairs rule n (t .first) (suc i) (set seen (t .second) true) s₂))) ≡ got ps rest → (pairsFault rule low i seen ps ≡ 0) × (length ps ≡ suc n)
-    both (got t s₂) ih d = check-pair (t .first) (t .second) (readPairs rule n (t .first) (suc i) (set seen (t .second) true) s₂) (ih (t .first) (t .second) s₂) (pairFault (rule low i (t .first)) seen (t .second)) refl d
+    both : (g : Got Two) → ((x y : ℕ) (s₂ : List ℕ) (l : List Pair) (r : List ℕ) → readPairs rule n x (suc i) (set seen y true) s₂ ≡ got l r
+        → (pairsFault rule x (suc i) (set seen y true) l ≡ 0) × (length l ≡ n))
+        → (thenRead g λ t s₂. unless (pairFault (rule low i (t .first)) seen (t .second))
+        (before (pair (t .first) (t .second)) (readPairs rule n (t .first) (suc i) (set seen (t .second) true) s₂))) ≡ got ps rest
+        → (pairsFault rule low i seen ps ≡ 0) × (length ps ≡ suc n)
+    both (got t s₂) ih d = check-pair (t .first) (t .second) (readPairs rule n (t .first) (suc i) (set seen (t .second) true) s₂)
+        (ih (t .first) (t .second) s₂) (pairFault (rule low i (t .first)) seen (t .second)) refl d
     both (bad k) ih d = let z : _≡_ {A = ℕ} 0 1 = cc in absurd (omega arith)
 
 -- ---- a group
@@ -275,11 +306,14 @@ module _ (s : List ℕ) (place : ℕ) (seen : Seen) {x y next : ℕ} (g : TwoGot
       pub group-stores-bad : {k : ℕ} → readPairs (storeRule ls) y 0 0 (seen .stores) s₃ ≡ bad k → readGroup seen (drop place s) ≡ bad k
       group-stores-bad e = group-two seen (drop place s) ∙ rw (g .is, right, l, e)
 
-      pub group-read : {ss : List Pair} {s₄ : List ℕ} → readPairs (storeRule ls) y 0 0 (seen .stores) s₃ ≡ got ss s₄ → readGroup seen (drop place s) ≡ got (groupOf ls ss) s₄
+      pub group-read : {ss : List Pair} {s₄ : List ℕ} → readPairs (storeRule ls) y 0 0 (seen .stores) s₃ ≡ got ss s₄
+          → readGroup seen (drop place s) ≡ got (groupOf ls ss) s₄
       group-read e = group-two seen (drop place s) ∙ rw (g .is, right, l, e)
 
 -- loads that were read into a record make a rule for the stores
-pub same-stores : {s : List ℕ} {seen : List Bool} {ls : List Pair} {rest : List ℕ} {r : PairsRead} → PairsFound s seen ls rest r → (y : ℕ) (marks : List Bool) → readPairs (storeRule ls) y 0 0 marks rest ≡ readPairs (storeRule (pairsIn (r .pairs))) y 0 0 marks (drop (r .next) s)
+pub same-stores : {s : List ℕ} {seen : List Bool} {ls : List Pair} {rest : List ℕ} {r : PairsRead} → PairsFound s seen ls rest r
+    → (y : ℕ) (marks : List Bool)
+    → readPairs (storeRule ls) y 0 0 marks rest ≡ readPairs (storeRule (pairsIn (r .pairs))) y 0 0 marks (drop (r .next) s)
 same-stores f y marks = rw (f .holds, f .rest-is)
 
 -- ---- groups, one by one
@@ -316,8 +350,10 @@ gathering-none {n} {s} {start} h e = record {
   inside = h;
 }
 
-module _ {n : ℕ} {s : List ℕ} {start i : ℕ} {seen : Seen} {place : ℕ} {table : Table} {loads stores : ℕ} (w : PairsGathering n s start i seen place table loads stores) where
-  next-group : i < n → readGroups (n - i) seen (drop place s) ≡ (thenRead (readGroup seen (drop place s)) λ g s₁. before g (readGroups (n - (i + 1)) (seenAfter g seen) s₁))
+module _ {n : ℕ} {s : List ℕ} {start i : ℕ} {seen : Seen} {place : ℕ} {table : Table} {loads stores : ℕ}
+    (w : PairsGathering n s start i seen place table loads stores) where
+  next-group : i < n → readGroups (n - i) seen (drop place s)
+      ≡ (thenRead (readGroup seen (drop place s)) λ g s₁. before g (readGroups (n - (i + 1)) (seenAfter g seen) s₁))
   unfolding readGroups
   next-group h = let e : n - i ≡ suc (n - (i + 1)) = omega arith in rw e
 
@@ -341,10 +377,12 @@ module _ {n : ℕ} {s : List ℕ} {start i : ℕ} {seen : Seen} {place : ℕ} {t
           stores-room = rw stores-count (m .1);
         }
 
-    pub gathering-more : {t : Table} → Grown table loads stores (r .group) t → PairsGathering n s start (i + 1) (seenOf (r .seen)) (r .next) t (loads + r .group .loads .count) (stores + r .group .stores .count)
+    pub gathering-more : {t : Table} → Grown table loads stores (r .group) t
+        → PairsGathering n s start (i + 1) (seenOf (r .seen)) (r .next) t (loads + r .group .loads .count) (stores + r .group .stores .count)
     gathering-more v = record {
       done = w .done ++ g .group ∷ [];
-      is = w .is ∙ rw (next-group h, g .is, g .told .rest-is, ← g .told .marks) (after-before (w .done) (g .group) (readGroups (n - (i + 1)) (seenOf (r .seen)) (drop (r .next) s)));
+      is = w .is ∙ rw (next-group h, g .is, g .told .rest-is, ← g .told .marks)
+          (after-before (w .done) (g .group) (readGroups (n - (i + 1)) (seenOf (r .seen)) (drop (r .next) s)));
       many = rw (length-append, w .many);
       packed-is = packed-more (w .packed-is) (g .group) (g .told .group) (omega (arith, w .many)) v;
       marks = rw (g .told .marks, loads-count, stores-count) (marks-more (w .marks) (g .group) right);
@@ -372,7 +410,8 @@ groups-got (groups-found {gs} {rest} f) z = record { groups = gs; rest = rest; i
 groups-got (groups-none f) z = absurd (f .some (sym (f .is) ∙ z))
 
 -- the record of a group whose loads and stores were read
-pub group-made : {s : List ℕ} {seen : Seen} {ls ss : List Pair} {s₃ s₄ : List ℕ} {l t : PairsRead} → PairsFound s (seen .loads) ls s₃ l → PairsFound s (seen .stores) ss s₄ t → GroupFound s seen (groupOf ls ss) s₄ (groupMade l t)
+pub group-made : {s : List ℕ} {seen : Seen} {ls ss : List Pair} {s₃ s₄ : List ℕ} {l t : PairsRead} → PairsFound s (seen .loads) ls s₃ l
+    → PairsFound s (seen .stores) ss s₄ t → GroupFound s seen (groupOf ls ss) s₄ (groupMade l t)
 group-made f g = record {
   answer = refl;
   group = rw (f .pairs, g .pairs);

@@ -34,7 +34,8 @@ pub record PairsTaken (rule : ℕ → ℕ → ℕ → Bool) (low i : ℕ) (seen 
   pub is : readPairs rule (length ps) low i seen s ≡ got ps rest
   pub others : Spelled rest ns
 
-pub take-pairs : (rule : ℕ → ℕ → ℕ → Bool) (low i : ℕ) (seen : List Bool) (ps : List Pair) (s ns : List ℕ) → pairsFault rule low i seen ps ≡ 0 → Spelled s (flatMap pairNumbers ps ++ ns) → PairsTaken rule low i seen s ps ns
+pub take-pairs : (rule : ℕ → ℕ → ℕ → Bool) (low i : ℕ) (seen : List Bool) (ps : List Pair) (s ns : List ℕ) → pairsFault rule low i seen ps ≡ 0
+    → Spelled s (flatMap pairNumbers ps ++ ns) → PairsTaken rule low i seen s ps ns
 unfolding readPairs pairsFault
 take-pairs rule low i seen [] s ns e w = record { rest = s; is = refl; others = w }
 take-pairs rule low i seen (p ∷ ps) s ns e w =
@@ -44,10 +45,14 @@ take-pairs rule low i seen (p ∷ ps) s ns e w =
     let z = take-pairs rule (p .offset) (suc i) (set seen (p .port) true) ps (y .rest) ns (f .1) (y .others) in
     record { rest = z .rest; is = one-more (x .rest) (y .rest) (z .rest) (x .is) (y .is) (f .0) (z .is); others = z .others }
   where
-    one-more : (s₁ s₂ r : List ℕ) → readNumber s ≡ got (p .offset) s₁ → readNumber s₁ ≡ got (p .port) s₂ → pairFault (rule low i (p .offset)) seen (p .port) ≡ 0 → readPairs rule (length ps) (p .offset) (suc i) (set seen (p .port) true) s₂ ≡ got ps r → readPairs rule (suc (length ps)) low i seen s ≡ got (p ∷ ps) r
+    one-more : (s₁ s₂ r : List ℕ) → readNumber s ≡ got (p .offset) s₁ → readNumber s₁ ≡ got (p .port) s₂
+        → pairFault (rule low i (p .offset)) seen (p .port) ≡ 0
+        → readPairs rule (length ps) (p .offset) (suc i) (set seen (p .port) true) s₂ ≡ got ps r
+        → readPairs rule (suc (length ps)) low i seen s ≡ got (p ∷ ps) r
     one-more s₁ s₂ r a b c d = rw (a, b, c, d)
 
-pub put-pairs : (rule : ℕ → ℕ → ℕ → Bool) (n low i : ℕ) (seen : List Bool) (s : List ℕ) (ps : List Pair) (rest ns : List ℕ) → readPairs rule n low i seen s ≡ got ps rest → Spelled rest ns → Spelled s (flatMap pairNumbers ps ++ ns)
+pub put-pairs : (rule : ℕ → ℕ → ℕ → Bool) (n low i : ℕ) (seen : List Bool) (s : List ℕ) (ps : List Pair) (rest ns : List ℕ)
+    → readPairs rule n low i seen s ≡ got ps rest → Spelled rest ns → Spelled s (flatMap pairNumbers ps ++ ns)
 unfolding readPairs
 put-pairs rule zero low i seen s ps rest ns e w =
     let p : [] ≡ ps = cc in
@@ -55,28 +60,41 @@ put-pairs rule zero low i seen s ps rest ns e w =
     rw (← p, q) w
 put-pairs rule (suc n) low i seen s ps rest ns e w = first (readNumber s) refl (λ x y s₂ l d. put-pairs rule n x (suc i) (set seen y true) s₂ l rest ns d w) e
   where
-    put : (x y : ℕ) (s₁ s₂ : List ℕ) (l : List Pair) → readNumber s ≡ got x s₁ → readNumber s₁ ≡ got y s₂ → pair x y ∷ l ≡ ps → Spelled s₂ (flatMap pairNumbers l ++ ns) → Spelled s (flatMap pairNumbers ps ++ ns)
+    put : (x y : ℕ) (s₁ s₂ : List ℕ) (l : List Pair) → readNumber s ≡ got x s₁ → readNumber s₁ ≡ got y s₂ → pair x y ∷ l ≡ ps
+        → Spelled s₂ (flatMap pairNumbers l ++ ns) → Spelled s (flatMap pairNumbers ps ++ ns)
     put x y s₁ s₂ l f g q k = rw (← q) (put-back s x s₁ _ f (put-back s₁ y s₂ _ g k))
 
-    tail : (x y : ℕ) (s₁ s₂ : List ℕ) → readNumber s ≡ got x s₁ → readNumber s₁ ≡ got y s₂ → (g : Got (List Pair)) → ((l : List Pair) → g ≡ got l rest → Spelled s₂ (flatMap pairNumbers l ++ ns)) → before (pair x y) g ≡ got ps rest → Spelled s (flatMap pairNumbers ps ++ ns)
+    tail : (x y : ℕ) (s₁ s₂ : List ℕ) → readNumber s ≡ got x s₁ → readNumber s₁ ≡ got y s₂ → (g : Got (List Pair))
+        → ((l : List Pair) → g ≡ got l rest → Spelled s₂ (flatMap pairNumbers l ++ ns)) → before (pair x y) g ≡ got ps rest
+        → Spelled s (flatMap pairNumbers ps ++ ns)
     tail x y s₁ s₂ f h (got l r) ih d =
         let q : pair x y ∷ l ≡ ps = cc in
         let r-is : got l r ≡ got l rest = cc in
         put x y s₁ s₂ l f h q (ih l r-is)
     tail x y s₁ s₂ f h (bad k) ih d = let z : _≡_ {A = ℕ} 0 1 = cc in absurd (omega arith)
 
-    fault : (x y : ℕ) (s₁ s₂ : List ℕ) → readNumber s ≡ got x s₁ → readNumber s₁ ≡ got y s₂ → (k : ℕ) → (g : Got (List Pair)) → ((l : List Pair) → g ≡ got l rest → Spelled s₂ (flatMap pairNumbers l ++ ns)) → unless k (before (pair x y) g) ≡ got ps rest → Spelled s (flatMap pairNumbers ps ++ ns)
+    fault : (x y : ℕ) (s₁ s₂ : List ℕ) → readNumber s ≡ got x s₁ → readNumber s₁ ≡ got y s₂ → (k : ℕ) → (g : Got (List Pair))
+        → ((l : List Pair) → g ≡ got l rest → Spelled s₂ (flatMap pairNumbers l ++ ns)) → unless k (before (pair x y) g) ≡ got ps rest
+        → Spelled s (flatMap pairNumbers ps ++ ns)
     fault x y s₁ s₂ f h zero g ih d = tail x y s₁ s₂ f h g ih d
     fault x y s₁ s₂ f h (suc k) g ih d =
         let t = ne-eqb (suc k) 0 (λ z. omega arith) in
         let u : bad (suc k) ≡ got ps rest = rw t at d in
         let z : _≡_ {A = ℕ} 0 1 = cc in absurd (omega arith)
 
-    second : (x : ℕ) (s₁ : List ℕ) → readNumber s ≡ got x s₁ → (g : Got ℕ) → readNumber s₁ ≡ g → ((x y : ℕ) (s₂ : List ℕ) (l : List Pair) → readPairs rule n x (suc i) (set seen y true) s₂ ≡ got l rest → Spelled s₂ (flatMap pairNumbers l ++ ns)) → (thenRead g λ y s₂. unless (pairFault (rule low i x) seen y) (before (pair x y) (readPairs rule n x (suc i) (set seen y true) s₂))) ≡ got ps rest → Spelled s (flatMap pairNumbers ps ++ ns)
+    second : (x : ℕ) (s₁ : List ℕ) → readNumber s ≡ got x s₁ → (g : Got ℕ) → readNumber s₁ ≡ g
+        → ((x y : ℕ) (s₂ : List ℕ) (l : List Pair) → readPairs rule n x (suc i) (set seen y true) s₂ ≡ got l rest
+        → Spelled s₂ (flatMap pairNumbers l ++ ns))
+        → (thenRead g λ y s₂. unless (pairFault (rule low i x) seen y) (before (pair x y) (readPairs rule n x (suc i) (set seen y true) s₂))) ≡ got ps
+        rest → Spelled s (flatMap pairNumbers ps ++ ns)
     second x s₁ f (got y s₂) h ih d = fault x y s₁ s₂ f h (pairFault (rule low i x) seen y) (readPairs rule n x (suc i) (set seen y true) s₂) (ih x y s₂) d
     second x s₁ f (bad k) h ih d = let z : _≡_ {A = ℕ} 0 1 = cc in absurd (omega arith)
 
-    first : (g : Got ℕ) → readNumber s ≡ g → ((x y : ℕ) (s₂ : List ℕ) (l : List Pair) → readPairs rule n x (suc i) (set seen y true) s₂ ≡ got l rest → Spelled s₂ (flatMap pairNumbers l ++ ns)) → (thenRead g λ x s₁. thenRead (readNumber s₁) λ y s₂. unless (pairFault (rule low i x) seen y) (before (pair x y) (readPairs rule n x (suc i) (set seen y true) s₂))) ≡ got ps rest → Spelled s (flatMap pairNumbers ps ++ ns)
+    first : (g : Got ℕ) → readNumber s ≡ g
+        → ((x y : ℕ) (s₂ : List ℕ) (l : List Pair) → readPairs rule n x (suc i) (set seen y true) s₂ ≡ got l rest
+        → Spelled s₂ (flatMap pairNumbers l ++ ns))
+        → (thenRead g λ x s₁. thenRead (readNumber s₁) λ y s₂. unless (pairFault (rule low i x) seen y)
+        (before (pair x y) (readPairs rule n x (suc i) (set seen y true) s₂))) ≡ got ps rest → Spelled s (flatMap pairNumbers ps ++ ns)
     first (got x s₁) f ih d = second x s₁ f (readNumber s₁) refl ih d
     first (bad k) f ih d = let z : _≡_ {A = ℕ} 0 1 = cc in absurd (omega arith)
 
@@ -86,7 +104,9 @@ pub record GroupTaken (seen : Seen) (s : List ℕ) (g : GroupPairs) (ns : List �
   pub is : readGroup seen s ≡ got g rest
   pub others : Spelled rest ns
 
-group-right-of : (seen : Seen) (g : GroupPairs) → countsRight (length (g .loads)) (length (g .stores)) ≡ true → pairsFault (loadRule (length (g .stores))) 0 0 (seen .loads) (g .loads) ≡ 0 → pairsFault (storeRule (g .loads)) 0 0 (seen .stores) (g .stores) ≡ 0 → groupFault seen g ≡ 0
+group-right-of : (seen : Seen) (g : GroupPairs) → countsRight (length (g .loads)) (length (g .stores)) ≡ true
+    → pairsFault (loadRule (length (g .stores))) 0 0 (seen .loads) (g .loads) ≡ 0
+    → pairsFault (storeRule (g .loads)) 0 0 (seen .stores) (g .stores) ≡ 0 → groupFault seen g ≡ 0
 unfolding groupFault
 group-right-of seen g a b c = rw (a, b, c)
 
@@ -96,11 +116,15 @@ take-group seen g s ns e w =
     let (right, ls, ss) = group-fault seen g e in
     let x = take-one w in
     let y = take-one (x .others) in
-    let l = take-pairs (loadRule (length (g .stores))) 0 0 (seen .loads) (g .loads) (y .rest) (flatMap pairNumbers (g .stores) ++ ns) ls (regrouped (flatMap pairNumbers (g .loads)) (flatMap pairNumbers (g .stores)) ns (y .others)) in
+    let l = take-pairs (loadRule (length (g .stores))) 0 0 (seen .loads) (g .loads) (y .rest) (flatMap pairNumbers (g .stores) ++ ns) ls
+    (regrouped (flatMap pairNumbers (g .loads)) (flatMap pairNumbers (g .stores)) ns (y .others)) in
     let t = take-pairs (storeRule (g .loads)) 0 0 (seen .stores) (g .stores) (l .rest) ns ss (l .others) in
     record { rest = t .rest; is = whole (x .rest) (y .rest) (l .rest) (t .rest) (x .is) (y .is) right (l .is) (t .is); others = t .others }
   where
-    whole : (s₁ s₂ s₃ r : List ℕ) → readNumber s ≡ got (length (g .loads)) s₁ → readNumber s₁ ≡ got (length (g .stores)) s₂ → countsRight (length (g .loads)) (length (g .stores)) ≡ true → readPairs (loadRule (length (g .stores))) (length (g .loads)) 0 0 (seen .loads) s₂ ≡ got (g .loads) s₃ → readPairs (storeRule (g .loads)) (length (g .stores)) 0 0 (seen .stores) s₃ ≡ got (g .stores) r → readGroup seen s ≡ got g r
+    whole : (s₁ s₂ s₃ r : List ℕ) → readNumber s ≡ got (length (g .loads)) s₁ → readNumber s₁ ≡ got (length (g .stores)) s₂
+        → countsRight (length (g .loads)) (length (g .stores)) ≡ true
+        → readPairs (loadRule (length (g .stores))) (length (g .loads)) 0 0 (seen .loads) s₂ ≡ got (g .loads) s₃
+        → readPairs (storeRule (g .loads)) (length (g .stores)) 0 0 (seen .stores) s₃ ≡ got (g .stores) r → readGroup seen s ≡ got g r
     whole s₁ s₂ s₃ r a b c d f = rw (a, b, c, d, f)
 
 -- what a group that was read says
@@ -112,10 +136,15 @@ pub put-group : (seen : Seen) (s : List ℕ) (g : GroupPairs) (rest : List ℕ) 
 unfolding readGroup
 put-group seen s g rest e = first (readNumber s) refl e
   where
-    made : (x y : ℕ) (s₁ s₂ s₃ : List ℕ) (ls ss : List Pair) → readNumber s ≡ got x s₁ → readNumber s₁ ≡ got y s₂ → countsRight x y ≡ true → readPairs (loadRule y) x 0 0 (seen .loads) s₂ ≡ got ls s₃ → readPairs (storeRule ls) y 0 0 (seen .stores) s₃ ≡ got ss rest → record { loads = ls; stores = ss } ≡ g → GroupPut seen s g rest
+    made : (x y : ℕ) (s₁ s₂ s₃ : List ℕ) (ls ss : List Pair) → readNumber s ≡ got x s₁ → readNumber s₁ ≡ got y s₂ → countsRight x y ≡ true
+        → readPairs (loadRule y) x 0 0 (seen .loads) s₂ ≡ got ls s₃ → readPairs (storeRule ls) y 0 0 (seen .stores) s₃ ≡ got ss rest
+        → record { loads = ls; stores = ss } ≡ g → GroupPut seen s g rest
     made x y s₁ s₂ s₃ ls ss a b c d f q = rw (← q) (record {
       right = group-right-of seen (record { loads = ls; stores = ss }) (rw (n, m) c) (rw m (l .0)) (t .0);
-      spelled = λ ns w. rw (n, m) (put-back s x s₁ _ a (put-back s₁ y s₂ _ b (rw (append-assoc (flatMap pairNumbers ls) (flatMap pairNumbers ss) ns) (put-pairs (loadRule y) x 0 0 (seen .loads) s₂ ls s₃ _ d (put-pairs (storeRule ls) y 0 0 (seen .stores) s₃ ss rest ns f w)))));
+      spelled = λ ns w. rw (n, m)
+          (put-back s x s₁ _ a (put-back s₁ y s₂ _ b
+          (rw (append-assoc (flatMap pairNumbers ls) (flatMap pairNumbers ss) ns)
+          (put-pairs (loadRule y) x 0 0 (seen .loads) s₂ ls s₃ _ d (put-pairs (storeRule ls) y 0 0 (seen .stores) s₃ ss rest ns f w)))));
     })
       where
         l : (pairsFault (loadRule y) 0 0 (seen .loads) ls ≡ 0) × (length ls ≡ x)
@@ -130,26 +159,40 @@ put-group seen s g rest e = first (readNumber s) refl e
         m : length ss ≡ y
         m = t .1
 
-    stores : (x y : ℕ) (s₁ s₂ s₃ : List ℕ) (ls : List Pair) → readNumber s ≡ got x s₁ → readNumber s₁ ≡ got y s₂ → countsRight x y ≡ true → readPairs (loadRule y) x 0 0 (seen .loads) s₂ ≡ got ls s₃ → (h : Got (List Pair)) → readPairs (storeRule ls) y 0 0 (seen .stores) s₃ ≡ h → (thenRead h λ ss s₄. got (groupOf ls ss) s₄) ≡ got g rest → GroupPut seen s g rest
+    stores : (x y : ℕ) (s₁ s₂ s₃ : List ℕ) (ls : List Pair) → readNumber s ≡ got x s₁ → readNumber s₁ ≡ got y s₂ → countsRight x y ≡ true
+        → readPairs (loadRule y) x 0 0 (seen .loads) s₂ ≡ got ls s₃ → (h : Got (List Pair)) → readPairs (storeRule ls) y 0 0 (seen .stores) s₃ ≡ h
+        → (thenRead h λ ss s₄. got (groupOf ls ss) s₄) ≡ got g rest → GroupPut seen s g rest
     stores x y s₁ s₂ s₃ ls a b c d (got ss s₄) f k =
         let q : groupOf ls ss ≡ g = cc in
         let r : s₄ ≡ rest = cc in
         made x y s₁ s₂ s₃ ls ss a b c d (f ∙ rw r) q
     stores x y s₁ s₂ s₃ ls a b c d (bad n) f k = let z : _≡_ {A = ℕ} 0 1 = cc in absurd (omega arith)
 
-    loads : (x y : ℕ) (s₁ s₂ : List ℕ) → readNumber s ≡ got x s₁ → readNumber s₁ ≡ got y s₂ → countsRight x y ≡ true → (h : Got (List Pair)) → readPairs (loadRule y) x 0 0 (seen .loads) s₂ ≡ h → (thenRead h λ ls s₃. thenRead (readPairs (storeRule ls) y 0 0 (seen .stores) s₃) λ ss s₄. got (groupOf ls ss) s₄) ≡ got g rest → GroupPut seen s g rest
+    loads : (x y : ℕ) (s₁ s₂ : List ℕ) → readNumber s ≡ got x s₁ → readNumber s₁ ≡ got y s₂ → countsRight x y ≡ true → (h : Got (List Pair))
+        → readPairs (loadRule y) x 0 0 (seen .loads) s₂ ≡ h
+        → (thenRead h λ ls s₃. thenRead (readPairs (storeRule ls) y 0 0 (seen .stores) s₃) λ ss s₄. got (groupOf ls ss) s₄) ≡ got g rest
+        → GroupPut seen s g rest
     loads x y s₁ s₂ a b c (got ls s₃) d k = stores x y s₁ s₂ s₃ ls a b c d (readPairs (storeRule ls) y 0 0 (seen .stores) s₃) refl k
     loads x y s₁ s₂ a b c (bad n) d k = let z : _≡_ {A = ℕ} 0 1 = cc in absurd (omega arith)
 
-    counts : (x y : ℕ) (s₁ s₂ : List ℕ) → readNumber s ≡ got x s₁ → readNumber s₁ ≡ got y s₂ → (t : Bool) → countsRight x y ≡ t → require t badCounts (thenRead (readPairs (loadRule y) x 0 0 (seen .loads) s₂) λ ls s₃. thenRead (readPairs (storeRule ls) y 0 0 (seen .stores) s₃) λ ss s₄. got (groupOf ls ss) s₄) ≡ got g rest → GroupPut seen s g rest
+    counts : (x y : ℕ) (s₁ s₂ : List ℕ) → readNumber s ≡ got x s₁ → readNumber s₁ ≡ got y s₂ → (t : Bool) → countsRight x y ≡ t
+        → require t badCounts
+        (thenRead (readPairs (loadRule y) x 0 0 (seen .loads) s₂) λ ls s₃. thenRead (readPairs (storeRule ls) y 0 0 (seen .stores) s₃) λ ss s₄. got
+        (groupOf ls ss) s₄) ≡ got g rest → GroupPut seen s g rest
     counts x y s₁ s₂ a b true c k = loads x y s₁ s₂ a b c (readPairs (loadRule y) x 0 0 (seen .loads) s₂) refl k
     counts x y s₁ s₂ a b false c k = let z : _≡_ {A = ℕ} 0 1 = cc in absurd (omega arith)
 
-    second : (x : ℕ) (s₁ : List ℕ) → readNumber s ≡ got x s₁ → (h : Got ℕ) → readNumber s₁ ≡ h → (thenRead h λ y s₂. require (countsRight x y) badCounts (thenRead (readPairs (loadRule y) x 0 0 (seen .loads) s₂) λ ls s₃. thenRead (readPairs (storeRule ls) y 0 0 (seen .stores) s₃) λ ss s₄. got (groupOf ls ss) s₄)) ≡ got g rest → GroupPut seen s g rest
+    second : (x : ℕ) (s₁ : List ℕ) → readNumber s ≡ got x s₁ → (h : Got ℕ) → readNumber s₁ ≡ h
+        → (thenRead h λ y s₂. require (countsRight x y) badCounts
+        (thenRead (readPairs (loadRule y) x 0 0 (seen .loads) s₂) λ ls s₃. thenRead (readPairs (storeRule ls) y 0 0 (seen .stores) s₃) λ ss s₄. got
+        (groupOf ls ss) s₄)) ≡ got g rest → GroupPut seen s g rest
     second x s₁ a (got y s₂) b k = counts x y s₁ s₂ a b (countsRight x y) refl k
     second x s₁ a (bad n) b k = let z : _≡_ {A = ℕ} 0 1 = cc in absurd (omega arith)
 
-    first : (h : Got ℕ) → readNumber s ≡ h → (thenRead h λ x s₁. thenRead (readNumber s₁) λ y s₂. require (countsRight x y) badCounts (thenRead (readPairs (loadRule y) x 0 0 (seen .loads) s₂) λ ls s₃. thenRead (readPairs (storeRule ls) y 0 0 (seen .stores) s₃) λ ss s₄. got (groupOf ls ss) s₄)) ≡ got g rest → GroupPut seen s g rest
+    first : (h : Got ℕ) → readNumber s ≡ h
+        → (thenRead h λ x s₁. thenRead (readNumber s₁) λ y s₂. require (countsRight x y) badCounts
+        (thenRead (readPairs (loadRule y) x 0 0 (seen .loads) s₂) λ ls s₃. thenRead (readPairs (storeRule ls) y 0 0 (seen .stores) s₃) λ ss s₄. got
+        (groupOf ls ss) s₄)) ≡ got g rest → GroupPut seen s g rest
     first (got x s₁) a k = second x s₁ a (readNumber s₁) refl k
     first (bad n) a k = let z : _≡_ {A = ℕ} 0 1 = cc in absurd (omega arith)
 
@@ -159,7 +202,8 @@ pub record GroupsTaken (seen : Seen) (s : List ℕ) (gs : List GroupPairs) (ns :
   pub is : readGroups (length gs) seen s ≡ got gs rest
   pub others : Spelled rest ns
 
-pub take-groups : (seen : Seen) (gs : List GroupPairs) (s ns : List ℕ) → groupsFault seen gs ≡ 0 → Spelled s (flatMap groupNumbers gs ++ ns) → GroupsTaken seen s gs ns
+pub take-groups : (seen : Seen) (gs : List GroupPairs) (s ns : List ℕ) → groupsFault seen gs ≡ 0 → Spelled s (flatMap groupNumbers gs ++ ns)
+    → GroupsTaken seen s gs ns
 unfolding readGroups groupsFault
 take-groups seen [] s ns e w = record { rest = s; is = refl; others = w }
 take-groups seen (g ∷ gs) s ns e w =
@@ -168,7 +212,8 @@ take-groups seen (g ∷ gs) s ns e w =
     let y = take-groups (seenAfter g seen) gs (x .rest) ns (f .1) (x .others) in
     record { rest = y .rest; is = one-more (x .rest) (y .rest) (x .is) (y .is); others = y .others }
   where
-    one-more : (s₁ r : List ℕ) → readGroup seen s ≡ got g s₁ → readGroups (length gs) (seenAfter g seen) s₁ ≡ got gs r → readGroups (suc (length gs)) seen s ≡ got (g ∷ gs) r
+    one-more : (s₁ r : List ℕ) → readGroup seen s ≡ got g s₁ → readGroups (length gs) (seenAfter g seen) s₁ ≡ got gs r
+        → readGroups (suc (length gs)) seen s ≡ got (g ∷ gs) r
     one-more s₁ r a b = rw (a, b)
 
 pub record GroupsPut (seen : Seen) (n : ℕ) (s : List ℕ) (gs : List GroupPairs) (rest : List ℕ) : Type 0 where
@@ -184,7 +229,8 @@ put-groups zero seen s gs rest e =
     rw (← p, ← q) (record { right = refl; many = refl; spelled = λ ns w. w })
 put-groups (suc n) seen s gs rest e = first (readGroup seen s) refl (λ g s₁ l d. put-groups n (seenAfter g seen) s₁ l rest d) e
   where
-    made : (g : GroupPairs) (s₁ : List ℕ) (l : List GroupPairs) → GroupPut seen s g s₁ → GroupsPut (seenAfter g seen) n s₁ l rest → g ∷ l ≡ gs → GroupsPut seen (suc n) s gs rest
+    made : (g : GroupPairs) (s₁ : List ℕ) (l : List GroupPairs) → GroupPut seen s g s₁ → GroupsPut (seenAfter g seen) n s₁ l rest → g ∷ l ≡ gs
+        → GroupsPut seen (suc n) s gs rest
     made g s₁ l a b q = rw (← q) (record {
       right = both (a .right) (b .right);
       many = ap suc (b .many);
@@ -194,14 +240,19 @@ put-groups (suc n) seen s gs rest e = first (readGroup seen s) refl (λ g s₁ l
         both : groupFault seen g ≡ 0 → groupsFault (seenAfter g seen) l ≡ 0 → groupsFault seen (g ∷ l) ≡ 0
         both c d = rw (c, d)
 
-    tail : (g : GroupPairs) (s₁ : List ℕ) → readGroup seen s ≡ got g s₁ → (h : Got (List GroupPairs)) → ((l : List GroupPairs) → h ≡ got l rest → GroupsPut (seenAfter g seen) n s₁ l rest) → before g h ≡ got gs rest → GroupsPut seen (suc n) s gs rest
+    tail : (g : GroupPairs) (s₁ : List ℕ) → readGroup seen s ≡ got g s₁ → (h : Got (List GroupPairs))
+        → ((l : List GroupPairs) → h ≡ got l rest → GroupsPut (seenAfter g seen) n s₁ l rest) → before g h ≡ got gs rest
+        → GroupsPut seen (suc n) s gs rest
     tail g s₁ a (got l r) ih d =
         let q : g ∷ l ≡ gs = cc in
         let r-is : got l r ≡ got l rest = cc in
         made g s₁ l (put-group seen s g s₁ a) (ih l r-is) q
     tail g s₁ a (bad k) ih d = let z : _≡_ {A = ℕ} 0 1 = cc in absurd (omega arith)
 
-    first : (h : Got GroupPairs) → readGroup seen s ≡ h → ((g : GroupPairs) (s₁ : List ℕ) (l : List GroupPairs) → readGroups n (seenAfter g seen) s₁ ≡ got l rest → GroupsPut (seenAfter g seen) n s₁ l rest) → (thenRead h λ g s₁. before g (readGroups n (seenAfter g seen) s₁)) ≡ got gs rest → GroupsPut seen (suc n) s gs rest
+    first : (h : Got GroupPairs) → readGroup seen s ≡ h
+        → ((g : GroupPairs) (s₁ : List ℕ) (l : List GroupPairs) → readGroups n (seenAfter g seen) s₁ ≡ got l rest
+        → GroupsPut (seenAfter g seen) n s₁ l rest) → (thenRead h λ g s₁. before g (readGroups n (seenAfter g seen) s₁)) ≡ got gs rest
+        → GroupsPut seen (suc n) s gs rest
     first (got g s₁) a ih d = tail g s₁ a (readGroups n (seenAfter g seen) s₁) (ih g s₁) d
     first (bad k) a ih d = let z : _≡_ {A = ℕ} 0 1 = cc in absurd (omega arith)
 
@@ -223,20 +274,29 @@ tables-are-spelled gs bytes e w =
     let g = take-groups noneSeen gs (y .rest) [] right (with-none (flatMap groupNumbers gs) (y .others)) in
     whole (x .rest) (y .rest) (g .rest) (x .is) (y .is) few (g .is) (spelled-none (g .others))
   where
-    whole : (s₁ s₂ s₃ : List ℕ) → readNumber bytes ≡ got 2 s₁ → readNumber s₁ ≡ got (length gs) s₂ → within 1 16 (length gs) ≡ true → readGroups (length gs) noneSeen s₂ ≡ got gs s₃ → s₃ ≡ [] → readTable bytes ≡ got gs []
+    whole : (s₁ s₂ s₃ : List ℕ) → readNumber bytes ≡ got 2 s₁ → readNumber s₁ ≡ got (length gs) s₂ → within 1 16 (length gs) ≡ true
+        → readGroups (length gs) noneSeen s₂ ≡ got gs s₃ → s₃ ≡ [] → readTable bytes ≡ got gs []
     whole s₁ s₂ s₃ a b c d f = rw (a, b, c, d, f)
 
 pub only-right-tables : OnlyRightTables
 unfolding readTable
 only-right-tables s rest gs e = first (readNumber s) refl e
   where
-    made : (n : ℕ) (s₁ s₂ : List ℕ) → readNumber s ≡ got 2 s₁ → readNumber s₁ ≡ got n s₂ → within 1 16 n ≡ true → GroupsPut noneSeen n s₂ gs rest → rest ≡ [] → (tableFault gs ≡ 0) × (rest ≡ []) × Spelled s (tableNumbers gs)
-    made n s₁ s₂ a b c w z = (right, z, rw (w .many) (put-back s 2 s₁ _ a (put-back s₁ n s₂ _ b (rw (append-nil (flatMap groupNumbers gs)) at (w .spelled [] (rw z spells-none))))))
+    made : (n : ℕ) (s₁ s₂ : List ℕ) → readNumber s ≡ got 2 s₁ → readNumber s₁ ≡ got n s₂ → within 1 16 n ≡ true → GroupsPut noneSeen n s₂ gs rest
+        → rest ≡ [] → (tableFault gs ≡ 0) × (rest ≡ []) × Spelled s (tableNumbers gs)
+    made n s₁ s₂ a b c w z = (
+      right,
+      z,
+      rw (w .many)
+          (put-back s 2 s₁ _ a (put-back s₁ n s₂ _ b (rw (append-nil (flatMap groupNumbers gs)) at (w .spelled [] (rw z spells-none))))),
+    )
       where
         right : tableFault gs ≡ 0
         right = table-right-of gs (rw (w .many) c) (w .right)
 
-    end : (n : ℕ) (s₁ s₂ : List ℕ) → readNumber s ≡ got 2 s₁ → readNumber s₁ ≡ got n s₂ → within 1 16 n ≡ true → (h : List GroupPairs) (s₃ : List ℕ) → readGroups n noneSeen s₂ ≡ got h s₃ → (t : Bool) → eqb (length s₃) 0 ≡ t → require t leftOver (got h s₃) ≡ got gs rest → (tableFault gs ≡ 0) × (rest ≡ []) × Spelled s (tableNumbers gs)
+    end : (n : ℕ) (s₁ s₂ : List ℕ) → readNumber s ≡ got 2 s₁ → readNumber s₁ ≡ got n s₂ → within 1 16 n ≡ true → (h : List GroupPairs) (s₃ : List ℕ)
+        → readGroups n noneSeen s₂ ≡ got h s₃ → (t : Bool) → eqb (length s₃) 0 ≡ t → require t leftOver (got h s₃) ≡ got gs rest
+        → (tableFault gs ≡ 0) × (rest ≡ []) × Spelled s (tableNumbers gs)
     end n s₁ s₂ a b c h s₃ d true k f =
         let p : h ≡ gs = cc in
         let q : s₃ ≡ rest = cc in
@@ -247,40 +307,58 @@ only-right-tables s rest gs e = first (readNumber s) refl e
         empty (x ∷ l) z = absurd (omega arith)
     end n s₁ s₂ a b c h s₃ d false k f = let z : _≡_ {A = ℕ} 0 1 = cc in absurd (omega arith)
 
-    groups : (n : ℕ) (s₁ s₂ : List ℕ) → readNumber s ≡ got 2 s₁ → readNumber s₁ ≡ got n s₂ → within 1 16 n ≡ true → (h : Got (List GroupPairs)) → readGroups n noneSeen s₂ ≡ h → (thenRead h λ l s₃. require (eqb (length s₃) 0) leftOver (got l s₃)) ≡ got gs rest → (tableFault gs ≡ 0) × (rest ≡ []) × Spelled s (tableNumbers gs)
+    groups : (n : ℕ) (s₁ s₂ : List ℕ) → readNumber s ≡ got 2 s₁ → readNumber s₁ ≡ got n s₂ → within 1 16 n ≡ true → (h : Got (List GroupPairs))
+        → readGroups n noneSeen s₂ ≡ h → (thenRead h λ l s₃. require (eqb (length s₃) 0) leftOver (got l s₃)) ≡ got gs rest
+        → (tableFault gs ≡ 0) × (rest ≡ []) × Spelled s (tableNumbers gs)
     groups n s₁ s₂ a b c (got l s₃) d f = end n s₁ s₂ a b c l s₃ d (eqb (length s₃) 0) refl f
     groups n s₁ s₂ a b c (bad k) d f = let z : _≡_ {A = ℕ} 0 1 = cc in absurd (omega arith)
 
-    count : (n : ℕ) (s₁ s₂ : List ℕ) → readNumber s ≡ got 2 s₁ → readNumber s₁ ≡ got n s₂ → (t : Bool) → within 1 16 n ≡ t → require t badGroupCount (thenRead (readGroups n noneSeen s₂) λ l s₃. require (eqb (length s₃) 0) leftOver (got l s₃)) ≡ got gs rest → (tableFault gs ≡ 0) × (rest ≡ []) × Spelled s (tableNumbers gs)
+    count : (n : ℕ) (s₁ s₂ : List ℕ) → readNumber s ≡ got 2 s₁ → readNumber s₁ ≡ got n s₂ → (t : Bool) → within 1 16 n ≡ t
+        → require t badGroupCount (thenRead (readGroups n noneSeen s₂) λ l s₃. require (eqb (length s₃) 0) leftOver (got l s₃)) ≡ got gs rest
+        → (tableFault gs ≡ 0) × (rest ≡ []) × Spelled s (tableNumbers gs)
     count n s₁ s₂ a b true c f = groups n s₁ s₂ a b c (readGroups n noneSeen s₂) refl f
     count n s₁ s₂ a b false c f = let z : _≡_ {A = ℕ} 0 1 = cc in absurd (omega arith)
 
-    second : (s₁ : List ℕ) → readNumber s ≡ got 2 s₁ → (h : Got ℕ) → readNumber s₁ ≡ h → (thenRead h λ n s₂. require (within 1 16 n) badGroupCount (thenRead (readGroups n noneSeen s₂) λ l s₃. require (eqb (length s₃) 0) leftOver (got l s₃))) ≡ got gs rest → (tableFault gs ≡ 0) × (rest ≡ []) × Spelled s (tableNumbers gs)
+    second : (s₁ : List ℕ) → readNumber s ≡ got 2 s₁ → (h : Got ℕ) → readNumber s₁ ≡ h
+        → (thenRead h λ n s₂. require (within 1 16 n) badGroupCount
+        (thenRead (readGroups n noneSeen s₂) λ l s₃. require (eqb (length s₃) 0) leftOver (got l s₃))) ≡ got gs rest
+        → (tableFault gs ≡ 0) × (rest ≡ []) × Spelled s (tableNumbers gs)
     second s₁ a (got n s₂) b f = count n s₁ s₂ a b (within 1 16 n) refl f
     second s₁ a (bad k) b f = let z : _≡_ {A = ℕ} 0 1 = cc in absurd (omega arith)
 
-    fields : (x : ℕ) (s₁ : List ℕ) → readNumber s ≡ got x s₁ → (t : Bool) → eqb x 2 ≡ t → require t badFields (thenRead (readNumber s₁) λ n s₂. require (within 1 16 n) badGroupCount (thenRead (readGroups n noneSeen s₂) λ l s₃. require (eqb (length s₃) 0) leftOver (got l s₃))) ≡ got gs rest → (tableFault gs ≡ 0) × (rest ≡ []) × Spelled s (tableNumbers gs)
+    fields : (x : ℕ) (s₁ : List ℕ) → readNumber s ≡ got x s₁ → (t : Bool) → eqb x 2 ≡ t
+        → require t badFields
+        (thenRead (readNumber s₁) λ n s₂. require (within 1 16 n) badGroupCount
+        (thenRead (readGroups n noneSeen s₂) λ l s₃. require (eqb (length s₃) 0) leftOver (got l s₃))) ≡ got gs rest
+        → (tableFault gs ≡ 0) × (rest ≡ []) × Spelled s (tableNumbers gs)
     fields x s₁ a true k f = second s₁ (a ∙ rw (eqb-true x 2 k)) (readNumber s₁) refl f
     fields x s₁ a false k f = let z : _≡_ {A = ℕ} 0 1 = cc in absurd (omega arith)
 
-    first : (h : Got ℕ) → readNumber s ≡ h → (thenRead h λ x s₁. require (eqb x 2) badFields (thenRead (readNumber s₁) λ n s₂. require (within 1 16 n) badGroupCount (thenRead (readGroups n noneSeen s₂) λ l s₃. require (eqb (length s₃) 0) leftOver (got l s₃)))) ≡ got gs rest → (tableFault gs ≡ 0) × (rest ≡ []) × Spelled s (tableNumbers gs)
+    first : (h : Got ℕ) → readNumber s ≡ h
+        → (thenRead h λ x s₁. require (eqb x 2) badFields
+        (thenRead (readNumber s₁) λ n s₂. require (within 1 16 n) badGroupCount
+        (thenRead (readGroups n noneSeen s₂) λ l s₃. require (eqb (length s₃) 0) leftOver (got l s₃)))) ≡ got gs rest
+        → (tableFault gs ≡ 0) × (rest ≡ []) × Spelled s (tableNumbers gs)
     first (got x s₁) a f = fields x s₁ a (eqb x 2) refl f
     first (bad k) a f = let z : _≡_ {A = ℕ} 0 1 = cc in absurd (omega arith)
 
 -- a right table's numbers are all small
-fit-pairs : (rule : ℕ → ℕ → ℕ → Bool) → ((low i offset : ℕ) → rule low i offset ≡ true → offset ≤ 16) → (low i : ℕ) (seen : List Bool) (ps : List Pair) {ns : List ℕ} → pairsFault rule low i seen ps ≡ 0 → Fit ns → Fit (flatMap pairNumbers ps ++ ns)
+fit-pairs : (rule : ℕ → ℕ → ℕ → Bool) → ((low i offset : ℕ) → rule low i offset ≡ true → offset ≤ 16)
+    → (low i : ℕ) (seen : List Bool) (ps : List Pair) {ns : List ℕ} → pairsFault rule low i seen ps ≡ 0 → Fit ns → Fit (flatMap pairNumbers ps ++ ns)
 unfolding pairsFault
 fit-pairs rule small low i seen [] e w = w
 fit-pairs rule small low i seen (p ∷ ps) e w =
     let f = or-else-both (pairFault (rule low i (p .offset)) seen (p .port)) _ e in
     let g = fault-none (rule low i (p .offset)) seen (p .port) (f .0) in
-    fit-one {n = p .offset} (omega (arith, small low i (p .offset) (g .0))) (fit-one {n = p .port} (omega (arith, g .1)) (fit-pairs rule small (p .offset) (suc i) (set seen (p .port) true) ps (f .1) w))
+    fit-one {n = p .offset} (omega (arith, small low i (p .offset) (g .0)))
+    (fit-one {n = p .port} (omega (arith, g .1)) (fit-pairs rule small (p .offset) (suc i) (set seen (p .port) true) ps (f .1) w))
 
 fit-group : (seen : Seen) (g : GroupPairs) {ns : List ℕ} → groupFault seen g ≡ 0 → Fit ns → Fit (groupNumbers g ++ ns)
 fit-group seen g {ns} e w =
     let (right, ls, ss) = group-fault seen g e in
     let few = counts-few (length (g .loads)) (length (g .stores)) right in
-    let r : Fit (flatMap pairNumbers (g .loads) ++ flatMap pairNumbers (g .stores) ++ ns) = rw (append-assoc (flatMap pairNumbers (g .loads)) (flatMap pairNumbers (g .stores)) ns)
+    let r : Fit (flatMap pairNumbers (g .loads) ++ flatMap pairNumbers (g .stores) ++ ns) =
+    rw (append-assoc (flatMap pairNumbers (g .loads)) (flatMap pairNumbers (g .stores)) ns)
     (fit-pairs (loadRule (length (g .stores))) (λ low i offset f. load-small low offset f (few .1)) 0 0 (seen .loads) (g .loads) ls
     (fit-pairs (storeRule (g .loads)) (λ low i offset f. store-small i offset f (few .0)) 0 0 (seen .stores) (g .stores) ss w)) in
     fit-one {n = length (g .loads)} (omega (arith, few .0)) (fit-one {n = length (g .stores)} (omega (arith, few .1)) r)

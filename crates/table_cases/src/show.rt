@@ -110,10 +110,10 @@ pub(crate) fn groups(table: Table) {
 pub(crate) fn header_read(read: HeaderRead) {
     match read {
         HeaderRead::Leading(header, next) => {
-            number(b": 0 loads ", header.loads as u64);
-            number(b" stores ", header.stores as u64);
-            number(b" serial ", header.serial as u64);
-            number(b" words ", header.words as u64);
+            number(b": 0 loads ", header.load_depth as u64);
+            number(b" stores ", header.store_depth as u64);
+            number(b" serial ", header.first as u64);
+            number(b" words ", header.memory_length as u64);
             number(b" next ", next as u64);
         }
         HeaderRead::NoHeader(refusal) => number(b": ", refusal as u64),

@@ -35,10 +35,10 @@ fn event_of(kind: u64, first: u32, second: u32) -> Event {
 
 fn header_of(numbers: [u64; 8]) -> Header {
     Header {
-        loads: word(numbers[1]),
-        stores: word(numbers[2]),
-        serial: word(numbers[3]),
-        words: word(numbers[4]),
+        load_depth: word(numbers[1]),
+        store_depth: word(numbers[2]),
+        first: word(numbers[3]),
+        memory_length: word(numbers[4]),
     }
 }
 

@@ -22,14 +22,17 @@ pub record TakenBefore (bytes rest : List ℕ) (n : ℕ) (ns : List ℕ) : Type 
   pub others : Spelled left ns
 
 take-before : {bytes : List ℕ} (rest : List ℕ) {n : ℕ} {ns : List ℕ} → Spelled bytes (n ∷ ns) → TakenBefore bytes rest n ns
-take-before rest (spells-one bytes {rest = left} e w) = record { left = left; is = rw (append-assoc bytes left rest) (spelled-up-to 4 15 bytes (left ++ rest) e); others = w }
+take-before rest (spells-one bytes {rest = left} e w) =
+    record { left = left; is = rw (append-assoc bytes left rest) (spelled-up-to 4 15 bytes (left ++ rest) e); others = w }
 
 -- an event of one number, of two, whose kind is known
-one-number : (kind x : ℕ) (bytes rest : List ℕ) → leb kind 6 ≡ true → hasSecond kind ≡ false → Spelled bytes (kind ∷ x ∷ []) → readEvent (bytes ++ rest) ≡ got (eventOf kind x 0) rest
+one-number : (kind x : ℕ) (bytes rest : List ℕ) → leb kind 6 ≡ true → hasSecond kind ≡ false → Spelled bytes (kind ∷ x ∷ [])
+    → readEvent (bytes ++ rest) ≡ got (eventOf kind x 0) rest
 unfolding readEvent
 one-number kind x bytes rest h k w = go (take-before rest w)
   where
-    last : (l m : List ℕ) → readNumber (bytes ++ rest) ≡ got kind (l ++ rest) → readNumber (l ++ rest) ≡ got x (m ++ rest) → m ≡ [] → readEvent (bytes ++ rest) ≡ got (eventOf kind x 0) rest
+    last : (l m : List ℕ) → readNumber (bytes ++ rest) ≡ got kind (l ++ rest) → readNumber (l ++ rest) ≡ got x (m ++ rest) → m ≡ []
+        → readEvent (bytes ++ rest) ≡ got (eventOf kind x 0) rest
     last l m a b z = rw (a, h, b, k, z)
 
     more : (l : List ℕ) → readNumber (bytes ++ rest) ≡ got kind (l ++ rest) → TakenBefore l rest x [] → readEvent (bytes ++ rest) ≡ got (eventOf kind x 0) rest
@@ -38,17 +41,21 @@ one-number kind x bytes rest h k w = go (take-before rest w)
     go : TakenBefore bytes rest kind (x ∷ []) → readEvent (bytes ++ rest) ≡ got (eventOf kind x 0) rest
     go t = more (t .left) (t .is) (take-before rest (t .others))
 
-two-numbers : (kind x y : ℕ) (bytes rest : List ℕ) → leb kind 6 ≡ true → hasSecond kind ≡ true → Spelled bytes (kind ∷ x ∷ y ∷ []) → readEvent (bytes ++ rest) ≡ got (eventOf kind x y) rest
+two-numbers : (kind x y : ℕ) (bytes rest : List ℕ) → leb kind 6 ≡ true → hasSecond kind ≡ true → Spelled bytes (kind ∷ x ∷ y ∷ [])
+    → readEvent (bytes ++ rest) ≡ got (eventOf kind x y) rest
 unfolding readEvent
 two-numbers kind x y bytes rest h k w = go (take-before rest w)
   where
-    last : (l m n : List ℕ) → readNumber (bytes ++ rest) ≡ got kind (l ++ rest) → readNumber (l ++ rest) ≡ got x (m ++ rest) → readNumber (m ++ rest) ≡ got y (n ++ rest) → n ≡ [] → readEvent (bytes ++ rest) ≡ got (eventOf kind x y) rest
+    last : (l m n : List ℕ) → readNumber (bytes ++ rest) ≡ got kind (l ++ rest) → readNumber (l ++ rest) ≡ got x (m ++ rest)
+        → readNumber (m ++ rest) ≡ got y (n ++ rest) → n ≡ [] → readEvent (bytes ++ rest) ≡ got (eventOf kind x y) rest
     last l m n a b c z = rw (a, h, b, k, c, z)
 
-    third : (l m : List ℕ) → readNumber (bytes ++ rest) ≡ got kind (l ++ rest) → readNumber (l ++ rest) ≡ got x (m ++ rest) → TakenBefore m rest y [] → readEvent (bytes ++ rest) ≡ got (eventOf kind x y) rest
+    third : (l m : List ℕ) → readNumber (bytes ++ rest) ≡ got kind (l ++ rest) → readNumber (l ++ rest) ≡ got x (m ++ rest) → TakenBefore m rest y []
+        → readEvent (bytes ++ rest) ≡ got (eventOf kind x y) rest
     third l m a b t = last l m (t .left) a b (t .is) (spelled-none (t .others))
 
-    more : (l : List ℕ) → readNumber (bytes ++ rest) ≡ got kind (l ++ rest) → TakenBefore l rest x (y ∷ []) → readEvent (bytes ++ rest) ≡ got (eventOf kind x y) rest
+    more : (l : List ℕ) → readNumber (bytes ++ rest) ≡ got kind (l ++ rest) → TakenBefore l rest x (y ∷ [])
+        → readEvent (bytes ++ rest) ≡ got (eventOf kind x y) rest
     more l a t = third l (t .left) a (t .is) (take-before rest (t .others))
 
     go : TakenBefore bytes rest kind (x ∷ y ∷ []) → readEvent (bytes ++ rest) ≡ got (eventOf kind x y) rest
@@ -82,7 +89,8 @@ numbers-of-two (suc (suc (suc zero))) x y k = refl
 numbers-of-two (suc (suc (suc (suc n)))) x y k = absurd (omega (arith, leb-true (suc (suc (suc (suc n)))) 3 (and-right (leb 1 (suc (suc (suc (suc n))))) _ k)))
 
 -- a number that was read is spelled before what follows it
-spelling-before : (s rest : List ℕ) (n : ℕ) → readNumber s ≡ got n rest → (bytes : List ℕ) × (s ≡ bytes ++ rest) × ((l ns : List ℕ) → Spelled l ns → Spelled (bytes ++ l) (n ∷ ns))
+spelling-before : (s rest : List ℕ) (n : ℕ) → readNumber s ≡ got n rest
+    → (bytes : List ℕ) × (s ≡ bytes ++ rest) × ((l ns : List ℕ) → Spelled l ns → Spelled (bytes ++ l) (n ∷ ns))
 spelling-before s rest n e = go (only-up-to 4 15 s n rest e)
   where
     go : Spelling 4 15 s n rest → (bytes : List ℕ) × (s ≡ bytes ++ rest) × ((l ns : List ℕ) → Spelled l ns → Spelled (bytes ++ l) (n ∷ ns))
@@ -104,31 +112,41 @@ only-spelled-events s rest e d = first (readNumber s) refl d
     here : SpelledBefore rest rest []
     here = ([], refl, spells-none)
 
-    single : (kind x : ℕ) (s₁ s₂ : List ℕ) → readNumber s ≡ got kind s₁ → readNumber s₁ ≡ got x s₂ → leb kind 6 ≡ true → hasSecond kind ≡ false → got (eventOf kind x 0) s₂ ≡ got e rest → SpelledBefore s rest (eventNumbers e)
+    single : (kind x : ℕ) (s₁ s₂ : List ℕ) → readNumber s ≡ got kind s₁ → readNumber s₁ ≡ got x s₂ → leb kind 6 ≡ true → hasSecond kind ≡ false
+        → got (eventOf kind x 0) s₂ ≡ got e rest → SpelledBefore s rest (eventNumbers e)
     single kind x s₁ s₂ a b h k f =
         let p : eventOf kind x 0 ≡ e = cc in
         let q : s₂ ≡ rest = cc in
         rw (← p, numbers-of-one kind x h k) (cons-before s s₁ rest kind (x ∷ []) a (cons-before s₁ rest rest x [] (b ∙ rw q) here))
 
-    double : (kind x y : ℕ) (s₁ s₂ s₃ : List ℕ) → readNumber s ≡ got kind s₁ → readNumber s₁ ≡ got x s₂ → readNumber s₂ ≡ got y s₃ → hasSecond kind ≡ true → got (eventOf kind x y) s₃ ≡ got e rest → SpelledBefore s rest (eventNumbers e)
+    double : (kind x y : ℕ) (s₁ s₂ s₃ : List ℕ) → readNumber s ≡ got kind s₁ → readNumber s₁ ≡ got x s₂ → readNumber s₂ ≡ got y s₃
+        → hasSecond kind ≡ true → got (eventOf kind x y) s₃ ≡ got e rest → SpelledBefore s rest (eventNumbers e)
     double kind x y s₁ s₂ s₃ a b c k f =
         let p : eventOf kind x y ≡ e = cc in
         let q : s₃ ≡ rest = cc in
-        rw (← p, numbers-of-two kind x y k) (cons-before s s₁ rest kind (x ∷ y ∷ []) a (cons-before s₁ s₂ rest x (y ∷ []) b (cons-before s₂ rest rest y [] (c ∙ rw q) here)))
+        rw (← p, numbers-of-two kind x y k)
+        (cons-before s s₁ rest kind (x ∷ y ∷ []) a (cons-before s₁ s₂ rest x (y ∷ []) b (cons-before s₂ rest rest y [] (c ∙ rw q) here)))
 
-    third : (kind x : ℕ) (s₁ s₂ : List ℕ) → readNumber s ≡ got kind s₁ → readNumber s₁ ≡ got x s₂ → hasSecond kind ≡ true → (g : Got ℕ) → readNumber s₂ ≡ g → (thenRead g λ y s₃. got (eventOf kind x y) s₃) ≡ got e rest → SpelledBefore s rest (eventNumbers e)
+    third : (kind x : ℕ) (s₁ s₂ : List ℕ) → readNumber s ≡ got kind s₁ → readNumber s₁ ≡ got x s₂ → hasSecond kind ≡ true → (g : Got ℕ)
+        → readNumber s₂ ≡ g → (thenRead g λ y s₃. got (eventOf kind x y) s₃) ≡ got e rest → SpelledBefore s rest (eventNumbers e)
     third kind x s₁ s₂ a b k (got y s₃) c f = double kind x y s₁ s₂ s₃ a b c k f
     third kind x s₁ s₂ a b k (bad n) c f = let z : _≡_ {A = ℕ} 0 1 = cc in absurd (omega arith)
 
-    kinds : (kind x : ℕ) (s₁ s₂ : List ℕ) → readNumber s ≡ got kind s₁ → readNumber s₁ ≡ got x s₂ → leb kind 6 ≡ true → (t : Bool) → hasSecond kind ≡ t → pick t (thenRead (readNumber s₂) λ y s₃. got (eventOf kind x y) s₃) (got (eventOf kind x 0) s₂) ≡ got e rest → SpelledBefore s rest (eventNumbers e)
+    kinds : (kind x : ℕ) (s₁ s₂ : List ℕ) → readNumber s ≡ got kind s₁ → readNumber s₁ ≡ got x s₂ → leb kind 6 ≡ true → (t : Bool)
+        → hasSecond kind ≡ t → pick t (thenRead (readNumber s₂) λ y s₃. got (eventOf kind x y) s₃) (got (eventOf kind x 0) s₂) ≡ got e rest
+        → SpelledBefore s rest (eventNumbers e)
     kinds kind x s₁ s₂ a b h true k f = third kind x s₁ s₂ a b k (readNumber s₂) refl f
     kinds kind x s₁ s₂ a b h false k f = single kind x s₁ s₂ a b h k f
 
-    second : (kind : ℕ) (s₁ : List ℕ) → readNumber s ≡ got kind s₁ → leb kind 6 ≡ true → (g : Got ℕ) → readNumber s₁ ≡ g → (thenRead g λ x s₂. pick (hasSecond kind) (thenRead (readNumber s₂) λ y s₃. got (eventOf kind x y) s₃) (got (eventOf kind x 0) s₂)) ≡ got e rest → SpelledBefore s rest (eventNumbers e)
+    second : (kind : ℕ) (s₁ : List ℕ) → readNumber s ≡ got kind s₁ → leb kind 6 ≡ true → (g : Got ℕ) → readNumber s₁ ≡ g
+        → (thenRead g λ x s₂. pick (hasSecond kind) (thenRead (readNumber s₂) λ y s₃. got (eventOf kind x y) s₃) (got (eventOf kind x 0) s₂)) ≡ got e
+        rest → SpelledBefore s rest (eventNumbers e)
     second kind s₁ a h (got x s₂) b f = kinds kind x s₁ s₂ a b h (hasSecond kind) refl f
     second kind s₁ a h (bad n) b f = let z : _≡_ {A = ℕ} 0 1 = cc in absurd (omega arith)
 
-    known : (kind : ℕ) (s₁ : List ℕ) → readNumber s ≡ got kind s₁ → (t : Bool) → leb kind 6 ≡ t → require t badKind (thenRead (readNumber s₁) λ x s₂. pick (hasSecond kind) (thenRead (readNumber s₂) λ y s₃. got (eventOf kind x y) s₃) (got (eventOf kind x 0) s₂)) ≡ got e rest → SpelledBefore s rest (eventNumbers e)
+    known : (kind : ℕ) (s₁ : List ℕ) → readNumber s ≡ got kind s₁ → (t : Bool) → leb kind 6 ≡ t
+        → require t badKind (thenRead (readNumber s₁) λ x s₂. pick (hasSecond kind) (thenRead (readNumber s₂) λ y s₃. got (eventOf kind x y) s₃)
+        (got (eventOf kind x 0) s₂)) ≡ got e rest → SpelledBefore s rest (eventNumbers e)
     known kind s₁ a true h f = second kind s₁ a h (readNumber s₁) refl f
     known kind s₁ a false h f = let z : _≡_ {A = ℕ} 0 1 = cc in absurd (omega arith)
 
@@ -141,23 +159,31 @@ pub headers-are-spelled : HeadersAreSpelled
 unfolding readHeader
 headers-are-spelled h bytes rest w = first (take-before rest w)
   where
-    whole : (a b c d : List ℕ) → readNumber (bytes ++ rest) ≡ got (h .loads) (a ++ rest) → readNumber (a ++ rest) ≡ got (h .stores) (b ++ rest) → readNumber (b ++ rest) ≡ got (h .serial) (c ++ rest) → readNumber (c ++ rest) ≡ got (h .words) (d ++ rest) → d ≡ [] → readHeader (bytes ++ rest) ≡ got h rest
+    whole : (a b c d : List ℕ) → readNumber (bytes ++ rest) ≡ got (h .«load_depth») (a ++ rest)
+        → readNumber (a ++ rest) ≡ got (h .«store_depth») (b ++ rest) → readNumber (b ++ rest) ≡ got (h .first) (c ++ rest)
+        → readNumber (c ++ rest) ≡ got (h .«memory_length») (d ++ rest) → d ≡ [] → readHeader (bytes ++ rest) ≡ got h rest
     whole a b c d p q r t z = rw (p, q, r, t, z)
 
-    fourth : (a b c : List ℕ) → readNumber (bytes ++ rest) ≡ got (h .loads) (a ++ rest) → readNumber (a ++ rest) ≡ got (h .stores) (b ++ rest) → readNumber (b ++ rest) ≡ got (h .serial) (c ++ rest) → TakenBefore c rest (h .words) [] → readHeader (bytes ++ rest) ≡ got h rest
+    fourth : (a b c : List ℕ) → readNumber (bytes ++ rest) ≡ got (h .«load_depth») (a ++ rest)
+        → readNumber (a ++ rest) ≡ got (h .«store_depth») (b ++ rest) → readNumber (b ++ rest) ≡ got (h .first) (c ++ rest)
+        → TakenBefore c rest (h .«memory_length») [] → readHeader (bytes ++ rest) ≡ got h rest
     fourth a b c p q r t = whole a b c (t .left) p q r (t .is) (spelled-none (t .others))
 
-    third : (a b : List ℕ) → readNumber (bytes ++ rest) ≡ got (h .loads) (a ++ rest) → readNumber (a ++ rest) ≡ got (h .stores) (b ++ rest) → TakenBefore b rest (h .serial) (h .words ∷ []) → readHeader (bytes ++ rest) ≡ got h rest
+    third : (a b : List ℕ) → readNumber (bytes ++ rest) ≡ got (h .«load_depth») (a ++ rest)
+        → readNumber (a ++ rest) ≡ got (h .«store_depth») (b ++ rest) → TakenBefore b rest (h .first) (h .«memory_length» ∷ [])
+        → readHeader (bytes ++ rest) ≡ got h rest
     third a b p q t = fourth a b (t .left) p q (t .is) (take-before rest (t .others))
 
-    second : (a : List ℕ) → readNumber (bytes ++ rest) ≡ got (h .loads) (a ++ rest) → TakenBefore a rest (h .stores) (h .serial ∷ h .words ∷ []) → readHeader (bytes ++ rest) ≡ got h rest
+    second : (a : List ℕ) → readNumber (bytes ++ rest) ≡ got (h .«load_depth») (a ++ rest)
+        → TakenBefore a rest (h .«store_depth») (h .first ∷ h .«memory_length» ∷ []) → readHeader (bytes ++ rest) ≡ got h rest
     second a p t = third a (t .left) p (t .is) (take-before rest (t .others))
 
-    first : TakenBefore bytes rest (h .loads) (h .stores ∷ h .serial ∷ h .words ∷ []) → readHeader (bytes ++ rest) ≡ got h rest
+    first : TakenBefore bytes rest (h .«load_depth») (h .«store_depth» ∷ h .first ∷ h .«memory_length» ∷ []) → readHeader (bytes ++ rest) ≡ got h rest
     first t = second (t .left) (t .is) (take-before rest (t .others))
 
 -- a number was read, and what follows was read too
-then-read : {A : Type 0} (s : List ℕ) (k : ℕ → List ℕ → Got A) {a : A} {rest : List ℕ} → thenRead (readNumber s) k ≡ got a rest → (n : ℕ) × (t : List ℕ) × (readNumber s ≡ got n t) × (k n t ≡ got a rest)
+then-read : {A : Type 0} (s : List ℕ) (k : ℕ → List ℕ → Got A) {a : A} {rest : List ℕ} → thenRead (readNumber s) k ≡ got a rest
+    → (n : ℕ) × (t : List ℕ) × (readNumber s ≡ got n t) × (k n t ≡ got a rest)
 then-read {A} s k {a} {rest} e = go (readNumber s) refl e
   where
     go : (g : Got ℕ) → readNumber s ≡ g → thenRead g k ≡ got a rest → (n : ℕ) × (t : List ℕ) × (readNumber s ≡ got n t) × (k n t ≡ got a rest)
@@ -171,6 +197,7 @@ only-spelled-headers s rest h e =
     let (b, s₂, d₂, e₂) = then-read s₁ _ e₁ in
     let (c, s₃, d₃, e₃) = then-read s₂ _ e₂ in
     let (d, s₄, d₄, e₄) = then-read s₃ _ e₃ in
-    let x : record { loads = a; stores = b; serial = c; words = d } ≡ h = cc in
+    let x : record { «load_depth» = a; «store_depth» = b; first = c; «memory_length» = d } ≡ h = cc in
     let y : s₄ ≡ rest = cc in
-    rw (← x) (cons-before s s₁ rest a (b ∷ c ∷ d ∷ []) d₁ (cons-before s₁ s₂ rest b (c ∷ d ∷ []) d₂ (cons-before s₂ s₃ rest c (d ∷ []) d₃ (cons-before s₃ s₄ rest d [] d₄ ([], y, spells-none)))))
+    rw (← x) (cons-before s s₁ rest a (b ∷ c ∷ d ∷ []) d₁
+    (cons-before s₁ s₂ rest b (c ∷ d ∷ []) d₂ (cons-before s₂ s₃ rest c (d ∷ []) d₃ (cons-before s₃ s₄ rest d [] d₄ ([], y, spells-none)))))

@@ -57,7 +57,8 @@ pub event-got : (s : List ℕ) (place : ℕ) {e : Event} {next : ℕ} → eventA
 unfolding eventAt
 event-got s place {e} {next} f = go (drop place s) refl f
   where
-    found : (b : ℕ) (t : List ℕ) → drop place s ≡ b ∷ t → (g : Got Event) → readEvent (b ∷ t) ≡ g → eventReadIn s g ≡ accepts (yielded e next) → EventGot s place e next
+    found : (b : ℕ) (t : List ℕ) → drop place s ≡ b ∷ t → (g : Got Event) → readEvent (b ∷ t) ≡ g → eventReadIn s g ≡ accepts (yielded e next)
+        → EventGot s place e next
     found b t d (bad k) q f = let z : _≡_ {A = ℕ} 0 1 = cc in absurd (omega arith)
     found b t d (got x rest) q f =
         let w = event-shorter (b ∷ t) rest x q in
@@ -93,7 +94,8 @@ pub event-fault : (s : List ℕ) (place : ℕ) {k : ℕ} → eventAt s place ≡
 unfolding eventAt
 event-fault s place {k} f = go (drop place s) refl f
   where
-    found : (b : ℕ) (t : List ℕ) → drop place s ≡ b ∷ t → (g : Got Event) → readEvent (b ∷ t) ≡ g → eventReadIn s g ≡ refuses k → readEvents (drop place s) ≡ bad k
+    found : (b : ℕ) (t : List ℕ) → drop place s ≡ b ∷ t → (g : Got Event) → readEvent (b ∷ t) ≡ g → eventReadIn s g ≡ refuses k
+        → readEvents (drop place s) ≡ bad k
     found b t d (got x rest) q f = let z : _≡_ {A = ℕ} 0 1 = cc in absurd (omega arith)
     found b t d (bad n) q f = let y : n ≡ k = cc in ap readEvents d ∙ events-bad b t n q ∙ ap bad y
 

@@ -9,7 +9,8 @@ use Rattle.trace.specs.declared.Event.{Event}
 use Rattle.trace.specs.declared.Event.the-variants.{Activate, LoadAddress, StoreAddress, StoreData, Serve, Write, Take}
 use Rattle.trace.specs.declared.Header.{Header}
 use Rattle.number.specs.Basics.{flatMap}
-use Rattle.number.specs.Number.{Got, got, bad, thenRead, placeOf, spells, accepts, reading, readIn, before, Spelled, spells-none, spells-one, Fit, fit-none, fit-one}
+use Rattle.number.specs.Number.{Got, got, bad, thenRead, placeOf, spells, accepts, reading, readIn, before, Spelled}
+use Rattle.number.specs.Number.{spells-none, spells-one, Fit, fit-none, fit-one}
 use Rattle.trace.specs.Event.{eventNumbers, readEvent, eventAt, eventBytes, eventsBytes, headerNumbers, headerBytes, readHeader, yielded}
 use Rattle.trace.specs.Trace.{Trace, eventsUpTo, readEvents, readTrace, traceBytes}
 use Rattle.trace.specs.RoundTrip.{TracesAreSpelled, OnlySpelledTraces, TracesReadBack}

@@ -112,7 +112,7 @@ eventsBytes = flatMap eventBytes
 
 -- the four leading numbers of a trace
 abbrev pub headerNumbers : Header → List ℕ
-headerNumbers h = h .loads ∷ h .stores ∷ h .serial ∷ h .words ∷ []
+headerNumbers h = h .«load_depth» ∷ h .«store_depth» ∷ h .first ∷ h .«memory_length» ∷ []
 
 abbrev pub headerBytes : Header → List ℕ
 headerBytes h = bytesOf (headerNumbers h)
@@ -123,7 +123,7 @@ readHeader s =
     thenRead (readNumber s₁) λ stores s₂.
     thenRead (readNumber s₂) λ serial s₃.
     thenRead (readNumber s₃) λ words s₄.
-    got (record { loads = loads; stores = stores; serial = serial; words = words }) s₄
+    got (record { «load_depth» = loads; «store_depth» = stores; first = serial; «memory_length» = words }) s₄
 
 -- the number and the values of each case of `HeaderRead`
 abbrev pub headerReply : HeaderRead → Reply (Reading Header)

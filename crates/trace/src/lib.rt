@@ -6,10 +6,10 @@ pub mod writing;
 
 // The four leading numbers of a trace: load depth, store depth, first serial, memory length.
 pub struct Header {
-    pub loads: u32,
-    pub stores: u32,
-    pub serial: u32,
-    pub words: u32,
+    pub load_depth: u32,
+    pub store_depth: u32,
+    pub first: u32,
+    pub memory_length: u32,
 }
 
 // What reading them answers: the numbers and the place after them, or the refusal number.

@@ -19,7 +19,7 @@ pub fn read_header(bytes: &[u8]) -> HeaderRead
 {
     let first = read_number(bytes, 0);
     let NumberRead::Number {
-        value: loads,
+        value: load_depth,
         next: place,
     } = first
     else {
@@ -27,7 +27,7 @@ pub fn read_header(bytes: &[u8]) -> HeaderRead
     };
     let second = read_number(bytes, place);
     let NumberRead::Number {
-        value: stores,
+        value: store_depth,
         next: place,
     } = second
     else {
@@ -43,17 +43,17 @@ pub fn read_header(bytes: &[u8]) -> HeaderRead
     };
     let fourth = read_number(bytes, place);
     let NumberRead::Number {
-        value: words,
+        value: memory_length,
         next: place,
     } = fourth
     else {
         return HeaderRead::NoHeader(number_refusal(fourth));
     };
     let header = Header {
-        loads,
-        stores,
-        serial,
-        words,
+        load_depth,
+        store_depth,
+        first: serial,
+        memory_length,
     };
     HeaderRead::Leading(header, place)
 }

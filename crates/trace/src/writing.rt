@@ -123,13 +123,13 @@ pub fn write_event_of(kind: u32, first: u32, second: u32, out: &mut [u8]) -> Byt
 pub fn write_header(header: Header, out: &mut [u8]) -> BytesWritten
     ensures { λ r. ⌜ HasWritten (wrote (headerBytes header) (now (out .entry))) r (now (out .exit)) ⌝ }
 {
-    let loads = header.loads;
-    let stores = header.stores;
-    let serial = header.serial;
-    let words = header.words;
+    let load_depth = header.load_depth;
+    let store_depth = header.store_depth;
+    let first = header.first;
+    let memory_length = header.memory_length;
     let numbers = Numbers {
         count: 4,
-        values: [loads, stores, serial, words],
+        values: [load_depth, store_depth, first, memory_length],
     };
     write_numbers(numbers, out)
 }

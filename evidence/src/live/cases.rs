@@ -91,13 +91,13 @@ const FINISHED: u64 = 0b111;
 /// that many can be listed and many leave at once.
 fn make_alike(rng: &mut Rng, record: &mut Record) {
     let frame = &mut record.frame;
-    frame.words = rng.pick(&[64, 1_000, 4_096]);
+    frame.memory_length = rng.pick(&[64, 1_000, 4_096]);
     for side in [&mut frame.loads, &mut frame.stores] {
         side.depth = rng.pick(&[side.depth, 64]);
         side.count = rng.pick(&[side.count, side.depth, side.depth]);
     }
     let (loads, stores) = (frame.loads.count, frame.stores.count);
-    let (words, few) = (frame.words, rng.pick(&[8, 64, 1_000]));
+    let (words, few) = (frame.memory_length, rng.pick(&[8, 64, 1_000]));
     let marks = rng.pick(&[READY_LOAD, READY_LOAD, SERVED_LOAD, FINISHED]);
     for load in record.loads.lend() {
         *load = alike_entry(rng, *load, marks, few) | before_and_address(rng, stores, words);
@@ -123,7 +123,7 @@ fn before_and_address(rng: &mut Rng, others: u8, words: u16) -> u64 {
 
 fn damage(rng: &mut Rng, record: &mut Record) {
     let (loads, stores) = (record.frame.loads.count, record.frame.stores.count);
-    let words = record.frame.words;
+    let words = record.frame.memory_length;
     let (side, run, others) = match rng.chance(1, 2) {
         true => (&mut record.frame.loads, &mut record.loads, stores),
         false => (&mut record.frame.stores, &mut record.stores, loads),
@@ -131,7 +131,7 @@ fn damage(rng: &mut Rng, record: &mut Record) {
     match rng.below(8) {
         0..=2 => damage_entry(rng, run.lend(), side.count, others, words),
         3 => damage_side(rng, side),
-        4 => record.frame.words = word_near(rng, words),
+        4 => record.frame.memory_length = word_near(rng, words),
         _ => {
             let mut parts = record.frame.table.parts();
             damage_table(rng, &mut parts);
@@ -252,7 +252,7 @@ fn noise(rng: &mut Rng) -> Frame {
     let (loads, stores) = (side(), side());
     Frame {
         table: Table::new(parts),
-        words: rng.pick(&[1, 64, 4096, 4097]),
+        memory_length: rng.pick(&[1, 64, 4096, 4097]),
         loads,
         stores,
     }

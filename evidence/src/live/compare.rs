@@ -228,7 +228,7 @@ fn fresh_frame(queue: &Queue) -> Frame {
     };
     Frame {
         table: Table::new(table_of(&queue.table)),
-        words: queue.memory_length as u16,
+        memory_length: queue.memory_length as u16,
         loads: side(queue.load_depth, queue.loads.next_serial),
         stores: side(queue.store_depth, queue.stores.next_serial),
     }

@@ -17,7 +17,7 @@ unsafe extern "C" {
         load_depth: u32,
         store_depth: u32,
         first: u32,
-        words: u32,
+        memory_length: u32,
     ) -> u32;
     fn header_sound(queue: *const Queue) -> u32;
     fn header_activate(queue: *mut Queue, group: u32) -> u32;
@@ -62,7 +62,7 @@ fn filled() -> Queue {
     };
     Queue {
         frame: Frame {
-            words: 0xA5A5,
+            memory_length: 0xA5A5,
             loads: side,
             stores: side,
             ..Frame::default()

@@ -31,7 +31,7 @@ impl Record {
             table: held_table(&self.frame.table.parts()),
             load_depth: self.frame.loads.depth.into(),
             store_depth: self.frame.stores.depth.into(),
-            memory_length: self.frame.words.into(),
+            memory_length: self.frame.memory_length.into(),
             loads: held_side(self.frame.loads, loads, load_of),
             stores: held_side(self.frame.stores, stores, store_of),
         })
@@ -43,7 +43,7 @@ impl Record {
     pub fn hold(&mut self, queue: &Queue) {
         self.frame.table = Table::new(table_of(&queue.table));
         self.hold_calls(queue);
-        self.frame.words = queue.memory_length as u16;
+        self.frame.memory_length = queue.memory_length as u16;
         self.frame.loads.depth = queue.load_depth as u8;
         self.frame.stores.depth = queue.store_depth as u8;
     }

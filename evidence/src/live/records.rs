@@ -113,7 +113,7 @@ fn any_header(rng: &mut Rng, case: &RecordCase) -> Header {
         load_depth: frame.loads.depth.max(1).into(),
         store_depth: frame.stores.depth.max(1).into(),
         first_serial: frame.loads.next,
-        memory_length: frame.words.into(),
+        memory_length: frame.memory_length.into(),
     };
     if rng.chance(1, 4) {
         gen::spoil_header(rng, &mut header);

@@ -31,7 +31,8 @@ returns : tie.Need-returns
 returns c =
     let t = c .before .before .before in
     let l = lentAt t in
-    answered-refused l (lent-table (bytesAt t) (traceAt t) l (table-refused (bytesAt t) (t .read-table .result) (t .read-table .ensures) (c .before .if1 .taken)))
+    answered-refused l (lent-table (bytesAt t) (traceAt t) l
+    (table-refused (bytesAt t) (t .read-table .result) (t .read-table .ensures) (c .before .if1 .taken)))
 
 returns-2 : tie.Need-returns-2
 returns-2 c =

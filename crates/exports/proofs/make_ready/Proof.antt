@@ -9,14 +9,16 @@ returns : tie.Need-returns
 returns c =
     let t = c .before .before .before in
     let a = t .before .before .before .args in
-    tells-table (a .table .now) (a .trace .now) (c .unprepared .result) (table-refused (a .table .now) (t .read-table .result) (t .read-table .ensures) (c .before .if1 .taken)) (c .unprepared .ensures)
+    tells-table (a .table .now) (a .trace .now) (c .unprepared .result)
+    (table-refused (a .table .now) (t .read-table .result) (t .read-table .ensures) (c .before .if1 .taken)) (c .unprepared .ensures)
 
 returns-2 : tie.Need-returns-2
 returns-2 c =
     let e = c .before .before in
     let t = e .before .before in
     let a = t .before .before .before .args in
-    tells-trace (a .table .now) (a .trace .now) (c .prepare .result) (table-got (a .table .now) (t .read-table .result) (t .read-table .ensures) (e .if1 .left) .is) (c .prepare .ensures)
+    tells-trace (a .table .now) (a .trace .now) (c .prepare .result)
+    (table-got (a .table .now) (t .read-table .result) (t .read-table .ensures) (e .if1 .left) .is) (c .prepare .ensures)
 
 pub make-ready-spec : {M : Type 1} → statement M
 make-ready-spec =

@@ -8,12 +8,15 @@ use Rattle.play.proofs.main.Tie as tie
 
 slice-aggregate-show : tie.Need-slice-aggregate-show
 slice-aggregate-show c =
-    let l : length (c .before .before .before .before .before .before .read-file .last .1 .0) ≡ length (c .before .before .before .before .before .before .before .before .before .before .file-buffer .result) = search needs in
-    sym (length-take-le _ _ (omega (arith, c .before .before .before .before .before .before .read-file .ensures)))
+    let at-read-file = c .before .before .before .before .before .before in
+    let at-file-buffer = at-read-file .before .before .before .before in
+    let l : length (at-read-file .read-file .last .1 .0) ≡ length (at-file-buffer .file-buffer .result) = search needs in
+    sym (length-take-le _ _ (omega (arith, at-read-file .read-file .ensures)))
 
 slice-aggregate-show-2 : tie.Need-slice-aggregate-show-2
 slice-aggregate-show-2 c =
-    let l : length (c .before .before .before .read-file2 .last .1 .0) ≡ length (c .before .before .before .before .before .before .before .before .before .before .file-buffer2 .result) = search needs in
+    let at-file-buffer2 = c .before .before .before .before .before .before .before .before .before .before in
+    let l : length (c .before .before .before .read-file2 .last .1 .0) ≡ length (at-file-buffer2 .file-buffer2 .result) = search needs in
     sym (length-take-le _ _ (omega (arith, c .before .before .before .read-file2 .ensures)))
 
 pub main-spec : {M : Type 1} → statement M

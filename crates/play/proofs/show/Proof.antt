@@ -12,9 +12,16 @@ use Rattle.play.proofs.show.Tie as tie
 -- what was printed fits the buffer
 fits : (c : tie.After-known-told) → c .before .written .given .0 .0 ≤ length (c .before .before .before .before .print .last .1 .1 .0)
 fits c =
-    let a = c .before .before .before .before .before .before .before .before .before .args in
-    let l : length (c .before .before .before .before .print .last .1 .1 .0) ≡ length (c .before .before .before .before .before .before .text-buffer .result) = search needs in
-    omega (arith, bytes-few (a .table .now) (a .trace .now) (c .before .before .before .before .before .before .text-buffer .result) (sym (ap writtenReply (c .before .written .given .1)) ∙ c .before .before .before .before .print .ensures .0))
+    let at-print = c .before .before .before .before in
+    let at-text-buffer = at-print .before .before in
+    let start = at-text-buffer .before .before .before in
+    let a = start .args in
+    let l : length (at-print .print .last .1 .1 .0) ≡ length (at-text-buffer .text-buffer .result) = search needs in
+    omega (
+      arith,
+      bytes-few (a .table .now) (a .trace .now) (at-text-buffer .text-buffer .result)
+          (sym (ap writtenReply (c .before .written .given .1)) ∙ at-print .print .ensures .0),
+    )
 
 array-share-prefix-out : tie.Need-array-share-prefix-out
 array-share-prefix-out c = fits c

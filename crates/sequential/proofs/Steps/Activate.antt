@@ -99,10 +99,20 @@ module _ (groups : List GroupPairs) (memory : List ℕ) (answered : List Answere
   holds-group = record {
     limits = h .limits;
     roomLoads =
-        rw (length-append (q .loads) (newLoads (length (q .stores)) (order g)), length-newLoads (length (q .stores)) (order g), order-loads g, length-map (g .loads) portOf)
+        rw (
+          length-append (q .loads) (newLoads (length (q .stores)) (order g)),
+          length-newLoads (length (q .stores)) (order g),
+          order-loads g,
+          length-map (g .loads) portOf,
+        )
         (leb-true (length (q .loads) + length (g .loads)) (q .loadDepth) (and-left (leb (length (q .loads) + length (g .loads)) (q .loadDepth)) _ fits));
     roomStores =
-        rw (length-append (q .stores) (newStores (length (q .loads)) (order g)), length-newStores (length (q .loads)) (order g), order-stores g, length-map (g .stores) portOf)
+        rw (
+          length-append (q .stores) (newStores (length (q .loads)) (order g)),
+          length-newStores (length (q .loads)) (order g),
+          order-stores g,
+          length-map (g .stores) portOf,
+        )
         (leb-true (length (q .stores) + length (g .stores)) (q .storeDepth) (and-right (leb (length (q .loads) + length (g .loads)) (q .loadDepth)) _ fits));
     long = h .long;
     windows = record {
@@ -117,10 +127,12 @@ module _ (groups : List GroupPairs) (memory : List ℕ) (answered : List Answere
     };
     rightLoads =
         rw (ownIn-append loads log (map fresh (order g)))
-        (all-join (rightLoad (q .memoryLength)) (ownIn loads log) (ownIn loads (map fresh (order g))) (h .rightLoads) (fresh-loads-right (q .memoryLength) (order g)));
+        (all-join (rightLoad (q .memoryLength)) (ownIn loads log) (ownIn loads (map fresh (order g))) (h .rightLoads)
+        (fresh-loads-right (q .memoryLength) (order g)));
     rightStores =
         rw (ownIn-append stores log (map fresh (order g)))
-        (all-join (rightStore (q .memoryLength)) (ownIn stores log) (ownIn stores (map fresh (order g))) (h .rightStores) (fresh-stores-right (q .memoryLength) (order g)));
+        (all-join (rightStore (q .memoryLength)) (ownIn stores log) (ownIn stores (map fresh (order g))) (h .rightStores)
+        (fresh-stores-right (q .memoryLength) (order g)));
     agree = agree-append log (order g) m memory (h .agree);
   }
 
@@ -129,9 +141,11 @@ module _ (groups : List GroupPairs) (memory : List ℕ) (answered : List Answere
       seen-more groups answered (record { call = Activate group; number = 0; value = none }) (log ++ map fresh (order g))
       (map-append accessOf log (map fresh (order g)) ∙ rw (seen .shape, fresh-access (order g), ← table, is, append-nil (order g)))
       (λ kind port. rw (append-nil (rowsOf (told answered) kind port))
-      (row-append (given kind port) (map fresh (order g)) (fresh-all (λ d. hasNone (given kind port d)) (fresh-given kind port) (order g)) log (rowsOf (told answered) kind port) (seen .rows kind port)))
+      (row-append (given kind port) (map fresh (order g)) (fresh-all (λ d. hasNone (given kind port d)) (fresh-given kind port) (order g)) log
+      (rowsOf (told answered) kind port) (seen .rows kind port)))
       (λ port. rw (append-nil (takenAt port answered))
-      (row-append (valueTaken port) (map fresh (order g)) (fresh-all (λ d. hasNone (valueTaken port d)) (fresh-value port) (order g)) log (takenAt port answered) (seen .takes port)))
+      (row-append (valueTaken port) (map fresh (order g)) (fresh-all (λ d. hasNone (valueTaken port d)) (fresh-value port) (order g)) log
+      (takenAt port answered) (seen .takes port)))
       (count-append isServed log (map fresh (order g)) ∙ rw (seen .serves, fresh-none isServed unserved (order g)))
       (count-append isWritten log (map fresh (order g)) ∙ rw (seen .writes, fresh-none isWritten unwritten (order g)))
     where

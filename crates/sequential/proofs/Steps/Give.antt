@@ -53,7 +53,8 @@ module _ {A B : Type 0} (K : LogKind A) (K′ : LogKind B) (opposite : Opposite 
   waiting {log} {held} {held′} w right has-it rights p h = found (any-first (slotLacks S p) held h)
     where
       at : (x : A) → getElem? held (firstPlace (slotLacks S p) held) ≡ some x
-          → (pre : List LogEntry) × (it : A) × (post : List LogEntry) × Located K K′ log held held′ (firstPlace (slotLacks S p) held) pre it post → Waiting K K′ S log held held′ p
+          → (pre : List LogEntry) × (it : A) × (post : List LogEntry) × Located K K′ log held held′ (firstPlace (slotLacks S p) held) pre it post
+          → Waiting K K′ S log held held′ p
       at x e (pre, it, post, l) = record {
         pre = pre;
         it = it;
@@ -63,11 +64,13 @@ module _ {A B : Type 0} (K : LogKind A) (K′ : LogKind B) (opposite : Opposite 
         empty = is-none (S .has it) (and-right (eqb (S .port it) p) (not (isSome (S .has it))) passes);
         earlier =
             before-log (l .before) (λ a. not (slotLacks S p a)) (λ n a. rw (lacks-blind p n a)) right (λ a r f. finished a (has-it a r f))
-            (all-left right (ownIn K pre) (ownIn K (K .put it ∷ post)) (rw (l .log-is, ownIn-append K pre (K .put it ∷ post)) at rights)) (first-before (slotLacks S p) held);
+            (all-left right (ownIn K pre) (ownIn K (K .put it ∷ post)) (rw (l .log-is, ownIn-append K pre (K .put it ∷ post)) at rights))
+            (first-before (slotLacks S p) held);
       }
         where
           passes : slotLacks S p it ≡ true
-          passes = let same : x ≡ K .remember (l .number) it = cc (l .at) in sym (lacks-blind p (l .number) it) ∙ (rw same at (first-passes (slotLacks S p) held e))
+          passes = let same : x ≡ K .remember (l .number) it = cc (l .at) in sym (lacks-blind p (l .number) it)
+              ∙ (rw same at (first-passes (slotLacks S p) held e))
 
           finished : (a : A) → isSome (S .has a) ≡ true → not (slotLacks S p a) ≡ true
           finished a k = rw k (go (eqb (S .port a) p))
@@ -83,13 +86,16 @@ module _ {A B : Type 0} (K : LogKind A) (K′ : LogKind B) (opposite : Opposite 
   module _ (groups : List GroupPairs) (answered : List Answered) (pre : List LogEntry) (it : A) (post : List LogEntry) (p x : ℕ)
       (same : eqb (S .port it) p ≡ true) (empty : S .has it ≡ none) (earlier : allOf (λ a. not (slotLacks S p a)) (ownIn K pre) ≡ true)
       (seen : LogSeen groups answered (pre ++ K .put it ∷ post)) where
-    own-row : (port : ℕ) → Row (given (S .kind) port) (pre ++ K .put (S .fill x it) ∷ post) (rowsOf (told answered) (S .kind) port ++ pick (eqb p port) (x ∷ []) [])
+    own-row : (port : ℕ) → Row (given (S .kind) port) (pre ++ K .put (S .fill x it) ∷ post)
+        (rowsOf (told answered) (S .kind) port ++ pick (eqb p port) (x ∷ []) [])
     own-row =
         row-of-port (given (S .kind)) (K .put it) (K .put (S .fill x it)) x p pre post
         (S .cell p it ∙ rw (same, empty)) (S .cellFilled p x it ∙ rw same)
         (none-waits K (given (S .kind) p) (λ e h. rw (S .cellOther p e h)) pre
-        (all-weaken (λ a. not (slotLacks S p a)) (λ a. not (lacking (given (S .kind) p (K .put a)))) (λ a h. rw (S .cell p a) (go (eqb (S .port a) p) (S .has a) h)) (ownIn K pre) earlier))
-        (λ port e. let f : eqb (S .port it) port ≡ false = ap (λ (k : ℕ). eqb k port) (eqb-true (S .port it) p same) ∙ e in S .cell port it ∙ rw f (sym (S .cellFilled port x it ∙ rw f)))
+        (all-weaken (λ a. not (slotLacks S p a)) (λ a. not (lacking (given (S .kind) p (K .put a))))
+        (λ a h. rw (S .cell p a) (go (eqb (S .port a) p) (S .has a) h)) (ownIn K pre) earlier))
+        (λ port e. let f : eqb (S .port it) port ≡ false = ap (λ (k : ℕ). eqb k port) (eqb-true (S .port it) p same) ∙ e in S .cell port it
+        ∙ rw f (sym (S .cellFilled port x it ∙ rw f)))
         (rowsOf (told answered) (S .kind)) (seen .rows (S .kind))
       where
         go : (b : Bool) (o : Option ℕ) → not (b && not (isSome o)) ≡ true → not (lacking (cellFor b o)) ≡ true
@@ -98,7 +104,8 @@ module _ {A B : Type 0} (K : LogKind A) (K′ : LogKind B) (opposite : Opposite 
         go false o h = refl
 
     row : (k : Argument) (port : ℕ)
-        → Row (given k port) (pre ++ K .put (S .fill x it) ∷ post) (rowsOf (told answered) k port ++ consOption (pick (sameKind (S .kind) k && eqb p port) (some x) none) [])
+        → Row (given k port) (pre ++ K .put (S .fill x it) ∷ post)
+        (rowsOf (told answered) k port ++ consOption (pick (sameKind (S .kind) k && eqb p port) (some x) none) [])
     row k port = go (S .kindOther k)
       where
         joins : (b : Bool) → consOption (pick b (some x) none) [] ≡ pick b (x ∷ []) []
@@ -106,13 +113,17 @@ module _ {A B : Type 0} (K : LogKind A) (K′ : LogKind B) (opposite : Opposite 
         joins false = refl
 
         go : (k ≡ S .kind) ⊎ ((sameKind (S .kind) k ≡ false) × ((p₁ x₁ : ℕ) (a : A) → given k p₁ (K .put a) ≡ given k p₁ (K .put (S .fill x₁ a))))
-            → Row (given k port) (pre ++ K .put (S .fill x it) ∷ post) (rowsOf (told answered) k port ++ consOption (pick (sameKind (S .kind) k && eqb p port) (some x) none) [])
+            → Row (given k port) (pre ++ K .put (S .fill x it) ∷ post)
+            (rowsOf (told answered) k port ++ consOption (pick (sameKind (S .kind) k && eqb p port) (some x) none) [])
         go (inl is) = rw (is, S .kindSame, joins (eqb p port)) (own-row port)
-        go (inr (differs, cells)) = rw differs (row-kept (given k port) (K .put it) (K .put (S .fill x it)) (cells port x it) post pre (rowsOf (told answered) k port) (seen .rows k port))
+        go (inr (differs, cells)) =
+            rw differs (row-kept (given k port) (K .put it) (K .put (S .fill x it)) (cells port x it) post pre (rowsOf (told answered) k port)
+            (seen .rows k port))
 
     seen-given : LogSeen groups (answered ++ record { call = Give (S .kind) p x; number = 0; value = none } ∷ []) (pre ++ K .put (S .fill x it) ∷ post)
     seen-given =
-        seen-anew groups answered (record { call = Give (S .kind) p x; number = 0; value = none }) pre (K .put it) (K .put (S .fill x it)) post seen (S .accessSame x it) refl
+        seen-anew groups answered (record { call = Give (S .kind) p x; number = 0; value = none }) pre (K .put it) (K .put (S .fill x it)) post seen
+        (S .accessSame x it) refl
         row
         (λ port. row-kept (valueTaken port) (K .put it) (K .put (S .fill x it)) (S .valueSame port x it) post pre (takenAt port answered) (seen .takes port))
         (rw (S .servedSame x it) (sym (add-zero (countWhere isServed (K .put it ∷ [])))))
@@ -140,13 +151,16 @@ right-store-filled words x s h =
     go true a d k = rw (and-left a d k)
 
 -- what is known of the entry only grows, so every completion of it was one before
-agree-load-addressed : (x : ℕ) (l : Load) (post : List LogEntry) → l .address ≡ none → (m n : List ℕ) → MemoriesAgree m n (ofLoad l ∷ post) → MemoriesAgree m n (ofLoad (loadWithAddress x l) ∷ post)
+agree-load-addressed : (x : ℕ) (l : Load) (post : List LogEntry) → l .address ≡ none → (m n : List ℕ) → MemoriesAgree m n (ofLoad l ∷ post)
+    → MemoriesAgree m n (ofLoad (loadWithAddress x l) ∷ post)
 agree-load-addressed x l post e m n k = (λ a f. k .0 a (rw e tt), k .1)
 
-agree-store-addressed : (x : ℕ) (s : Store) (post : List LogEntry) → s .address ≡ none → (m n : List ℕ) → MemoriesAgree m n (ofStore s ∷ post) → MemoriesAgree m n (ofStore (storeWithAddress x s) ∷ post)
+agree-store-addressed : (x : ℕ) (s : Store) (post : List LogEntry) → s .address ≡ none → (m n : List ℕ) → MemoriesAgree m n (ofStore s ∷ post)
+    → MemoriesAgree m n (ofStore (storeWithAddress x s) ∷ post)
 agree-store-addressed x s post e m n k = λ a w f g. k a w (rw e tt) g
 
-agree-store-filled : (x : ℕ) (s : Store) (post : List LogEntry) → s .word ≡ none → (m n : List ℕ) → MemoriesAgree m n (ofStore s ∷ post) → MemoriesAgree m n (ofStore (storeWithWord x s) ∷ post)
+agree-store-filled : (x : ℕ) (s : Store) (post : List LogEntry) → s .word ≡ none → (m n : List ℕ) → MemoriesAgree m n (ofStore s ∷ post)
+    → MemoriesAgree m n (ofStore (storeWithWord x s) ∷ post)
 agree-store-filled x s post e m n k = λ a w f g. k a w f (rw e tt)
 
 module _ (groups : List GroupPairs) (memory : List ℕ) (answered : List Answered) (q : Contents) (m : List ℕ) (log : List LogEntry)
@@ -164,16 +178,20 @@ module _ (groups : List GroupPairs) (memory : List ℕ) (answered : List Answere
     holds =
         holds-load h (w .place) (loadWithAddress x) (λ n l. refl)
         (right-load-filled (q .memoryLength) x (w .it) low
-        (all-middle (rightLoad (q .memoryLength)) (ownIn loads (w .pre)) (ownIn loads (w .post)) (w .it) (rw (w .place .log-is, ownIn-append loads (w .pre) (ofLoad (w .it) ∷ w .post)) at (h .rightLoads))))
-        (agree-change (ofLoad (w .it)) (ofLoad (loadWithAddress x (w .it))) (w .post) (agree-load-addressed x (w .it) (w .post) (w .empty)) (w .pre) m memory (rw (w .place .log-is) at (h .agree)));
+        (all-middle (rightLoad (q .memoryLength)) (ownIn loads (w .pre)) (ownIn loads (w .post)) (w .it)
+        (rw (w .place .log-is, ownIn-append loads (w .pre) (ofLoad (w .it) ∷ w .post)) at (h .rightLoads))))
+        (agree-change (ofLoad (w .it)) (ofLoad (loadWithAddress x (w .it))) (w .post) (agree-load-addressed x (w .it) (w .post) (w .empty))
+        (w .pre) m memory (rw (w .place .log-is) at (h .agree)));
     seen =
-        seen-given loads stores loads-stores loadAddresses groups answered (w .pre) (w .it) (w .post) p x (w .samePort) (w .empty) (w .earlier) (subst (LogSeen groups answered) (w .place .log-is) seen);
+        seen-given loads stores loads-stores loadAddresses groups answered (w .pre) (w .it) (w .post) p x (w .samePort) (w .empty) (w .earlier)
+        (subst (LogSeen groups answered) (w .place .log-is) seen);
   }
 
   store-given : (S : Slot stores) → Waiting stores loads S log (q .stores) (q .loads) p
       → ((n : ℕ) (s : Store) → S .fill x (stores .remember n s) ≡ stores .remember n (S .fill x s))
       → ((s : Store) → rightStore (q .memoryLength) s ≡ true → rightStore (q .memoryLength) (S .fill x s) ≡ true)
-      → ((s : Store) (post : List LogEntry) → S .has s ≡ none → (m₁ n₁ : List ℕ) → MemoriesAgree m₁ n₁ (ofStore s ∷ post) → MemoriesAgree m₁ n₁ (ofStore (S .fill x s) ∷ post))
+      → ((s : Store) (post : List LogEntry) → S .has s ≡ none → (m₁ n₁ : List ℕ) → MemoriesAgree m₁ n₁ (ofStore s ∷ post)
+      → MemoriesAgree m₁ n₁ (ofStore (S .fill x s) ∷ post))
       → Joined (S .kind) (withStores q (updateAt (S .fill x) (firstPlace (slotLacks S p) (q .stores)) (q .stores)))
   unfolding Joined
   store-given S w blind right agree = record {
@@ -182,10 +200,13 @@ module _ (groups : List GroupPairs) (memory : List ℕ) (answered : List Answere
     holds =
         holds-store h (w .place) (S .fill x) blind
         (right (w .it)
-        (all-middle (rightStore (q .memoryLength)) (ownIn stores (w .pre)) (ownIn stores (w .post)) (w .it) (rw (w .place .log-is, ownIn-append stores (w .pre) (ofStore (w .it) ∷ w .post)) at (h .rightStores))))
+        (all-middle (rightStore (q .memoryLength)) (ownIn stores (w .pre)) (ownIn stores (w .post)) (w .it)
+        (rw (w .place .log-is, ownIn-append stores (w .pre) (ofStore (w .it) ∷ w .post)) at (h .rightStores))))
         m refl
-        (agree-change (ofStore (w .it)) (ofStore (S .fill x (w .it))) (w .post) (agree (w .it) (w .post) (w .empty)) (w .pre) m memory (rw (w .place .log-is) at (h .agree)));
-    seen = seen-given stores loads stores-loads S groups answered (w .pre) (w .it) (w .post) p x (w .samePort) (w .empty) (w .earlier) (subst (LogSeen groups answered) (w .place .log-is) seen);
+        (agree-change (ofStore (w .it)) (ofStore (S .fill x (w .it))) (w .post) (agree (w .it) (w .post) (w .empty)) (w .pre) m memory
+        (rw (w .place .log-is) at (h .agree)));
+    seen = seen-given stores loads stores-loads S groups answered (w .pre) (w .it) (w .post) p x (w .samePort) (w .empty) (w .earlier)
+        (subst (LogSeen groups answered) (w .place .log-is) seen);
   }
 
   -- finished entries lack nothing
@@ -220,4 +241,5 @@ pub give-keeps : (groups : List GroupPairs) (memory : List ℕ) (answered : List
     → (kind : Argument) (port x : ℕ) (q′ : Contents) → give kind (m .queue) port x ≡ accept q′
     → Invariant groups memory (answered ++ record { call = Give kind port x; number = 0; value = none } ∷ []) (record { queue = q′; memory = m .memory })
 unfolding Joined
-give-keeps groups memory answered m st kind port x q′ h = given-keeps groups memory answered (m .queue) (m .memory) (st .log) (st .table) (st .holds) (st .seen) port x kind q′ h
+give-keeps groups memory answered m st kind port x q′ h = given-keeps groups memory answered (m .queue) (m .memory) (st .log) (st .table) (st .holds)
+    (st .seen) port x kind q′ h

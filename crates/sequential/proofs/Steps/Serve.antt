@@ -57,17 +57,22 @@ serve-taken v l port e = rw e
 
 module _ (groups : List GroupPairs) (memory : List ℕ) (answered : List Answered) (q : Contents) (m : List ℕ) (log : List LogEntry)
     (table : q .groups ≡ groups) (h : Holds q m memory log) (seen : LogSeen groups answered log) where
-  serve-at : (counts : Counts) (serial i : ℕ) (r : Served) (pre : List LogEntry) (it : Load) (post : List LogEntry) (l : Located loads stores log (q .loads) (q .stores) i pre it post)
+  serve-at : (counts : Counts) (serial i : ℕ) (r : Served) (pre : List LogEntry) (it : Load) (post : List LogEntry)
+      (l : Located loads stores log (q .loads) (q .stores) i pre it post)
       → Serving q m i r (loads .remember (l .number) it)
-      → Invariant groups memory (answered ++ record { call = Serve counts serial; number = 0; value = some (r .value) } ∷ []) (record { queue = r .queue; memory = m })
+      → Invariant groups memory (answered ++ record { call = Serve counts serial; number = 0; value = some (r .value) } ∷ [])
+      (record { queue = r .queue; memory = m })
   serve-at counts serial i r pre it post l s = rw (s .result) (record {
     log = pre ++ ofLoad (loadWithValue v it) ∷ post;
     table = table;
     holds = holds-load h l (loadWithValue v) (λ n k. refl) right agree;
     seen =
-        seen-anew groups answered (record { call = Serve counts serial; number = 0; value = some v }) pre (ofLoad it) (ofLoad (loadWithValue v it)) post seen′ refl refl
-        (λ kind port. row-kept (given kind port) (ofLoad it) (ofLoad (loadWithValue v it)) (serve-given v it kind port) post pre (rowsOf (told answered) kind port) (seen′ .rows kind port))
-        (λ port. row-kept (valueTaken port) (ofLoad it) (ofLoad (loadWithValue v it)) (serve-taken v it port untaken) post pre (takenAt port answered) (seen′ .takes port))
+        seen-anew groups answered (record { call = Serve counts serial; number = 0; value = some v }) pre (ofLoad it) (ofLoad (loadWithValue v it))
+        post seen′ refl refl
+        (λ kind port. row-kept (given kind port) (ofLoad it) (ofLoad (loadWithValue v it)) (serve-given v it kind port) post pre
+        (rowsOf (told answered) kind port) (seen′ .rows kind port))
+        (λ port. row-kept (valueTaken port) (ofLoad it) (ofLoad (loadWithValue v it)) (serve-taken v it port untaken) post pre (takenAt port answered)
+        (seen′ .takes port))
         (rw unserved)
         refl;
   })
@@ -82,7 +87,8 @@ module _ (groups : List GroupPairs) (memory : List ℕ) (answered : List Answere
       seen′ = subst (LogSeen groups answered) (l .log-is) seen
 
       right-it : rightLoad (q .memoryLength) it ≡ true
-      right-it = all-middle (rightLoad (q .memoryLength)) (ownIn loads pre) (ownIn loads post) it (rw (l .log-is, ownIn-append loads pre (ofLoad it ∷ post)) at (h .rightLoads))
+      right-it = all-middle (rightLoad (q .memoryLength)) (ownIn loads pre) (ownIn loads post) it
+          (rw (l .log-is, ownIn-append loads pre (ofLoad it ∷ post)) at (h .rightLoads))
 
       in-range : addressRight (q .memoryLength) (it .address) ≡ true
       in-range = load-in-range (q .memoryLength) it right-it
@@ -115,7 +121,8 @@ module _ (groups : List GroupPairs) (memory : List ℕ) (answered : List Answere
 -- An accepted serve keeps the invariant.
 pub serve-keeps : (groups : List GroupPairs) (memory : List ℕ) (answered : List Answered) (m : Machine) → Invariant groups memory answered m
     → (counts : Counts) (serial : ℕ) (r : Served) → serve (m .queue) (m .memory) serial ≡ accept r
-    → Invariant groups memory (answered ++ record { call = Serve counts serial; number = 0; value = some (r .value) } ∷ []) (record { queue = r .queue; memory = m .memory })
+    → Invariant groups memory (answered ++ record { call = Serve counts serial; number = 0; value = some (r .value) } ∷ [])
+    (record { queue = r .queue; memory = m .memory })
 serve-keeps groups memory answered m st counts serial r h = at (serve-accepts q (m .memory) serial r h)
   where
     q : Contents
@@ -125,13 +132,15 @@ serve-keeps groups memory answered m st counts serial r h = at (serve-accepts q 
     i = loadPlace q serial
 
     Goal : Type 0
-    Goal = Invariant groups memory (answered ++ record { call = Serve counts serial; number = 0; value = some (r .value) } ∷ []) (record { queue = r .queue; memory = m .memory })
+    Goal = Invariant groups memory (answered ++ record { call = Serve counts serial; number = 0; value = some (r .value) } ∷ [])
+        (record { queue = r .queue; memory = m .memory })
 
     found : (l : Load) → getElem? (q .loads) i ≡ some l → Serving q (m .memory) i r l
         → (pre : List LogEntry) × (it : Load) × (post : List LogEntry) × Located loads stores (st .log) (q .loads) (q .stores) i pre it post → Goal
     found l e s (pre, it, post, place) =
         let same : l ≡ loads .remember (place .number) it = cc (place .at) in
-        serve-at groups memory answered q (m .memory) (st .log) (st .table) (st .holds) (st .seen) counts serial i r pre it post place (subst (Serving q (m .memory) i r) same s)
+        serve-at groups memory answered q (m .memory) (st .log) (st .table) (st .holds) (st .seen) counts serial i r pre it post place
+        (subst (Serving q (m .memory) i r) same s)
 
     at : (l : Load) × (getElem? (q .loads) i ≡ some l) × Serving q (m .memory) i r l → Goal
     at (l, e, s) = found l e s (locate loads stores loads-stores (st .holds .windows) i e)

@@ -61,7 +61,8 @@ take-cell l port v e f = rw (e, f)
 waits-not : (words port : ℕ) (l : Load) → not (untaken port l) ≡ true → rightLoad words l ≡ true → not (lacking (valueTaken port (ofLoad l))) ≡ true
 waits-not words port l t r = go (eqb (l .port) port) (l .taken) (l .value) t (taken-served words l r)
   where
-    go : (same taken : Bool) (value : Option ℕ) → not (same && not taken) ≡ true → implies taken (isSome value) ≡ true → not (lacking (cellFor same (pick taken value none))) ≡ true
+    go : (same taken : Bool) (value : Option ℕ) → not (same && not taken) ≡ true → implies taken (isSome value) ≡ true
+        → not (lacking (cellFor same (pick taken value none))) ≡ true
     go false taken value t₁ t₂ = refl
     go true false value t₁ t₂ = false-true t₁
     go true true none t₁ t₂ = false-true t₂
@@ -69,17 +70,21 @@ waits-not words port l t r = go (eqb (l .port) port) (l .taken) (l .value) t (ta
 
 module _ (groups : List GroupPairs) (memory : List ℕ) (answered : List Answered) (q : Contents) (m : List ℕ) (log : List LogEntry)
     (table : q .groups ≡ groups) (h : Holds q m memory log) (seen : LogSeen groups answered log) where
-  take-at : (port i : ℕ) (r : Taken) (pre : List LogEntry) (it : Load) (post : List LogEntry) (l : Located loads stores log (q .loads) (q .stores) i pre it post)
+  take-at : (port i : ℕ) (r : Taken) (pre : List LogEntry) (it : Load) (post : List LogEntry)
+      (l : Located loads stores log (q .loads) (q .stores) i pre it post)
       → untaken port it ≡ true → allOf (λ x. not (untaken port x)) (lib.ListN.take i (q .loads)) ≡ true
       → Taking q i r (loads .remember (l .number) it)
       → Invariant groups memory (answered ++ record { call = Take port; number = 0; value = some (r .value) } ∷ []) (record { queue = r .queue; memory = m })
   take-at port i r pre it post l first earlier s = rw (s .result) (record {
     log = pre ++ ofLoad (loadTaken it) ∷ post;
     table = table;
-    holds = holds-retired (holds-load h l loadTaken (λ n k. refl) right (agree-change (ofLoad it) (ofLoad (loadTaken it)) post (λ m₁ n₁ k. k) pre m memory (rw (l .log-is) at (h .agree))));
+    holds = holds-retired
+        (holds-load h l loadTaken (λ n k. refl) right
+        (agree-change (ofLoad it) (ofLoad (loadTaken it)) post (λ m₁ n₁ k. k) pre m memory (rw (l .log-is) at (h .agree))));
     seen =
         seen-anew groups answered (record { call = Take port; number = 0; value = some v }) pre (ofLoad it) (ofLoad (loadTaken it)) post seen′ refl refl
-        (λ kind p. row-kept (given kind p) (ofLoad it) (ofLoad (loadTaken it)) (take-given it kind p) post pre (rowsOf (told answered) kind p) (seen′ .rows kind p))
+        (λ kind p. row-kept (given kind p) (ofLoad it) (ofLoad (loadTaken it)) (take-given it kind p) post pre (rowsOf (told answered) kind p)
+        (seen′ .rows kind p))
         (row-of-port valueTaken (ofLoad it) (ofLoad (loadTaken it)) v port pre post waits filled none-waiting other (λ p. takenAt p answered) (seen′ .takes))
         (sym (add-zero (countWhere isServed (ofLoad it ∷ []))))
         refl;
@@ -104,7 +109,8 @@ module _ (groups : List GroupPairs) (memory : List ℕ) (answered : List Answere
       right-it = all-middle (rightLoad (q .memoryLength)) (ownIn loads pre) (ownIn loads post) it rightLoads
 
       right : rightLoad (q .memoryLength) (loadTaken it) ≡ true
-      right = and-both {a = isSome (it .value)} (rw (s .has)) (and-both (served-addressed (q .memoryLength) it right-it) (load-in-range (q .memoryLength) it right-it))
+      right = and-both {a = isSome (it .value)} (rw (s .has))
+          (and-both (served-addressed (q .memoryLength) it right-it) (load-in-range (q .memoryLength) it right-it))
 
       waits : valueTaken port (ofLoad it) ≡ some none
       waits = rw (same-port, fresh)
@@ -118,8 +124,10 @@ module _ (groups : List GroupPairs) (memory : List ℕ) (answered : List Answere
       none-waiting : allOf (λ d. not (lacking (valueTaken port d))) pre ≡ true
       none-waiting =
           none-waits loads (valueTaken port) store-waits-not pre
-          (all-weaken₂ (λ x. not (untaken port x)) (rightLoad (q .memoryLength)) (λ x. not (lacking (valueTaken port (ofLoad x)))) (waits-not (q .memoryLength) port) (ownIn loads pre)
-          (before-log (l .before) (λ x. not (untaken port x)) (λ n x. refl) (rightLoad (q .memoryLength)) (λ x t f. finished-taken x f) rightBefore earlier) rightBefore)
+          (all-weaken₂ (λ x. not (untaken port x)) (rightLoad (q .memoryLength)) (λ x. not (lacking (valueTaken port (ofLoad x))))
+          (waits-not (q .memoryLength) port) (ownIn loads pre)
+          (before-log (l .before) (λ x. not (untaken port x)) (λ n x. refl) (rightLoad (q .memoryLength)) (λ x t f. finished-taken x f) rightBefore
+          earlier) rightBefore)
         where
           store-waits-not : (e : LogEntry) → loads .own e ≡ none → not (lacking (valueTaken port e)) ≡ true
           store-waits-not (ofLoad x) e = let z : false ≡ true = cc in false-true z
@@ -138,7 +146,8 @@ module _ (groups : List GroupPairs) (memory : List ℕ) (answered : List Answere
 -- An accepted take keeps the invariant.
 pub take-keeps : (groups : List GroupPairs) (memory : List ℕ) (answered : List Answered) (m : Machine) → Invariant groups memory answered m
     → (port : ℕ) (r : Taken) → takeRule (m .queue) port ≡ accept r
-    → Invariant groups memory (answered ++ record { call = Take port; number = 0; value = some (r .value) } ∷ []) (record { queue = r .queue; memory = m .memory })
+    → Invariant groups memory (answered ++ record { call = Take port; number = 0; value = some (r .value) } ∷ [])
+    (record { queue = r .queue; memory = m .memory })
 take-keeps groups memory answered m st port r h = at (take-accepts q port r h)
   where
     q : Contents
@@ -148,7 +157,8 @@ take-keeps groups memory answered m st port r h = at (take-accepts q port r h)
     i = firstPlace (untaken port) (q .loads)
 
     Goal : Type 0
-    Goal = Invariant groups memory (answered ++ record { call = Take port; number = 0; value = some (r .value) } ∷ []) (record { queue = r .queue; memory = m .memory })
+    Goal = Invariant groups memory (answered ++ record { call = Take port; number = 0; value = some (r .value) } ∷ [])
+        (record { queue = r .queue; memory = m .memory })
 
     found : (l : Load) → getElem? (q .loads) i ≡ some l → Taking q i r l
         → (pre : List LogEntry) × (it : Load) × (post : List LogEntry) × Located loads stores (st .log) (q .loads) (q .stores) i pre it post → Goal

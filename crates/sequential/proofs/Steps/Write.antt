@@ -33,7 +33,8 @@ write-given s StoreData port = refl
 
 module _ (groups : List GroupPairs) (memory : List ℕ) (answered : List Answered) (q : Contents) (m : List ℕ) (log : List LogEntry)
     (table : q .groups ≡ groups) (h : Holds q m memory log) (seen : LogSeen groups answered log) where
-  write-at : (serial i : ℕ) (r : Written) (pre : List LogEntry) (it : Store) (post : List LogEntry) (l : Located stores loads log (q .stores) (q .loads) i pre it post)
+  write-at : (serial i : ℕ) (r : Written) (pre : List LogEntry) (it : Store) (post : List LogEntry)
+      (l : Located stores loads log (q .stores) (q .loads) i pre it post)
       → Writing q m i r (stores .remember (l .number) it)
       → Invariant groups memory (answered ++ record { call = Write serial; number = 0; value = none } ∷ []) (record { queue = r .queue; memory = r .memory })
   write-at serial i r pre it post l s = rw (s .result) (record {
@@ -42,7 +43,8 @@ module _ (groups : List GroupPairs) (memory : List ℕ) (answered : List Answere
     holds = holds-retired (holds-store h l storeDone (λ n k. refl) right (set m a w) (length-set m a w) agree);
     seen =
         seen-anew groups answered (record { call = Write serial; number = 0; value = none }) pre (ofStore it) (ofStore (storeDone it)) post seen′ refl refl
-        (λ kind port. row-kept (given kind port) (ofStore it) (ofStore (storeDone it)) (write-given it kind port) post pre (rowsOf (told answered) kind port) (seen′ .rows kind port))
+        (λ kind port. row-kept (given kind port) (ofStore it) (ofStore (storeDone it)) (write-given it kind port) post pre
+        (rowsOf (told answered) kind port) (seen′ .rows kind port))
         (λ port. row-kept (valueTaken port) (ofStore it) (ofStore (storeDone it)) refl post pre (takenAt port answered) (seen′ .takes port))
         refl
         (rw unwritten);
@@ -79,7 +81,8 @@ module _ (groups : List GroupPairs) (memory : List ℕ) (answered : List Answere
 
       storesApart : allOf (noStoreConflict a) (ownIn stores pre) ≡ true
       storesApart =
-          before-log (l .before) (noStoreConflict a) (λ n x. refl) (rightStore (q .memoryLength)) (λ x t f. or-left (x .written) (addressApart a (x .address)) f)
+          before-log (l .before) (noStoreConflict a) (λ n x. refl) (rightStore (q .memoryLength))
+          (λ x t f. or-left (x .written) (addressApart a (x .address)) f)
           (all-left (rightStore (q .memoryLength)) (ownIn stores pre) (it ∷ ownIn stores post) rightStores) (s .may .storesApart)
 
       agree : MemoriesAgree (set m a w) memory (pre ++ ofStore (storeDone it) ∷ post)
@@ -104,7 +107,8 @@ write-keeps groups memory answered m st serial r h = at (write-accepts q (m .mem
         → (pre : List LogEntry) × (it : Store) × (post : List LogEntry) × Located stores loads (st .log) (q .stores) (q .loads) i pre it post → Goal
     found s e facts (pre, it, post, place) =
         let same : s ≡ stores .remember (place .number) it = cc (place .at) in
-        write-at groups memory answered q (m .memory) (st .log) (st .table) (st .holds) (st .seen) serial i r pre it post place (subst (Writing q (m .memory) i r) same facts)
+        write-at groups memory answered q (m .memory) (st .log) (st .table) (st .holds) (st .seen) serial i r pre it post place
+        (subst (Writing q (m .memory) i r) same facts)
 
     at : (s : Store) × (getElem? (q .stores) i ≡ some s) × Writing q (m .memory) i r s → Goal
     at (s, e, facts) = found s e facts (locate stores loads stores-loads (turned (st .holds .windows)) i e)

@@ -22,7 +22,9 @@ returns c =
     let a = t .before .before .args in
     let is = table-refused (a .table .now) (t .read-table .result) (t .read-table .ensures) (i .if1 .taken) in
     let none = ap (λ (x : TableRead). x .table) (t .read-table .ensures ∙ ap tableAnswer is) in
-    rw is (ap (λ (f : Frame). record { answer = t .read-table .result .answer; frame = f }) (no-table-no-frame (freshFrame (t .read-table .result .table) (a .load-depth) (a .store-depth) (a .first) (a .words)) (a .load-depth) (a .store-depth) (a .first) (a .words) (o .open-in .result) (t .read-table .result .table) none (o .open-in .ensures)))
+    rw is (ap (λ (f : Frame). record { answer = t .read-table .result .answer; frame = f })
+    (no-table-no-frame (freshFrame (t .read-table .result .table) (a .load-depth) (a .store-depth) (a .first) (a .memory-length)) (a .load-depth)
+    (a .store-depth) (a .first) (a .memory-length) (o .open-in .result) (t .read-table .result .table) none (o .open-in .ensures)))
 
 -- the table that was read is the record of its groups
 returns-2 : tie.Need-returns-2
@@ -35,7 +37,9 @@ returns-2 c =
     let is = table-got (a .table .now) r (t .read-table .ensures) (i .if1 .left) .is in
     let same : r .table ≡ pack (groupsOf (r .table)) = ap (λ (x : TableRead). x .table) (t .read-table .ensures ∙ ap tableAnswer is) in
     rw is
-    (subst (λ (x : Table). OpensFrame (freshFrame x (a .load-depth) (a .store-depth) (a .first) (a .words)) (openQueue (groupsOf (r .table)) (a .load-depth) (a .store-depth) (a .first) (a .words)) (o .open-in .result)) same (o .open-in .ensures))
+    (subst (λ (x : Table). OpensFrame (freshFrame x (a .load-depth) (a .store-depth) (a .first) (a .memory-length))
+    (openQueue (groupsOf (r .table)) (a .load-depth) (a .store-depth) (a .first) (a .memory-length)) (o .open-in .result)) same
+    (o .open-in .ensures))
 
 pub lsq-open-in-spec : {M : Type 1} → statement M
 lsq-open-in-spec =

@@ -15,7 +15,8 @@ returns c =
     let q = queueOf (a .t1) (a .loads .now) (a .stores .now) in
     let left = outcomeOf (a .t1) (k .write-in .result) (k .write-in .last .1 .1 .1 .1 .0) (k .write-in .last .1 .1 .1 .1 .1 .0) in
     let rule = onParts (a .loads .now) (a .stores .now) (write (contentsOf q) (a .memory .now) (a .serial)) in
-    rw (c .live-step .ensures) (writes-tell q left (a .memory .now) (k .write-in .last .1 .1 .1 .1 .1 .1 .0) rule (rw (o .outline-of .ensures) at (k .write-in .ensures)))
+    rw (c .live-step .ensures)
+    (writes-tell q left (a .memory .now) (k .write-in .last .1 .1 .1 .1 .1 .1 .0) rule (rw (o .outline-of .ensures) at (k .write-in .ensures)))
 
 pub lsq-write-in-spec : {M : Type 1} → statement M
 lsq-write-in-spec =

@@ -14,7 +14,8 @@ long : (c : tie.After-number-length) → c .number-length .result ≡ length (nu
 long c = c .number-length .ensures .1
 
 returns : tie.Need-returns
-returns c = rw (wrote-short (numberBytes (c .before .before .before .args .value)) (c .before .before .before .args .out .now) (omega (arith, long (c .before)))) (refl, refl)
+returns c = rw (wrote-short (numberBytes (c .before .before .before .args .value)) (c .before .before .before .args .out .now)
+    (omega (arith, long (c .before)))) (refl, refl)
 
 fits : (c : tie.Else1) → length (numberBytes (c .before .before .before .args .value)) ≤ length (c .before .before .before .args .out .now)
 fits c = omega (arith, long (c .before))
@@ -25,7 +26,8 @@ put-fitting-requires c κs = omega (arith, fits (c .before))
 returns-2 : tie.Need-returns-2
 returns-2 c =
     let e = c .before .before .before .before in
-    rw (wrote-fits (numberBytes (e .before .before .before .args .value)) (e .before .before .before .args .out .now) (fits e)) (ap accepts (long (e .before)), c .before .before .put-fitting .ensures .1)
+    rw (wrote-fits (numberBytes (e .before .before .before .args .value)) (e .before .before .before .args .out .now) (fits e))
+    (ap accepts (long (e .before)), c .before .before .put-fitting .ensures .1)
 
 pub write-number-spec : {M : Type 1} → statement M
 write-number-spec =

@@ -38,7 +38,8 @@ returns c =
     let i = item loadsSpace (s .args .counts .loads) 32 in
     let j = item forwardedSpace (s .args .counts .forwarded) 32 in
     let p = c .before .before .before .share .ensures in
-    let z = both (both w v (omega (arith, f, g, h))) (c .before .before .put-item3 .ensures) (omega (arith, f, g, h, item-few shareSpace (c .before .before .before .share .result) 10, length-append i j)) in
+    let z = both (both w v (omega (arith, f, g, h))) (c .before .before .put-item3 .ensures)
+    (omega (arith, f, g, h, item-few shareSpace (c .before .before .before .share .result) 10, length-append i j)) in
     puts-as (counts-line (s .args .counts)) (rw p at z)
 
 pub put-counts-spec : {M : Type 1} → statement M

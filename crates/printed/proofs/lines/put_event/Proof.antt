@@ -17,7 +17,9 @@ put-item-requires-2 c κs =
     omega (arith, s .pre, w .ends, puts-length w (omega (arith, s .pre)))
 
 -- the number and the answer are put: what they take
-fits : (c : tie.After-slice-known3) → c .before .before .before .before .before .before .before .before .before .before .before .args .at + length (item [] (c .before .before .before .before .before .before .before .before .before .before .before .args .number) 32) + length (item [] (c .before .before .before .before .before .before .before .before .before .before .before .args .answer) 32) + 21 ≤ length (c .before .before .before .before .before .before .before .before .before .before .before .args .out .now)
+fits : (c : tie.After-slice-known3) →
+    let start = c .before .before .before .before .before .before .before .before .before .before .before in
+    start .args .at + length (item [] (start .args .number) 32) + length (item [] (start .args .answer) 32) + 21 ≤ length (start .args .out .now)
 fits c =
     let s = c .before .before .before .before .before .before .before .before .before .before .before in
     omega (arith, s .pre, item-few [] (s .args .number) 32, item-few [] (s .args .answer) 32)
@@ -38,7 +40,9 @@ returns c =
     let v = k .before .before .put-item2 .ensures in
     let s = k .before .before .before .before .before .before .before .before .before .before .before .args in
     let h = fits k in
-    puts-as (event-value (s .number) (s .answer) (s .given) (s .word) (c .before .before .before .before .before .if1 .taken)) (both (both w v (omega arith)) (c .before .before .put-item3 .ensures) (omega (arith, h, item-few [] (s .word) 10, length-append (item [] (s .number) 32) (item [] (s .answer) 32))))
+    puts-as (event-value (s .number) (s .answer) (s .given) (s .word) (c .before .before .before .before .before .if1 .taken))
+    (both (both w v (omega arith)) (c .before .before .put-item3 .ensures)
+    (omega (arith, h, item-few [] (s .word) 10, length-append (item [] (s .number) 32) (item [] (s .answer) 32))))
 
 put-bytes-requires : tie.Need-put-bytes-requires
 put-bytes-requires c κs =
@@ -56,7 +60,9 @@ returns-2 c =
     let v = k .before .before .put-item2 .ensures in
     let s = k .before .before .before .before .before .before .before .before .before .before .before .args in
     let h = fits k in
-    puts-as (event-none (s .number) (s .answer) (s .given) (s .word) (c .before .before .before .before .before .if1 .left)) (both (both w v (omega arith)) (c .before .before .put-bytes .ensures) (omega (arith, h, length-append (item [] (s .number) 32) (item [] (s .answer) 32))))
+    puts-as (event-none (s .number) (s .answer) (s .given) (s .word) (c .before .before .before .before .before .if1 .left))
+    (both (both w v (omega arith)) (c .before .before .put-bytes .ensures)
+    (omega (arith, h, length-append (item [] (s .number) 32) (item [] (s .answer) 32))))
 
 pub put-event-spec : {M : Type 1} → statement M
 put-event-spec =

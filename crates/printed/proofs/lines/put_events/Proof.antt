@@ -24,41 +24,54 @@ shared-slice-read-put-event : tie.Need-shared-slice-read-put-event Inv-loop μ-l
 shared-slice-read-put-event c = omega (arith, c .before .before .before .before .before .before .before .before .pre .0, c .before .before .loop-test .taken)
 
 shared-slice-read-put-event-2 : tie.Need-shared-slice-read-put-event-2 Inv-loop μ-loop
-shared-slice-read-put-event-2 c = omega (arith, c .before .before .before .before .before .before .before .before .before .pre .1, c .before .before .before .loop-test .taken)
+shared-slice-read-put-event-2 c =
+    let start = c .before .before .before .before .before .before .before .before .before in
+    omega (arith, start .pre .1, c .before .before .before .loop-test .taken)
 
 mul-put-event : tie.Need-mul-put-event Inv-loop μ-loop
-mul-put-event c = omega (arith, c .before .before .before .before .before .before .before .before .before .pre .2, c .before .before .before .loop-test .taken, c .before .before .before .before .before .before .before .before .before .good)
+mul-put-event c =
+    let start = c .before .before .before .before .before .before .before .before .before in
+    omega (arith, start .pre .2, c .before .before .before .loop-test .taken, start .good)
 
 shared-slice-read-put-event-3 : tie.Need-shared-slice-read-put-event-3 Inv-loop μ-loop
-shared-slice-read-put-event-3 c = omega (arith, c .before .before .before .before .before .before .before .before .before .before .pre .2, c .before .before .before .before .loop-test .taken)
+shared-slice-read-put-event-3 c =
+    let start = c .before .before .before .before .before .before .before .before .before .before in
+    omega (arith, start .pre .2, c .before .before .before .before .loop-test .taken)
 
 put-event-requires : tie.Need-put-event-requires Inv-loop μ-loop
 put-event-requires c κs =
-    let s = c .before .before .before .before .before .before .before .before .before .before in
-    let l = c .before .before .before .before .before .loop in
+    let at-loop-test = c .before .before .before .before in
+    let s = at-loop-test .before .before .before .before .before .before in
+    let l = at-loop-test .before .loop in
     let a = s .args in
-    let few = rows-text-few (a .answers .now) (a .given .now) (a .words .now) (a .count) (s .pre .0) (s .pre .1) (s .pre .2) (l .i) (l .inv .0) in
+    let few = rows-text-few (a .answers .now) (a .given .now) (a .values .now) (a .count) (s .pre .0) (s .pre .1) (s .pre .2) (l .i) (l .inv .0) in
     let w = l .inv .1 in
-    omega (arith, few, w .ends, puts-length w (omega (arith, few, s .pre .3, c .before .before .before .before .loop-test .taken)), s .pre .3, c .before .before .before .before .loop-test .taken)
+    omega (arith, few, w .ends, puts-length w (omega (arith, few, s .pre .3, at-loop-test .loop-test .taken)), s .pre .3, at-loop-test .loop-test .taken)
 
 loop-less : tie.Need-loop-less Inv-loop μ-loop
 loop-less c = omega (arith, c .before .before .before .before .before .before .before .loop-test .taken)
 
 loop-again : tie.Need-loop-again Inv-loop μ-loop
 loop-again c =
-    let s = c .before .before .before .before .before .before .before .before .before .before .before .before .before in
-    let l = c .before .before .before .before .before .before .before .before .loop in
+    let at-loop-test = c .before .before .before .before .before .before .before in
+    let at-loop = at-loop-test .before in
+    let s = at-loop .before .before .before .before .before in
+    let l = at-loop .loop in
     let a = s .args in
-    let few = rows-text-few (a .answers .now) (a .given .now) (a .words .now) (a .count) (s .pre .0) (s .pre .1) (s .pre .2) (l .i) (l .inv .0) in
-    let w = l .inv .1 in
-    (omega (arith, c .before .before .before .before .before .before .before .loop-test .taken), puts-as (rows-next (a .answers .now) (a .given .now) (a .words .now) (a .count) (s .pre .0) (s .pre .1) (s .pre .2) (l .i) (c .before .before .before .before .before .before .before .loop-test .taken)) (puts-puts w (omega (arith, few, s .pre .3, c .before .before .before .before .before .before .before .loop-test .taken)) (c .before .before .put-event .ensures)))
+    let few = rows-text-few (a .answers .now) (a .given .now) (a .values .now) (a .count) (s .pre .0) (s .pre .1) (s .pre .2) (l .i) (l .inv .0) in
+    let w = l .inv .1 in (
+      omega (arith, at-loop-test .loop-test .taken),
+      puts-as (rows-next (a .answers .now) (a .given .now) (a .values .now) (a .count) (s .pre .0) (s .pre .1) (s .pre .2) (l .i)
+          (at-loop-test .loop-test .taken))
+          (puts-puts w (omega (arith, few, s .pre .3, at-loop-test .loop-test .taken)) (c .before .before .put-event .ensures)),
+    )
 
 same-length : tie.Need-same-length Inv-loop μ-loop
 same-length c =
     let s = c .before .before .before .before .before .before in
     let l = c .before .loop in
     let a = s .args in
-    let few = rows-text-few (a .answers .now) (a .given .now) (a .words .now) (a .count) (s .pre .0) (s .pre .1) (s .pre .2) (l .i) (l .inv .0) in
+    let few = rows-text-few (a .answers .now) (a .given .now) (a .values .now) (a .count) (s .pre .0) (s .pre .1) (s .pre .2) (l .i) (l .inv .0) in
     let w = l .inv .1 in
     puts-length w (omega (arith, few, s .pre .3, l .inv .0))
 

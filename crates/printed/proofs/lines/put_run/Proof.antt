@@ -12,7 +12,7 @@ use Rattle.printed.proofs.lines.put_run.Tie as tie
 
 -- the lines of the events and of the memory, and that those of the counts fit behind them
 abbrev events : tie.Start → List ℕ
-events s = eventLines 1 (take (s .args .count) (rows (s .args .answers .now) (s .args .given .now) (s .args .words .now)))
+events s = eventLines 1 (take (s .args .count) (rows (s .args .answers .now) (s .args .given .now) (s .args .values .now)))
 
 abbrev memory : tie.Start → List ℕ
 memory s = wordLines 0 (s .args .memory .now)
@@ -21,7 +21,7 @@ few : (s : tie.Start) → length (events s) ≤ 63 * s .args .count
 few s =
     let a = s .args in
     let w = s .pre in
-    rows-text-few (a .answers .now) (a .given .now) (a .words .now) (a .count) (w .answers-hold) (w .given-hold) (w .words-hold) (a .count) (omega arith)
+    rows-text-few (a .answers .now) (a .given .now) (a .values .now) (a .count) (w .answers-hold) (w .given-hold) (w .values-hold) (a .count) (omega arith)
 
 fits : (s : tie.Start) → 0 + length (events s) + length (memory s) + 85 ≤ length (s .args .out .now)
 fits s = omega (arith, few s, words-few 0 (s .args .memory .now), s .pre .few, s .pre .memory-few, s .pre .room)

@@ -18,9 +18,12 @@ put-item-requires-2 c κs =
 
 returns-2 : tie.Need-returns-2
 returns-2 c =
-    let w = c .before .before .before .before .before .before .before .put-item .ensures in
-    let s = c .before .before .before .before .before .before .before .before .before .before .before .before in
-    puts-as (word-some (s .args .address) (s .args .word) (c .before .before .before .before .before .before .before .before .before .before .if1 .left)) (puts-puts w (omega (arith, s .pre, item-few wordSpace (s .args .address) 32)) (c .before .before .put-item2 .ensures))
+    let at-put-item = c .before .before .before .before .before .before .before in
+    let at-if1 = at-put-item .before .before .before in
+    let w = at-put-item .put-item .ensures in
+    let s = at-if1 .before .before in
+    puts-as (word-some (s .args .address) (s .args .word) (at-if1 .if1 .left))
+    (puts-puts w (omega (arith, s .pre, item-few wordSpace (s .args .address) 32)) (c .before .before .put-item2 .ensures))
 
 pub put-word-spec : {M : Type 1} → statement M
 put-word-spec =

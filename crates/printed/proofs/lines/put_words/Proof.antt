@@ -37,12 +37,17 @@ loop-less c = omega (arith, c .before .before .before .before .before .loop-test
 
 loop-again : tie.Need-loop-again Inv-loop μ-loop
 loop-again c =
-    let s = c .before .before .before .before .before .before .before .before .before in
-    let l = c .before .before .before .before .before .before .loop in
+    let at-loop-test = c .before .before .before .before .before in
+    let at-loop = at-loop-test .before in
+    let s = at-loop .before .before .before in
+    let l = at-loop .loop in
     let m = s .args .memory .now in
     let few = words-text-few m (l .i) (l .inv .0) in
-    let w = l .inv .1 in
-    (omega (arith, c .before .before .before .before .before .loop-test .taken), puts-as (words-next m (l .i) (c .before .before .before .before .before .loop-test .taken)) (puts-puts w (omega (arith, few, s .pre, c .before .before .before .before .before .loop-test .taken)) (c .before .before .put-word .ensures)))
+    let w = l .inv .1 in (
+      omega (arith, at-loop-test .loop-test .taken),
+      puts-as (words-next m (l .i) (at-loop-test .loop-test .taken))
+          (puts-puts w (omega (arith, few, s .pre, at-loop-test .loop-test .taken)) (c .before .before .put-word .ensures)),
+    )
 
 same-length : tie.Need-same-length Inv-loop μ-loop
 same-length c =
@@ -54,7 +59,8 @@ same-length c =
     puts-length w (omega (arith, few, s .pre, l .inv .0))
 
 returns : tie.Need-returns Inv-loop μ-loop
-returns c = puts-as (ap (wordLines 0) (take-all (c .before .loop .i) (c .before .before .before .before .args .memory .now) (c .loop-test .left))) (c .before .loop .inv .1)
+returns c = puts-as (ap (wordLines 0) (take-all (c .before .loop .i) (c .before .before .before .before .args .memory .now) (c .loop-test .left)))
+    (c .before .loop .inv .1)
 
 pub put-words-spec : {M : Type 1} → statement M
 put-words-spec =

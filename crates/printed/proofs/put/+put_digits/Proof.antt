@@ -93,10 +93,17 @@ cast-out-3 : (t : ℕ) → lts.Need-cast-out-3 (below t, reads.Post) (here t) re
 cast-out-3 t c = search needs
 
 -- room for the digit behind them
-room : (t : ℕ) (c : lts.After-slice-known2 (below t, reads.Post) (here t) reads.Post) → c .before .before .before .before .before .before .before .args .at + length (digitsUpTo (c .before .before .before .before .before .before .before .args .more - 1) (c .before .before .before .before .before .before .before .args .n / 10)) < length (c .before .before .before .before .before .before .before .args .out .now)
+room : (t : ℕ) (c : lts.After-slice-known2 (below t, reads.Post) (here t) reads.Post) →
+    let start = c .before .before .before .before .before .before .before in
+    start .args .at + length (digitsUpTo (start .args .more - 1) (start .args .n / 10)) < length (start .args .out .now)
 room t c =
     let s = c .before .before .before .before .before .before .before in
-    omega (arith, s .pre .1, digits-room (s .args .more) (s .args .n) (c .before .before .before .before .before .if1 .left) (c .before .before .before .before .if2 .left))
+    omega (
+      arith,
+      s .pre .1,
+      digits-room (s .args .more) (s .args .n) (c .before .before .before .before .before .if1 .left)
+          (c .before .before .before .before .if2 .left),
+    )
 
 slice-write-out-3 : (t : ℕ) → lts.Need-slice-write-out-3 (below t, reads.Post) (here t) reads.Post
 slice-write-out-3 t c =
@@ -116,7 +123,8 @@ same-length-3 t c =
 returns-3 : (t : ℕ) → lts.Need-returns-3 (below t, reads.Post) (here t) reads.Post
 returns-3 t c =
     let s = c .before .before .before .before .before .before .before in
-    puts-as (sym (digits-more (s .args .more) (s .args .n) (c .before .before .before .before .before .if1 .left) (c .before .before .before .before .if2 .left))) (put-byte _ (c .before .before .put-digits .ensures) (room t c))
+    puts-as (sym (digits-more (s .args .more) (s .args .n) (c .before .before .before .before .before .if1 .left)
+    (c .before .before .before .before .if2 .left))) (put-byte _ (c .before .before .put-digits .ensures) (room t c))
 
 pub +put-digits-spec : {M : Type 1} → statement M
 +put-digits-spec = close μ λ t. lts.spec (below t, reads.Post)

@@ -18,13 +18,31 @@ loop-holds : tie.Need-loop-holds Inv-loop μ-loop
 loop-holds c = (omega arith, puts-none)
 
 slice-write-out : tie.Need-slice-write-out Inv-loop μ-loop
-slice-write-out c = omega (arith, put-place (c .before .before .before .args .bytes .now) (c .before .before .loop .i) (c .before .before .loop .inv .1) (c .before .before .before .pre) (c .before .before .loop .inv .0), put-long (c .before .before .before .args .bytes .now) (c .before .before .loop .i) (c .before .before .loop .inv .1) (c .before .before .before .pre) (c .before .before .loop .inv .0), c .before .before .before .pre, c .before .loop-test .taken)
+slice-write-out c = omega (
+  arith,
+  put-place (c .before .before .before .args .bytes .now) (c .before .before .loop .i) (c .before .before .loop .inv .1)
+      (c .before .before .before .pre) (c .before .before .loop .inv .0),
+  put-long (c .before .before .before .args .bytes .now)
+      (c .before .before .loop .i) (c .before .before .loop .inv .1) (c .before .before .before .pre) (c .before .before .loop .inv .0),
+  c .before .before .before .pre,
+  c .before .loop-test .taken,
+)
 
 add-place : tie.Need-add-place Inv-loop μ-loop
-add-place c = omega (arith, put-place (c .before .before .before .args .bytes .now) (c .before .before .loop .i) (c .before .before .loop .inv .1) (c .before .before .before .pre) (c .before .before .loop .inv .0), c .before .before .before .pre, c .before .loop-test .taken)
+add-place c = omega (
+  arith,
+  put-place (c .before .before .before .args .bytes .now) (c .before .before .loop .i) (c .before .before .loop .inv .1)
+      (c .before .before .before .pre) (c .before .before .loop .inv .0),
+  c .before .before .before .pre,
+  c .before .loop-test .taken,
+)
 
 loop-again : tie.Need-loop-again Inv-loop μ-loop
-loop-again c = (omega arith, put-next (c .before .before .before .args .bytes .now) (c .before .before .loop .i) (c .before .before .loop .inv .1) (c .before .before .before .pre) (c .before .loop-test .taken))
+loop-again c = (
+  omega arith,
+  put-next (c .before .before .before .args .bytes .now) (c .before .before .loop .i) (c .before .before .loop .inv .1)
+      (c .before .before .before .pre) (c .before .loop-test .taken),
+)
 
 same-length : tie.Need-same-length Inv-loop μ-loop
 same-length c = put-long (c .before .before .args .bytes .now) (c .before .loop .i) (c .before .loop .inv .1) (c .before .before .pre) (c .before .loop .inv .0)

@@ -22,7 +22,7 @@ fresh r =
     let v = r .before .before .before .before .before in
     buffers (v .before .before .no-answers .result) (v .before .no-answers2 .result) (v .no-values .result)
 
-long : (r : tie.After-replay-from) → (length (fresh r .answers) ≡ 16384) × (length (fresh r .given) ≡ 16384) × (length (fresh r .words) ≡ 16384)
+long : (r : tie.After-replay-from) → (length (fresh r .answers) ≡ 16384) × (length (fresh r .given) ≡ 16384) × (length (fresh r .values) ≡ 16384)
 long r = (search needs, search needs, search needs)
 
 abbrev filled : tie.After-replay-from → Buffers
@@ -52,8 +52,8 @@ put-run-requires c κs =
     let w = told r .well (e .if1 .left) in
     let m : length (r .replay-from .last .1 .1 .1 .0) ≡ length (s .args .memory .now) = search needs in
     let z = ap length (s .pre .zeros) ∙ length-replicate (contentsOf (s .args .queue) .memoryLength) 0 in
-    let few : length (r .replay-from .last .1 .1 .1 .0) ≤ 4096 = omega (arith, m, z, s .pre .words) in
-    record { answers-hold = w .answers; given-hold = w .given; words-hold = w .words; few = w .few; memory-few = few; room = s .pre .room }
+    let few : length (r .replay-from .last .1 .1 .1 .0) ≤ 4096 = omega (arith, m, z, s .pre .memory-few) in
+    record { answers-hold = w .answers; given-hold = w .given; values-hold = w .values; few = w .few; memory-few = few; room = s .pre .room }
 
 returns-2 : tie.Need-returns-2
 returns-2 c =

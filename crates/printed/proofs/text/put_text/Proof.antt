@@ -8,17 +8,32 @@ use Rattle.printed.proofs.text.put_text.Statement.{statement}
 use Rattle.printed.proofs.text.put_text.Tie as tie
 
 returns : tie.Need-returns
-returns c = puts-as (table-line 36 ∙ sym (table-long (c .before .before .before .before .before .before .before .before .before .args .table .now) (c .before .before .before .before .before .before .before .before .before .args .trace .now) (c .before .before .before .before .before .if1 .taken))) (c .before .before .put-item .ensures)
+returns c =
+    let start = c .before .before .before .before .before .before .before .before .before in
+    puts-as (table-line 36
+    ∙ sym (table-long (start .args .table .now) (start .args .trace .now) (c .before .before .before .before .before .if1 .taken)))
+    (c .before .before .put-item .ensures)
 
 returns-2 : tie.Need-returns-2
 returns-2 c =
-    let t = c .before .before .before .before .before .before .before .before .read-table in
-    puts-as (table-line (t .result .answer) ∙ sym (table-fault (c .before .before .before .before .before .before .before .before .before .before .before .before .before .args .table .now) (c .before .before .before .before .before .before .before .before .before .before .before .before .before .args .trace .now) (c .before .before .before .before .before .before .before .before .before .if1 .left) (table-refused (c .before .before .before .before .before .before .before .before .before .before .before .before .before .args .table .now) (t .result) (t .ensures) (c .before .before .before .before .before .before .if2 .taken)))) (c .before .before .put-item2 .ensures)
+    let at-if2 = c .before .before .before .before .before .before in
+    let at-read-table = at-if2 .before .before in
+    let at-if1 = at-read-table .before in
+    let start = at-if1 .before .before .before .before in
+    let t = at-read-table .read-table in
+    puts-as (table-line (t .result .answer)
+    ∙ sym (table-fault (start .args .table .now) (start .args .trace .now) (at-if1 .if1 .left)
+    (table-refused (start .args .table .now) (t .result) (t .ensures) (at-if2 .if2 .taken)))) (c .before .before .put-item2 .ensures)
 
 returns-3 : tie.Need-returns-3
 returns-3 c =
-    let t = c .before .before .before .before .before .before .before .read-table in
-    puts-as (sym (table-right (c .before .before .before .before .before .before .before .before .before .before .before .before .args .table .now) (c .before .before .before .before .before .before .before .before .before .before .before .before .args .trace .now) (c .before .before .before .before .before .before .before .before .if1 .left) (table-got (c .before .before .before .before .before .before .before .before .before .before .before .before .args .table .now) (t .result) (t .ensures) (c .before .before .before .before .before .if2 .left) .is))) (c .before .before .put-trace .ensures)
+    let at-read-table = c .before .before .before .before .before .before .before in
+    let at-if1 = at-read-table .before in
+    let start = at-if1 .before .before .before .before in
+    let t = at-read-table .read-table in
+    puts-as (sym (table-right (start .args .table .now) (start .args .trace .now) (at-if1 .if1 .left)
+    (table-got (start .args .table .now) (t .result) (t .ensures) (c .before .before .before .before .before .if2 .left) .is)))
+    (c .before .before .put-trace .ensures)
 
 pub put-text-spec : {M : Type 1} → statement M
 put-text-spec =

@@ -16,7 +16,11 @@ use Rattle.printed.proofs.text.put_trace.Statement.{statement}
 use Rattle.printed.proofs.text.put_trace.Tie as tie
 
 returns : tie.Need-returns
-returns c = puts-as (trace-line 36 ∙ sym (trace-long (groupsOf (c .before .before .before .before .before .before .before .before .args .table)) (c .before .before .before .before .before .before .before .before .args .trace .now) (c .before .before .before .before .before .if1 .taken))) (c .before .before .put-item .ensures)
+returns c =
+    let start = c .before .before .before .before .before .before .before .before in
+    puts-as (trace-line 36
+    ∙ sym (trace-long (groupsOf (start .args .table)) (start .args .trace .now) (c .before .before .before .before .before .if1 .taken)))
+    (c .before .before .put-item .ensures)
 
 returns-2 : tie.Need-returns-2
 returns-2 c =
@@ -28,7 +32,7 @@ returns-2 c =
     puts-as (trace-line (o .open-trace .result .answer) ∙ sym (short ∙ ap startText refused)) (c .before .before .put-item2 .ensures)
 
 -- the memory fits
-few-words : (e : tie.Else2) → e .before .before .open-trace .result .queue .frame .words ≤ 4096
+few-words : (e : tie.Else2) → e .before .before .open-trace .result .queue .frame .«memory_length» ≤ 4096
 few-words e =
     let o = e .before .before in
     let a = o .before .before .before .before .args in
@@ -52,7 +56,7 @@ put-played-requires c κs =
     let m = words-held (o .open-trace .result .queue) in
     record {
       short = o .before .if1 .left;
-      words = omega (arith, few-words e, m);
+      memory-few = omega (arith, few-words e, m);
       zeros = take-zeros _ _ (c .before .before .no-memory .ensures) (few-words e) (sym m);
       room = o .before .before .before .before .pre;
     }

@@ -67,7 +67,8 @@ good-group g =
     group-right (frame s .table) (groups-few (frame s .table) t) (s .args .group) (below g) (g .group-at .ensures) t
 
 rule : (g : tie.After-group-at) → let s = begun g in
-    activate (contentsOf (queueIn s)) (s .args .group) ≡ need (room (contentsOf (queueIn s)) (meant g)) noPlace (accept (withGroup (contentsOf (queueIn s)) (meant g)))
+    activate (contentsOf (queueIn s)) (s .args .group) ≡ need (room (contentsOf (queueIn s)) (meant g)) noPlace
+    (accept (withGroup (contentsOf (queueIn s)) (meant g)))
 rule g = let s = begun g in activate-group (queueIn s) (s .args .group) (good (checked g) .right) (below g) (g .group-at .ensures)
 
 abbrev chosen : tie.After-has-room → tie.After-group-at
@@ -80,7 +81,8 @@ place : (e : tie.Else3) → room (contentsOf (queueIn (begun (chosen (e .before)
 place e = has-place (e .before) ∙ not-false _ (e .if3 .left)
 
 fits : (e : tie.Else3) → let g = chosen (e .before) in let s = begun g in
-    PairsFit (frame s .loads .count) (frame s .table .loads) (g .group-at .result .loads) × PairsFit (frame s .stores .count) (frame s .table .stores) (g .group-at .result .stores)
+    PairsFit (frame s .loads .count) (frame s .table .loads) (g .group-at .result .loads)
+    × PairsFit (frame s .stores .count) (frame s .table .stores) (g .group-at .result .stores)
 fits e =
     let g = chosen (e .before) in
     group-fits (queueIn (begun g)) (g .group-at .result) (group-inside _ _ (g .group-at .ensures)) (good (checked g) .right) (good-group g) (place e)
@@ -89,7 +91,8 @@ returns : tie.Need-returns
 returns c =
     let s = start (c .before .before) in
     let q = queueIn s in
-    rw (unfit q (activate (contentsOf q) (s .args .group)) (c .before .before .sound-in .ensures) (c .before .if1 .taken) (activate-unsound (contentsOf q) (s .args .group))) (ap (unchanged s) (c .refused .ensures))
+    rw (unfit q (activate (contentsOf q) (s .args .group)) (c .before .before .sound-in .ensures) (c .before .if1 .taken)
+    (activate-unsound (contentsOf q) (s .args .group))) (ap (unchanged s) (c .refused .ensures))
 
 returns-2 : tie.Need-returns-2
 returns-2 c =
@@ -136,7 +139,8 @@ returns-4 c =
       answer = refl {a = 0};
       gives = refl {a = none};
       holds = rw (d .before .longer .ensures, d .longer2 .ensures)
-          (appended-both (queueIn s) (g .group-at .result) (a .append .ensures) (b .append2 .ensures) ∙ with-group-is (contentsOf (queueIn s)) (meant g) (good-group g));
+          (appended-both (queueIn s) (g .group-at .result) (a .append .ensures) (b .append2 .ensures)
+          ∙ with-group-is (contentsOf (queueIn s)) (meant g) (good-group g));
     })
 
 pub activate-in-spec : {M : Type 1} → statement M

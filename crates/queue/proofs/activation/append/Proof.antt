@@ -28,7 +28,8 @@ after-number others p few port offset =
 
 abbrev Inv-loop : tie.InvT-loop
 Inv-loop entries₀ held places others start more first j₀ entries j =
-    (j ≤ more) × Pasted (numberAfter others) entries₀ held (listOf places (record { first = first; count = more })) j entries × (length entries ≡ length entries₀)
+    (j ≤ more) × Pasted (numberAfter others) entries₀ held (listOf places (record { first = first; count = more })) j entries
+    × (length entries ≡ length entries₀)
 
 abbrev μ-loop : tie.MeasureT-loop
 μ-loop entries₀ held places others start more first j₀ entries j = more - j
@@ -106,8 +107,13 @@ loop-again c =
     let u = ended c in
     let l = turn u in
     let s = begun c in
-    let i = l .before .loop .inv in
-    (omega (arith, l .loop-test .taken), rw (c .pack .ensures) (pasted-more (i .1) blankPair (this u) (omega (arith, s .pre .2, s .pre .0 .room, l .loop-test .taken)) (omega (arith, left s, l .loop-test .taken))), simp length-set (i .2))
+    let i = l .before .loop .inv in (
+      omega (arith, l .loop-test .taken),
+      rw (c .pack .ensures)
+          (pasted-more (i .1) blankPair (this u) (omega (arith, s .pre .2, s .pre .0 .room, l .loop-test .taken))
+          (omega (arith, left s, l .loop-test .taken))),
+      simp length-set (i .2),
+    )
 
 same-length : tie.Need-same-length Inv-loop μ-loop
 same-length c = c .before .loop .inv .2
@@ -119,7 +125,8 @@ returns c =
     let n = s .args .pairs .count in
     let all : take n (listed s) ≡ listed s = take-all n (listed s) (omega (arith, view-length (s .args .places .now) (s .args .pairs))) in
     record {
-      holds = rw all at (side-appended entryOf 0 (numberAfter (s .args .others)) (entryAfter (s .args .others)) blankPair (i .1) n (omega (arith, i .0, c .loop-test .left)) (omega (arith, s .pre .2, s .pre .0 .room)) (left s) (fits s));
+      holds = rw all at (side-appended entryOf 0 (numberAfter (s .args .others)) (entryAfter (s .args .others)) blankPair (i .1) n
+          (omega (arith, i .0, c .loop-test .left)) (omega (arith, s .pre .2, s .pre .0 .room)) (left s) (fits s));
     }
 
 pub append-spec : {M : Type 1} → statement M

@@ -60,14 +60,14 @@ looked c = c .has-port .ensures ∙ ap (named (sure c)) (c .before .before .befo
 port : (c : tie.Else2) → let s = sure (c .before) in named s (kindOf (s .args .argument)) ≡ true
 port c = sym (looked (c .before)) ∙ not-false _ (c .if2 .left)
 
-ranged : (c : tie.Else3) → let a = sure (c .before .before .before) .args in inRange (a .argument) (a .outline .words) (a .number) ≡ true
+ranged : (c : tie.Else3) → let a = sure (c .before .before .before) .args in inRange (a .argument) (a .outline .«memory_length») (a .number) ≡ true
 ranged c = sym (c .before .in-range .ensures) ∙ not-false _ (c .if3 .left)
 
 fits-entry : (c : tie.Else3) → let a = sure (c .before .before .before) .args in inRange (a .argument) 65536 (a .number) ≡ true
 fits-entry c =
     let p = c .before .before .before in
     let a = sure p .args in
-    in-range-most (a .argument) (a .outline .words) (a .number) (words-most (queue (sure p)) (good (p .before) .right)) (ranged c)
+    in-range-most (a .argument) (a .outline .«memory_length») (a .number) (words-most (queue (sure p)) (good (p .before) .right)) (ranged c)
 
 -- the side of the argument's kind
 abbrev sideBy : tie.Start → Kind → Side

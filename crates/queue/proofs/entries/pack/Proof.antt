@@ -9,8 +9,11 @@ use Rattle.queue.proofs.entries.pack.Tie as tie
 
 marks : (c : tie.After-bit3) → (c .before .before .bit .result < 2) × (c .before .bit2 .result < 2) × (c .bit3 .result < 2)
 marks c =
-    let e = c .before .before .before .args .entry in
-    (rw (c .before .before .bit .ensures) (bit-small (e .addressed)), rw (c .before .bit2 .ensures) (bit-small (e .filled)), rw (c .bit3 .ensures) (bit-small (e .finished)))
+    let e = c .before .before .before .args .entry in (
+      rw (c .before .before .bit .ensures) (bit-small (e .addressed)),
+      rw (c .before .bit2 .ensures) (bit-small (e .filled)),
+      rw (c .bit3 .ensures) (bit-small (e .finished)),
+    )
 
 mul-marks : tie.Need-mul-marks
 mul-marks c =

@@ -30,10 +30,12 @@ groupOf c = pairsOf (tableAt c .loads) (tableAt c .stores) (c .group-at .result)
 abbrev turn : tie.After-group-at Inv-loop μ-loop → tie.In-loop Inv-loop μ-loop
 turn c = c .before .before .before
 
-here : (c : tie.After-group-at Inv-loop μ-loop) → drop (turn c .before .loop .i) (groupsOf (tableAt c)) ≡ groupOf c ∷ drop (turn c .before .loop .i + 1) (groupsOf (tableAt c))
+here : (c : tie.After-group-at Inv-loop μ-loop)
+    → drop (turn c .before .loop .i) (groupsOf (tableAt c)) ≡ groupOf c ∷ drop (turn c .before .loop .i + 1) (groupsOf (tableAt c))
 here c = groups-here (tableAt c) (turn c .before .before .pre) (turn c .before .loop .i) (turn c .loop-test .taken) (c .group-at .ensures)
 
-fits : (c : tie.After-group-fits Inv-loop μ-loop) → let a = turn (c .before) .before .before .args in groupFits (a .load-depth) (a .store-depth) (groupOf (c .before)) ≡ c .group-fits .result
+fits : (c : tie.After-group-fits Inv-loop μ-loop)
+    → let a = turn (c .before) .before .before .args in groupFits (a .load-depth) (a .store-depth) (groupOf (c .before)) ≡ c .group-fits .result
 fits c =
     let g = c .before in
     let a = turn g .before .before .args in

@@ -24,14 +24,17 @@ load-depth c = sym (c .before .depth-right .ensures) ∙ not-false _ (c .if2 .le
 store-depth : (c : tie.Else3) → depthRight (c .before .before .before .before .before .before .args .store-depth) ≡ true
 store-depth c = sym (c .before .depth-right2 .ensures) ∙ not-false _ (c .if3 .left)
 
-memory : (c : tie.Else4) → memoryRight (c .before .before .before .before .before .before .before .before .args .words) ≡ true
+memory : (c : tie.Else4) → memoryRight (c .before .before .before .before .before .before .before .before .args .memory-length) ≡ true
 memory c = sym (c .before .memory-right .ensures) ∙ not-false _ (c .if4 .left)
 
 returns : tie.Need-returns
 unfolding openQueue
 returns c =
     let t = c .before .before in
-    rw (ne-eqb (tableFault (groupsOf (t .before .args .table))) 0 (λ z. c .before .if1 .taken (t .table-fault .ensures ∙ z)), ← t .table-fault .ensures) (c .refused .ensures)
+    rw (
+      ne-eqb (tableFault (groupsOf (t .before .args .table))) 0 (λ z. c .before .if1 .taken (t .table-fault .ensures ∙ z)),
+      ← t .table-fault .ensures,
+    ) (c .refused .ensures)
 
 returns-2 : tie.Need-returns-2
 unfolding openQueue
@@ -43,14 +46,21 @@ returns-3 : tie.Need-returns-3
 unfolding openQueue
 returns-3 c =
     let p = c .before .before in
-    rw (table-right (p .before .before .before), load-depth (p .before), sym (p .depth-right2 .ensures) ∙ not-true _ (c .before .if3 .taken)) (c .refused3 .ensures)
+    rw (table-right (p .before .before .before), load-depth (p .before), sym (p .depth-right2 .ensures) ∙ not-true _ (c .before .if3 .taken))
+    (c .refused3 .ensures)
 
 returns-4 : tie.Need-returns-4
 unfolding openQueue
 returns-4 c =
     let p = c .before .before in
     let s = p .before in
-    rw (table-right (s .before .before .before .before), load-depth (s .before .before), store-depth s, sym (p .memory-right .ensures) ∙ not-true _ (c .before .if4 .taken)) (c .refused4 .ensures)
+    rw (
+      table-right (s .before .before .before .before),
+      load-depth (s .before .before),
+      store-depth s,
+      sym (p .memory-right .ensures)
+          ∙ not-true _ (c .before .if4 .taken),
+    ) (c .refused4 .ensures)
 
 groups-fit-requires : tie.Need-groups-fit-requires
 groups-fit-requires c κs = groups-few _ (table-right (c .before .before .before .before .before .before))
@@ -61,7 +71,14 @@ returns-5 c =
     let p = c .before .before in
     let m = p .before in
     let s = m .before .before in
-    rw (table-right (s .before .before .before .before), load-depth (s .before .before), store-depth s, memory m, sym (p .groups-fit .ensures) ∙ not-true _ (c .before .if5 .taken)) (c .refused5 .ensures)
+    rw (
+      table-right (s .before .before .before .before),
+      load-depth (s .before .before),
+      store-depth s,
+      memory m,
+      sym (p .groups-fit .ensures)
+          ∙ not-true _ (c .before .if5 .taken),
+    ) (c .refused5 .ensures)
 
 cast-fresh-frame : tie.Need-cast-fresh-frame
 cast-fresh-frame c =
@@ -76,7 +93,7 @@ cast-fresh-frame-2 c =
 cast-fresh-frame-3 : tie.Need-cast-fresh-frame-3
 cast-fresh-frame-3 c =
     let m = c .before .before in
-    omega (arith, within-most 1 4096 (m .before .before .before .before .before .before .before .before .args .words) (memory m))
+    omega (arith, within-most 1 4096 (m .before .before .before .before .before .before .before .before .args .memory-length) (memory m))
 
 returns-6 : tie.Need-returns-6
 unfolding openQueue contentsOf
@@ -84,7 +101,14 @@ returns-6 c =
     let p = c .before .before in
     let m = p .before in
     let s = m .before .before in
-    rw (table-right (s .before .before .before .before), load-depth (s .before .before), store-depth s, memory m, sym (p .groups-fit .ensures) ∙ not-false _ (c .before .if5 .left)) (ap (λ (f : Frame). record { answer = 0; frame = f }) (c .fresh-frame .ensures), λ l s. simp zero-sub)
+    rw (
+      table-right (s .before .before .before .before),
+      load-depth (s .before .before),
+      store-depth s,
+      memory m,
+      sym (p .groups-fit .ensures)
+          ∙ not-false _ (c .before .if5 .left),
+    ) (ap (λ (f : Frame). record { answer = 0; frame = f }) (c .fresh-frame .ensures), λ l s. simp zero-sub)
 
 pub open-in-spec : {M : Type 1} → statement M
 open-in-spec =

@@ -31,7 +31,8 @@ tableAt c = tableOf (c .before .before .before)
 abbrev groupOf : tie.After-group-at Inv-loop μ-loop → GroupPairs
 groupOf c = pairsOf (tableAt c .loads) (tableAt c .stores) (c .group-at .result)
 
-here : (c : tie.After-group-at Inv-loop μ-loop) → drop (c .before .before .loop .i) (groupsOf (tableAt c)) ≡ groupOf c ∷ drop (c .before .before .loop .i + 1) (groupsOf (tableAt c))
+here : (c : tie.After-group-at Inv-loop μ-loop)
+    → drop (c .before .before .loop .i) (groupsOf (tableAt c)) ≡ groupOf c ∷ drop (c .before .before .loop .i + 1) (groupsOf (tableAt c))
 here c = groups-here (tableAt c) (c .before .before .before .pre) (c .before .before .loop .i) (c .before .loop-test .taken) (c .group-at .ensures)
 
 loop-holds : tie.Need-loop-holds Inv-loop μ-loop

@@ -12,7 +12,12 @@ use Rattle.queue.proofs.ready.noted.Statement.{statement}
 use Rattle.queue.proofs.ready.noted.Tie as tie
 
 returns : tie.Need-returns
-returns c = record { few = omega arith; long = refl; are = rw (not-true (c .before .args .ready) (c .if1 .taken)) (sym (append-nil (serialsListed (c .before .args .t1)))) }
+returns c = record {
+  few = omega arith;
+  long = refl;
+  are =
+      rw (not-true (c .before .args .ready) (c .if1 .taken)) (sym (append-nil (serialsListed (c .before .args .t1))));
+}
 
 returns-2 : tie.Need-returns-2
 returns-2 c =
@@ -21,7 +26,8 @@ returns-2 c =
     record {
       few = omega arith;
       long = length-set (s .args .t1 .numbers) (s .args .t1 .count) (s .args .serial);
-      are = rw (not-false (s .args .ready) (c .if1 .left), add-one) (take-suc-set (s .args .t1 .numbers) (s .args .t1 .count) (s .args .serial) (omega (arith, s .pre)));
+      are = rw (not-false (s .args .ready) (c .if1 .left), add-one)
+          (take-suc-set (s .args .t1 .numbers) (s .args .t1 .count) (s .args .serial) (omega (arith, s .pre)));
     }
 
 pub noted-spec : {M : Type 1} → statement M

@@ -18,7 +18,8 @@ numbers-long : (c : tie.Start Inv-loop μ-loop) → length (c .args .t1 .numbers
 numbers-long c = search (needs, long)
 
 same : (c : tie.At-loop Inv-loop μ-loop) → length (c .loop .out) ≡ length (c .before .args .out .now)
-same c = copied-length (c .loop .inv .1) (omega (arith, numbers-long (c .before), c .before .pre .0, c .loop .inv .0)) (omega (arith, c .before .pre .1, c .loop .inv .0))
+same c = copied-length (c .loop .inv .1) (omega (arith, numbers-long (c .before), c .before .pre .0, c .loop .inv .0))
+    (omega (arith, c .before .pre .1, c .loop .inv .0))
 
 loop-holds : tie.Need-loop-holds Inv-loop μ-loop
 loop-holds c = (search needs, copied-none)

@@ -63,8 +63,11 @@ noted-requires c κs =
 loop-again : tie.Need-loop-again Inv-loop μ-loop
 loop-again c =
     let r = c .before .before in
-    let l = r .before in
-    (omega arith, gathering-more (l .before .loop .inv .1) (l .loop-test .taken) (r .ready-at .ensures) (c .before .noted .ensures) (c .wrapping-add-u32 .ensures))
+    let l = r .before in (
+      omega arith,
+      gathering-more (l .before .loop .inv .1) (l .loop-test .taken) (r .ready-at .ensures) (c .before .noted .ensures)
+          (c .wrapping-add-u32 .ensures),
+    )
 
 returns : tie.Need-returns Inv-loop μ-loop
 returns c t right =

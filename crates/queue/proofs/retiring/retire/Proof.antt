@@ -46,7 +46,8 @@ returns c t =
     let s = b .shorter2 .ensures in
     let f = b .before .before in
     rw (l, s)
-    (retire-sides (frameWith t (start (f .before .before) .args .outline)) (f .before .before .retiring .ensures) (f .retiring2 .ensures) (rw l at (a .shift .ensures)) (rw s at (d .shift2 .ensures)))
+    (retire-sides (frameWith t (start (f .before .before) .args .outline)) (f .before .before .retiring .ensures) (f .retiring2 .ensures)
+    (rw l at (a .shift .ensures)) (rw s at (d .shift2 .ensures)))
 
 pub retire-spec : {M : Type 1} → statement M
 retire-spec =

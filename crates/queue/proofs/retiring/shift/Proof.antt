@@ -46,7 +46,8 @@ returns c =
     let left : n - s .args .gone ≡ s .args .left = omega arith in
     record {
       holds = ap (λ (m : ℕ). entriesHeld m (c .before .loop .entries)) (sym left)
-          ∙ moved-side (i .1) entryOf 0 (lowered (s .args .others)) (lowered-number (s .args .others)) n (omega (arith, i .0, c .loop-test .left)) (omega arith) (omega (arith, s .pre));
+          ∙ moved-side (i .1) entryOf 0 (lowered (s .args .others)) (lowered-number (s .args .others)) n (omega (arith, i .0, c .loop-test .left))
+          (omega arith) (omega (arith, s .pre));
     }
 
 pub shift-spec : {M : Type 1} → statement M

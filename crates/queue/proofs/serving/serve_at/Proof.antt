@@ -47,13 +47,15 @@ held c = c .before .before
 before-few : (c : tie.After-unpack) → c .unpack .result .before ≤ start (held c) .args .outline .stores .count
 before-few c =
     let s = start (held c) in
-    subst (λ (e : Entry). e .before ≤ s .args .outline .stores .count) (sym (c .unpack .ensures)) (load-before (queueIn s) (s .pre .0 .right) (s .args .place) (held c .if1 .left))
+    subst (λ (e : Entry). e .before ≤ s .args .outline .stores .count) (sym (c .unpack .ensures))
+    (load-before (queueIn s) (s .pre .0 .right) (s .args .place) (held c .if1 .left))
 
 in-memory : (c : tie.After-unpack) → c .unpack .result .addressed ≡ true → c .unpack .result .address < length (start (held c) .args .memory .now)
 in-memory c a =
     let s = start (held c) in
     rw (s .pre .1)
-    (subst (λ (e : Entry). e .addressed ≡ true → e .address < s .args .outline .words) (sym (c .unpack .ensures)) (load-address (queueIn s) (s .pre .0 .right) (s .args .place) (held c .if1 .left)) a)
+    (subst (λ (e : Entry). e .addressed ≡ true → e .address < s .args .outline .«memory_length») (sym (c .unpack .ensures))
+    (load-address (queueIn s) (s .pre .0 .right) (s .args .place) (held c .if1 .left)) a)
 
 -- what the rule says, once the place is one of the queue, and once the load's source is known
 abbrev byRule : Table → tie.After-unpack → Ruled Loaded → Ruled Served
@@ -88,7 +90,8 @@ sourced c t x is =
 returns : tie.Need-returns
 returns c t =
     let s = c .before .before .before .before .before .before .before in
-    rw (serve-none (queueWith t s) (s .args .memory .now) (s .args .place) (c .before .if1 .taken)) (ap (λ (r : Service). handedCounts (countedOf r (queueWith t s))) (c .serve-refused .ensures))
+    rw (serve-none (queueWith t s) (s .args .memory .now) (s .args .place) (c .before .if1 .taken))
+    (ap (λ (r : Service). handedCounts (countedOf r (queueWith t s))) (c .serve-refused .ensures))
 
 slice-read-unpack : tie.Need-slice-read-unpack
 slice-read-unpack c = le-trans (c .before .if1 .left) (room (start (c .before)))
@@ -149,7 +152,8 @@ returns-6 c t =
     let u = m .before .before .before .before .before in
     let s = start (held u) in
     rw (sourced m t _ (g .before .before .before .word .given .1))
-    (served-well (queueWith t s) (s .args .counts) (s .args .place) _ _ (s .pre .0 .loads-whole) (few s) (held u .if1 .left) (g .served .ensures .0) (g .served .ensures .1))
+    (served-well (queueWith t s) (s .args .counts) (s .args .place) _ _ (s .pre .0 .loads-whole) (few s) (held u .if1 .left) (g .served .ensures .0)
+    (g .served .ensures .1))
 
 returns-7 : tie.Need-returns-7
 returns-7 c t =
@@ -158,7 +162,8 @@ returns-7 c t =
     let u = m .before .before .before .before .before in
     let s = start (held u) in
     rw (sourced m t _ (g .before .before .before .before .enum-told3 .given .1))
-    (served-well (queueWith t s) (s .args .counts) (s .args .place) _ _ (s .pre .0 .loads-whole) (few s) (held u .if1 .left) (g .served2 .ensures .0) (g .served2 .ensures .1))
+    (served-well (queueWith t s) (s .args .counts) (s .args .place) _ _ (s .pre .0 .loads-whole) (few s) (held u .if1 .left) (g .served2 .ensures .0)
+    (g .served2 .ensures .1))
 
 pub serve-at-spec : {M : Type 1} → statement M
 serve-at-spec =

@@ -34,19 +34,30 @@ returns c =
     let p = c .before .before in
     let s = start p in
     let q = queueIn s in
-    rw (unfit q (serve (contentsOf q) (s .args .memory .now) (s .args .serial)) (c .before .before .sound-in .ensures) (c .before .if1 .taken) (serve-unsound q (s .args .memory .now) (s .args .serial))) (ap (λ (r : Service). handedCounts (countedOf r (queueIn s))) (c .serve-refused .ensures))
+    rw (unfit q (serve (contentsOf q) (s .args .memory .now) (s .args .serial)) (c .before .before .sound-in .ensures) (c .before .if1 .taken)
+    (serve-unsound q (s .args .memory .now) (s .args .serial)))
+    (ap (λ (r : Service). handedCounts (countedOf r (queueIn s))) (c .serve-refused .ensures))
 
 returns-2 : tie.Need-returns-2
 returns-2 c =
     let e = c .before .before .before in
     let s = start (e .before) in
-    rw (good e .full, serve-memory (queueIn s) (s .args .memory .now) (s .args .serial) (good e .right) (c .before .if2 .taken)) (ap (λ (r : Service). handedCounts (countedOf r (queueIn s))) (c .serve-refused2 .ensures))
+    rw (good e .full, serve-memory (queueIn s) (s .args .memory .now) (s .args .serial) (good e .right) (c .before .if2 .taken))
+    (ap (λ (r : Service). handedCounts (countedOf r (queueIn s))) (c .serve-refused2 .ensures))
 
 serve-at-requires : tie.Need-serve-at-requires
 serve-at-requires c κs =
     let e2 = c .before .before .before in
-    let e = e2 .before .before in
-    (record { table = frame (start (e .before)) .table; right = good e .right; loads-whole = good e .loads-whole; stores-whole = good e .stores-whole }, e2 .if2 .left)
+    let e = e2 .before .before in (
+      record {
+        table = frame (start (e .before)) .table;
+        right = good e .right;
+        loads-whole = good e .loads-whole;
+        stores-whole =
+            good e .stores-whole;
+      },
+      e2 .if2 .left,
+    )
 
 returns-3 : tie.Need-returns-3
 returns-3 c =
@@ -55,7 +66,8 @@ returns-3 c =
     let e2 = p .before .before in
     let e = e2 .before .before in
     let s = start (e .before) in
-    rw (good e .full, serve-place (queueIn s) (s .args .memory .now) (s .args .serial) (good e .right) (e2 .if2 .left), ← p .place-of .ensures) (g .serve-at .ensures (frame s .table))
+    rw (good e .full, serve-place (queueIn s) (s .args .memory .now) (s .args .serial) (good e .right) (e2 .if2 .left), ← p .place-of .ensures)
+    (g .serve-at .ensures (frame s .table))
 
 pub serve-in-spec : {M : Type 1} → statement M
 serve-in-spec =

@@ -27,7 +27,9 @@ walked c = storesHeld (c .args .n) (c .args .entries .now)
 abbrev turn : tie.After-unpack Inv-loop μ-loop → tie.At-loop Inv-loop μ-loop
 turn c = c .before .before .before
 
-here : (c : tie.After-unpack Inv-loop μ-loop) → drop (turn c .loop .i) (walked (turn c .before .before)) ≡ storeOf (c .unpack .result) ∷ drop (turn c .loop .i + 1) (walked (turn c .before .before))
+here : (c : tie.After-unpack Inv-loop μ-loop)
+    → drop (turn c .loop .i) (walked (turn c .before .before)) ≡ storeOf (c .unpack .result) ∷ drop (turn c .loop .i + 1)
+    (walked (turn c .before .before))
 here c =
     side-here storeIn 0 _ _ _ (c .before .before .loop-test .taken)
     ∙ ap (λ (e : Entry). storeOf e ∷ drop (turn c .loop .i + 1) (walked (turn c .before .before))) (sym (c .unpack .ensures))

@@ -19,7 +19,8 @@ abbrev μ-loop : tie.MeasureT-loop
 μ-loop entries held words others count i₀ i = count - i
 
 here : (c : tie.After-entry-right Inv-loop μ-loop) → let l = c .before .before .before in let s = l .before .before .before in
-    drop (l .before .loop .i) (entriesHeld (s .args .held) (s .args .entries .now)) ≡ c .before .unpack .result ∷ drop (l .before .loop .i + 1) (entriesHeld (s .args .held) (s .args .entries .now))
+    drop (l .before .loop .i) (entriesHeld (s .args .held) (s .args .entries .now)) ≡ c .before .unpack .result ∷ drop (l .before .loop .i + 1)
+    (entriesHeld (s .args .held) (s .args .entries .now))
 here c =
     let l = c .before .before .before in
     let s = l .before .before .before in
@@ -29,10 +30,15 @@ loop-holds : tie.Need-loop-holds Inv-loop μ-loop
 loop-holds c = (search needs, all-none)
 
 returns : tie.Need-returns Inv-loop μ-loop
-returns c = all-stop (c .before .before .before .before .before .loop .inv .1) (here (c .before)) (sym (c .before .entry-right .ensures) ∙ not-true _ (c .if1 .taken))
+returns c = all-stop (c .before .before .before .before .before .loop .inv .1) (here (c .before)) (sym (c .before .entry-right .ensures)
+    ∙ not-true _ (c .if1 .taken))
 
 loop-again : tie.Need-loop-again Inv-loop μ-loop
-loop-again c = (omega arith, all-on (c .before .before .before .before .before .loop .inv .1) (here (c .before)) (sym (c .before .entry-right .ensures) ∙ not-false _ (c .if1 .left)))
+loop-again c = (
+  omega arith,
+  all-on (c .before .before .before .before .before .loop .inv .1) (here (c .before))
+      (sym (c .before .entry-right .ensures) ∙ not-false _ (c .if1 .left)),
+)
 
 returns-2 : tie.Need-returns-2 Inv-loop μ-loop
 returns-2 c =

@@ -45,13 +45,17 @@ load-side c = sym (c .before .side-right .ensures) ∙ not-false _ (c .if3 .left
 store-side : (c : tie.Else4) → (depthRight (at2 c .frame .stores .depth) && leb (at2 c .frame .stores .count) (at2 c .frame .stores .depth)) ≡ true
 store-side c = sym (c .before .side-right2 .ensures) ∙ not-false _ (c .if4 .left)
 
-memory : (c : tie.Else5) → memoryRight (at3 c .frame .words) ≡ true
+memory : (c : tie.Else5) → memoryRight (at3 c .frame .«memory_length») ≡ true
 memory c = sym (c .before .memory-right .ensures) ∙ not-false _ (c .if5 .left)
 
-loads : (c : tie.Else6) → allOf (entryRight (at4 c .frame .words) (at4 c .frame .stores .count)) (entriesHeld (at4 c .frame .loads .count) (at4 c .«load_entries»)) ≡ true
+loads : (c : tie.Else6)
+    → allOf (entryRight (at4 c .frame .«memory_length») (at4 c .frame .stores .count))
+    (entriesHeld (at4 c .frame .loads .count) (at4 c .«load_entries»)) ≡ true
 loads c = sym (c .before .entries-right .ensures) ∙ not-false _ (c .if6 .left)
 
-stores : (c : tie.Else7) → allOf (entryRight (at5 c .frame .words) (at5 c .frame .loads .count)) (entriesHeld (at5 c .frame .stores .count) (at5 c .«store_entries»)) ≡ true
+stores : (c : tie.Else7)
+    → allOf (entryRight (at5 c .frame .«memory_length») (at5 c .frame .loads .count))
+    (entriesHeld (at5 c .frame .stores .count) (at5 c .«store_entries»)) ≡ true
 stores c = sym (c .before .entries-right2 .ensures) ∙ not-false _ (c .if7 .left)
 
 -- both runs have the length of a side's
@@ -68,7 +72,8 @@ returns : tie.Need-returns
 returns c = let a = c .before .before .before .args in rw (loads-not-whole (a .load-entries .now) (a .store-entries .now) (c .if1 .taken))
 
 returns-2 : tie.Need-returns-2
-returns-2 c = let a = c .before .before .before .before .args in rw (stores-not-whole (a .load-entries .now) (a .store-entries .now) (c .before .if1 .left) (c .if2 .taken))
+returns-2 c = let a = c .before .before .before .before .args in
+    rw (stores-not-whole (a .load-entries .now) (a .store-entries .now) (c .before .if1 .left) (c .if2 .taken))
 
 returns-3 : tie.Need-returns-3
 returns-3 c = rw (full (c .before .before .before .before), sound-sides (queue (c .before)), sym (c .before .side-right .ensures) ∙ not-true _ (c .if3 .taken))
@@ -81,7 +86,13 @@ returns-4 c =
 returns-5 : tie.Need-returns-5
 returns-5 c =
     let p = c .before .before .before in
-    rw (full (p .before .before .before .before .before .before), sound-sides (at2 p), load-side (p .before .before), store-side p, sym (c .before .memory-right .ensures) ∙ not-true _ (c .if5 .taken))
+    rw (
+      full (p .before .before .before .before .before .before),
+      sound-sides (at2 p),
+      load-side (p .before .before),
+      store-side p,
+      sym (c .before .memory-right .ensures) ∙ not-true _ (c .if5 .taken),
+    )
 
 entries-right-requires : tie.Need-entries-right-requires
 entries-right-requires c κs =
@@ -92,19 +103,38 @@ returns-6 : tie.Need-returns-6
 returns-6 c =
     let p = c .before .before in
     let o = p .before .before .before in
-    rw (full (o .before .before .before .before .before .before), sound-sides (at3 p), load-side (o .before .before), store-side o, memory p, sym (c .before .entries-right .ensures) ∙ not-true _ (c .if6 .taken))
+    rw (
+      full (o .before .before .before .before .before .before),
+      sound-sides (at3 p),
+      load-side (o .before .before),
+      store-side o,
+      memory p,
+      sym (c .before .entries-right .ensures) ∙ not-true _ (c .if6 .taken),
+    )
 
 entries-right-requires-2 : tie.Need-entries-right-requires-2
 entries-right-requires-2 c κs =
     let o = c .before .before .before .before .before in
-    omega (arith, side-few (at2 o .frame .stores .depth) (at2 o .frame .stores .count) (store-side o), o .before .before .before .before .before .before .if2 .left)
+    omega (
+      arith,
+      side-few (at2 o .frame .stores .depth) (at2 o .frame .stores .count) (store-side o),
+      o .before .before .before .before .before .before .if2 .left,
+    )
 
 returns-7 : tie.Need-returns-7
 returns-7 c =
     let r = c .before .before in
     let p = r .before .before in
     let o = p .before .before .before in
-    rw (full (o .before .before .before .before .before .before), sound-sides (at4 r), load-side (o .before .before), store-side o, memory p, loads r, sym (c .before .entries-right2 .ensures) ∙ not-true _ (c .if7 .taken))
+    rw (
+      full (o .before .before .before .before .before .before),
+      sound-sides (at4 r),
+      load-side (o .before .before),
+      store-side o,
+      memory p,
+      loads r,
+      sym (c .before .entries-right2 .ensures) ∙ not-true _ (c .if7 .taken),
+    )
 
 returns-8 : tie.Need-returns-8
 returns-8 c =
@@ -112,7 +142,16 @@ returns-8 c =
     let r = z .before .before in
     let p = r .before .before in
     let o = p .before .before .before in
-    rw (full (o .before .before .before .before .before .before), sound-sides (at5 z), load-side (o .before .before), store-side o, memory p, loads r, stores z, c .fault-in .ensures)
+    rw (
+      full (o .before .before .before .before .before .before),
+      sound-sides (at5 z),
+      load-side (o .before .before),
+      store-side o,
+      memory p,
+      loads r,
+      stores z,
+      c .fault-in .ensures,
+    )
 
 pub sound-in-spec : {M : Type 1} → statement M
 sound-in-spec =

@@ -53,10 +53,13 @@ place : (c : tie.After-oldest-without) → let s = sure (known c .before) .befor
 place c =
     let s = sure (known c .before) .before in
     let port = start s .args .port in
-    c .oldest-without .ensures ∙ sym (side-place-same loadOf (untaken port) (lacks Finished port) (λ e. load-untaken e port) (queue s .frame .loads .count) (queue s .«load_entries»))
+    c .oldest-without .ensures
+    ∙ sym (side-place-same loadOf (untaken port) (lacks Finished port) (λ e. load-untaken e port) (queue s .frame .loads .count)
+    (queue s .«load_entries»))
 
 -- it is a place of the array
-inside : (c : tie.Else3) → let s = sure (known (c .before .before) .before) .before in c .before .before .oldest-without .result < length (queue s .«load_entries»)
+inside : (c : tie.Else3)
+    → let s = sure (known (c .before .before) .before) .before in c .before .before .oldest-without .result < length (queue s .«load_entries»)
 inside c =
     let e = sure (known (c .before .before) .before) in
     le-trans (c .if3 .left) (good e .loads-room)
@@ -75,7 +78,11 @@ returns : tie.Need-returns
 returns c =
     let s = c .before .before in
     let q = queue s in
-    rw (unfit q (takeRule (contentsOf q) (start s .args .port)) (c .before .before .sound-in .ensures) (c .before .if1 .taken) (take-unsound q (start s .args .port)), c .refused .ensures)
+    rw (
+      unfit q (takeRule (contentsOf q) (start s .args .port)) (c .before .before .sound-in .ensures) (c .before .if1 .taken)
+          (take-unsound q (start s .args .port)),
+      c .refused .ensures,
+    )
 
 has-port-requires : tie.Need-has-port-requires
 has-port-requires c κs = groups-few (queue (c .before) .frame .table) (table-right (queue (c .before)) (good c .right))
@@ -85,7 +92,11 @@ returns-2 c =
     let p = c .before .before in
     let e = sure p in
     let s = e .before in
-    rw (good e .full, take-no-port (queue s) (start s .args .port) (good e .right) (sym (p .has-port .ensures) ∙ not-true _ (c .before .if2 .taken)), c .refused2 .ensures)
+    rw (
+      good e .full,
+      take-no-port (queue s) (start s .args .port) (good e .right) (sym (p .has-port .ensures) ∙ not-true _ (c .before .if2 .taken)),
+      c .refused2 .ensures,
+    )
 
 oldest-without-requires : tie.Need-oldest-without-requires
 oldest-without-requires c κs =
@@ -98,7 +109,12 @@ returns-3 c =
     let p = known o in
     let e = sure (p .before) in
     let s = e .before in
-    rw (good e .full, take-none (queue s) (start s .args .port) (good e .right) (port p) (o .oldest-without .result) (place o) (c .before .if3 .taken), c .refused3 .ensures)
+    rw (
+      good e .full,
+      take-none (queue s) (start s .args .port) (good e .right) (port p) (o .oldest-without .result) (place o)
+          (c .before .if3 .taken),
+      c .refused3 .ensures,
+    )
 
 slice-read-unpack : tie.Need-slice-read-unpack
 slice-read-unpack c = inside (c .before)
@@ -111,7 +127,12 @@ returns-4 c =
     let p = known o in
     let e = sure (p .before) in
     let s = e .before in
-    rw (good e .full, take-unserved (queue s) (start s .args .port) (good e .right) (port p) (o .oldest-without .result) (place o) (i .if3 .left) (u .unpack .result) (sym (u .unpack .ensures)) (not-true (u .unpack .result .filled) (c .before .if4 .taken)), c .refused4 .ensures)
+    rw (
+      good e .full,
+      take-unserved (queue s) (start s .args .port) (good e .right) (port p) (o .oldest-without .result) (place o) (i .if3 .left)
+          (u .unpack .result) (sym (u .unpack .ensures)) (not-true (u .unpack .result .filled) (c .before .if4 .taken)),
+      c .refused4 .ensures,
+    )
 
 slice-write-load-entries : tie.Need-slice-write-load-entries
 slice-write-load-entries c = inside (c .before .before .before .before .before)
@@ -126,10 +147,11 @@ retire-requires c κs =
 
 same-length-9 : tie.Need-same-length-9
 same-length-9 c =
-    let t = c .before .before .before .before .before .before .before in
+    let at-load-entries = c .before .before .before .before .before .before in
+    let t = at-load-entries .before in
     let w = t .before .before .before in
     let o = w .before .before .before .before .before .before .before in
-    c .before .before .before .before .before .before .load-entries .given ∙ length-set (queue (sure (known o .before) .before) .«load_entries») (o .oldest-without .result) (w .pack .result)
+    at-load-entries .load-entries .given ∙ length-set (queue (sure (known o .before) .before) .«load_entries») (o .oldest-without .result) (w .pack .result)
 
 returns-5 : tie.Need-returns-5
 returns-5 c =
@@ -142,11 +164,17 @@ returns-5 c =
     let e = sure (p .before) in
     let s = e .before in
     let q = queue s in
-    rw (good e .full, take-served q (start s .args .port) (good e .right) (port p) (o .oldest-without .result) (place o) (i .if3 .left) (u .unpack .result) (sym (u .unpack .ensures)) (not-false (u .unpack .result .filled) (w .before .if4 .left)), c .accepted .ensures)
+    rw (
+      good e .full,
+      take-served q (start s .args .port) (good e .right) (port p) (o .oldest-without .result) (place o) (i .if3 .left)
+          (u .unpack .result) (sym (u .unpack .ensures)) (not-false (u .unpack .result .filled) (w .before .if4 .left)),
+      c .accepted .ensures,
+    )
     (record {
       answer = refl;
       gives = refl;
-      holds = t .retire .ensures (q .frame .table) ∙ ap retire (load-anew q loadTaken (o .oldest-without .result) (w .pack .result) (good e .loads-room) (i .if3 .left) (taken w));
+      holds = t .retire .ensures (q .frame .table)
+          ∙ ap retire (load-anew q loadTaken (o .oldest-without .result) (w .pack .result) (good e .loads-room) (i .if3 .left) (taken w));
     })
 
 pub take-in-spec : {M : Type 1} → statement M

@@ -59,7 +59,8 @@ loads-room s = omega (arith, loads-few (queue s) (s .pre .0 .right), s .pre .0 .
 -- what the rule says, once the place is one of the queue
 held : (e : tie.Else1) (t : Table) → let s = start e in
     writeAt (contentsOf (queueWith t s)) (s .args .memory .now) (s .args .place)
-    ≡ andThen (mayWriteAt (s .args .load-entries .now) (s .args .store-entries .now) (s .args .place)) λ p. accept (writtenWith (contentsOf (queueWith t s)) (s .args .memory .now) (s .args .place) p)
+    ≡ andThen (mayWriteAt (s .args .load-entries .now) (s .args .store-entries .now) (s .args .place)) λ p. accept
+    (writtenWith (contentsOf (queueWith t s)) (s .args .memory .now) (s .args .place) p)
 held e t = let s = start e in write-held (queueWith t s) (s .args .memory .now) (s .args .place) (e .if1 .left) (before-few e)
 
 -- what is put where
@@ -67,7 +68,8 @@ puts : (c : tie.Else2) → let s = start (c .before .before .before .before) in
     Puts (loadsHeld (store s .before) (s .args .load-entries .now)) (storesHeld (s .args .place) (s .args .store-entries .now)) (store s)
 puts c =
     let s = start (c .before .before .before .before) in
-    may-puts (loadsHeld (store s .before) (s .args .load-entries .now)) (storesHeld (s .args .place) (s .args .store-entries .now)) (store s) (sym (c .before .write-fault .ensures) ∙ c .if2 .left)
+    may-puts (loadsHeld (store s .before) (s .args .load-entries .now)) (storesHeld (s .args .place) (s .args .store-entries .now)) (store s)
+    (sym (c .before .write-fault .ensures) ∙ c .if2 .left)
 
 -- the number put in the store's place
 put : (c : tie.After-pack) → let u = c .before .before in let s = start (u .before .before .before .before .before .before) in
@@ -75,7 +77,8 @@ put : (c : tie.After-pack) → let u = c .before .before in let s = start (u .be
 put c =
     let u = c .before .before in
     let s = start (u .before .before .before .before .before .before) in
-    ap storeIn (c .pack .ensures ∙ ap (λ (e : Entry). numberOf (done e)) (u .unpack .ensures)) ∙ ap storeOf (done-number (getD (s .args .store-entries .now) (s .args .place) 0))
+    ap storeIn (c .pack .ensures ∙ ap (λ (e : Entry). numberOf (done e)) (u .unpack .ensures))
+    ∙ ap storeOf (done-number (getD (s .args .store-entries .now) (s .args .place) 0))
 
 returns : tie.Need-returns
 returns c table =
@@ -94,7 +97,12 @@ returns-2 c table =
     let w = c .before .before in
     let e1 = w .before .before .before in
     let s = start e1 in
-    rw (held e1 table, refused-number (mayWriteAt (s .args .load-entries .now) (s .args .store-entries .now) (s .args .place)) (λ z. c .before .if2 .taken (w .write-fault .ensures ∙ z)), ← w .write-fault .ensures)
+    rw (
+      held e1 table,
+      refused-number (mayWriteAt (s .args .load-entries .now) (s .args .store-entries .now) (s .args .place))
+          (λ z. c .before .if2 .taken (w .write-fault .ensures ∙ z)),
+      ← w .write-fault .ensures,
+    )
     (record { outcome = ap (unchanged table s) (c .refused2 .ensures); memory-is = refl })
 
 slice-read-unpack : tie.Need-slice-read-unpack
@@ -132,7 +140,12 @@ returns-3 c table =
     let s = start e1 in
     rw (held e1 table, puts e2 .put, c .accepted .ensures)
     (record {
-      outcome = record { answer = refl {a = 0}; gives = refl {a = none}; holds = t .retire .ensures table ∙ ap retire (store-anew (queueWith table s) storeDone (s .args .place) (p .pack .result) (stores-room s) (e1 .if1 .left) (put p)) };
+      outcome = record {
+        answer = refl {a = 0};
+        gives = refl {a = none};
+        holds = t .retire .ensures table
+            ∙ ap retire (store-anew (queueWith table s) storeDone (s .args .place) (p .pack .result) (stores-room s) (e1 .if1 .left) (put p));
+      };
       memory-is = rw (u .unpack .ensures);
     })
 

@@ -25,10 +25,13 @@ abbrev loads : tie.After-unpack → List Load
 loads u = loadsHeld (store u .before) (u .before .before .before .before .args .load-entries .now)
 
 abbrev stores : tie.After-unpack → List Store
-stores u = storesHeld (u .before .before .before .before .args .at) (u .before .before .before .before .args .store-entries .now)
+stores u =
+    let start = u .before .before .before .before in
+    storesHeld (start .args .at) (start .args .store-entries .now)
 
 told : (u : tie.After-unpack) (n : ℕ) → n ≡ number (mayWrite (loads u) (stores u) (storeOf (store u)))
-    → n ≡ number (mayWriteAt (u .before .before .before .before .args .load-entries .now) (u .before .before .before .before .args .store-entries .now) (u .before .before .before .before .args .at))
+    → n ≡ number (mayWriteAt (u .before .before .before .before .args .load-entries .now)
+    (u .before .before .before .before .args .store-entries .now) (u .before .before .before .before .args .at))
 told u n e = rw (← u .unpack .ensures) e
 
 -- does no load, no store, before it conflict?
@@ -36,13 +39,18 @@ loads-way : (c : tie.After-none-conflict) → let u = c .before .before .before 
     c .none-conflict .result ≡ allOf (noLoadConflict (store u .address)) (loads u)
 loads-way c =
     let u = c .before .before .before .before .before .before .before in
-    c .none-conflict .ensures ∙ sym (side-all-same loadOf (noLoadConflict (store u .address)) (noConflict Filled (store u .address)) (λ e. load-no-conflict e (store u .address)) (store u .before) (u .before .before .before .before .args .load-entries .now))
+    c .none-conflict .ensures
+    ∙ sym (side-all-same loadOf (noLoadConflict (store u .address)) (noConflict Filled (store u .address))
+    (λ e. load-no-conflict e (store u .address)) (store u .before) (u .before .before .before .before .args .load-entries .now))
 
 stores-way : (c : tie.After-none-conflict2) → let u = c .before .before .before .before .before .before .before .before .before in
     c .none-conflict2 .result ≡ allOf (noStoreConflict (store u .address)) (stores u)
 stores-way c =
     let u = c .before .before .before .before .before .before .before .before .before in
-    c .none-conflict2 .ensures ∙ sym (side-all-same storeOf (noStoreConflict (store u .address)) (noConflict Finished (store u .address)) (λ e. store-no-conflict e (store u .address)) (u .before .before .before .before .args .at) (u .before .before .before .before .args .store-entries .now))
+    c .none-conflict2 .ensures
+    ∙ sym (side-all-same storeOf (noStoreConflict (store u .address)) (noConflict Finished (store u .address))
+    (λ e. store-no-conflict e (store u .address)) (u .before .before .before .before .args .at)
+    (u .before .before .before .before .args .store-entries .now))
 
 returns : tie.Need-returns
 returns c =
@@ -60,7 +68,8 @@ returns-3 c =
     let e2 = c .before .before in
     let e1 = e2 .before .before in
     let u = e1 .before in
-    told u _ (may-no-data (loads u) (stores u) (store u) (e1 .if1 .left) (not-false (store u .addressed) (e2 .if2 .left)) (not-true (store u .filled) (c .if3 .taken)))
+    told u _ (may-no-data (loads u) (stores u) (store u) (e1 .if1 .left) (not-false (store u .addressed) (e2 .if2 .left))
+    (not-true (store u .filled) (c .if3 .taken)))
 
 none-conflict-requires : tie.Need-none-conflict-requires
 none-conflict-requires c κs =
@@ -73,7 +82,8 @@ returns-4 c =
     let e2 = e3 .before .before in
     let e1 = e2 .before .before in
     let u = e1 .before in
-    told u _ (may-load (loads u) (stores u) (store u) (e1 .if1 .left) (not-false (store u .addressed) (e2 .if2 .left)) (not-false (store u .filled) (e3 .if3 .left)) (sym (loads-way (c .before)) ∙ not-true _ (c .if4 .taken)))
+    told u _ (may-load (loads u) (stores u) (store u) (e1 .if1 .left) (not-false (store u .addressed) (e2 .if2 .left))
+    (not-false (store u .filled) (e3 .if3 .left)) (sym (loads-way (c .before)) ∙ not-true _ (c .if4 .taken)))
 
 returns-5 : tie.Need-returns-5
 returns-5 c =
@@ -82,7 +92,9 @@ returns-5 c =
     let e2 = e3 .before .before in
     let e1 = e2 .before .before in
     let u = e1 .before in
-    told u _ (may-store (loads u) (stores u) (store u) (e1 .if1 .left) (not-false (store u .addressed) (e2 .if2 .left)) (not-false (store u .filled) (e3 .if3 .left)) (sym (loads-way (e4 .before)) ∙ not-false _ (e4 .if4 .left)) (sym (stores-way (c .before)) ∙ not-true _ (c .if5 .taken)))
+    told u _ (may-store (loads u) (stores u) (store u) (e1 .if1 .left) (not-false (store u .addressed) (e2 .if2 .left))
+    (not-false (store u .filled) (e3 .if3 .left)) (sym (loads-way (e4 .before)) ∙ not-false _ (e4 .if4 .left)) (sym (stores-way (c .before))
+    ∙ not-true _ (c .if5 .taken)))
 
 returns-6 : tie.Need-returns-6
 returns-6 c =
@@ -91,7 +103,10 @@ returns-6 c =
     let e2 = e3 .before .before in
     let e1 = e2 .before .before in
     let u = e1 .before in
-    told u _ (sym (ap number (may-put (loads u) (stores u) (store u) (e1 .if1 .left) (not-false (store u .addressed) (e2 .if2 .left)) (not-false (store u .filled) (e3 .if3 .left)) (sym (loads-way (e4 .before)) ∙ not-false _ (e4 .if4 .left)) (sym (stores-way (c .before)) ∙ not-false _ (c .if5 .left)))))
+    told u _ (sym (ap number
+    (may-put (loads u) (stores u) (store u) (e1 .if1 .left) (not-false (store u .addressed) (e2 .if2 .left))
+    (not-false (store u .filled) (e3 .if3 .left)) (sym (loads-way (e4 .before)) ∙ not-false _ (e4 .if4 .left)) (sym (stores-way (c .before))
+    ∙ not-false _ (c .if5 .left)))))
 
 pub write-fault-spec : {M : Type 1} → statement M
 write-fault-spec =

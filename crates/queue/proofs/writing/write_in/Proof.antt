@@ -37,7 +37,8 @@ returns : tie.Need-returns
 returns c =
     let s = start (c .before .before) in
     let q = queueIn s in
-    rw (unfit q (write (contentsOf q) (s .args .memory .now) (s .args .serial)) (c .before .before .sound-in .ensures) (c .before .if1 .taken) (write-unsound q (s .args .memory .now) (s .args .serial)))
+    rw (unfit q (write (contentsOf q) (s .args .memory .now) (s .args .serial)) (c .before .before .sound-in .ensures) (c .before .if1 .taken)
+    (write-unsound q (s .args .memory .now) (s .args .serial)))
     (record { outcome = ap (unchanged s) (c .refused .ensures); memory-is = refl })
 
 returns-2 : tie.Need-returns-2
@@ -50,8 +51,16 @@ returns-2 c =
 write-at-requires : tie.Need-write-at-requires
 write-at-requires c κs =
     let e2 = c .before .before .before .before .before in
-    let e1 = e2 .before .before in
-    (record { table = frame (start (e1 .before)) .table; right = good e1 .right; loads-whole = good e1 .loads-whole; stores-whole = good e1 .stores-whole }, e2 .if2 .left)
+    let e1 = e2 .before .before in (
+      record {
+        table = frame (start (e1 .before)) .table;
+        right = good e1 .right;
+        loads-whole = good e1 .loads-whole;
+        stores-whole =
+            good e1 .stores-whole;
+      },
+      e2 .if2 .left,
+    )
 
 returns-3 : tie.Need-returns-3
 returns-3 c =
@@ -60,7 +69,8 @@ returns-3 c =
     let e2 = p .before .before in
     let e1 = e2 .before .before in
     let s = start (e1 .before) in
-    rw (good e1 .full, write-place (queueIn s) (s .args .memory .now) (s .args .serial) (good e1 .right) (e2 .if2 .left), ← p .place-of .ensures) (w .write-at .ensures (frame s .table))
+    rw (good e1 .full, write-place (queueIn s) (s .args .memory .now) (s .args .serial) (good e1 .right) (e2 .if2 .left), ← p .place-of .ensures)
+    (w .write-at .ensures (frame s .table))
 
 pub write-in-spec : {M : Type 1} → statement M
 write-in-spec =

@@ -25,12 +25,16 @@ use Rattle.replay.proofs.replaying.play_all.Statement.{statement}
 use Rattle.replay.proofs.replaying.play_all.Tie as tie
 
 abbrev Inv-loop : tie.InvT-loop
-Inv-loop counts₀ trace from memory₀ answers₀ given₀ words₀ frame outline₀ loads₀ stores₀ place₀ i₀ counts memory answers given words outline loads stores place i =
-    Walk trace from (playing (contentsOf (queueOf frame loads₀ stores₀)) memory₀ counts₀) (buffers answers₀ given₀ words₀) place i (playing (contentsOf (queueOf (frameOf outline (frame .table .groups) (frame .table .loads) (frame .table .stores)) loads stores)) memory counts) (buffers answers given words)
+Inv-loop counts₀ trace from memory₀ answers₀ given₀ words₀ frame outline₀ loads₀ stores₀ place₀ i₀ counts memory answers given words outline loads
+    stores place i =
+    Walk trace from (playing (contentsOf (queueOf frame loads₀ stores₀)) memory₀ counts₀) (buffers answers₀ given₀ words₀) place i
+    (playing (contentsOf (queueOf (frameOf outline (frame .table .groups) (frame .table .loads) (frame .table .stores)) loads stores)) memory
+    counts) (buffers answers given words)
     × (length memory ≡ length memory₀) × (length loads ≡ 64) × (length stores ≡ 64)
 
 abbrev μ-loop : tie.MeasureT-loop
-μ-loop counts₀ trace from memory₀ answers₀ given₀ words₀ frame outline₀ loads₀ stores₀ place₀ i₀ counts memory answers given words outline loads stores place i = length trace - place
+μ-loop counts₀ trace from memory₀ answers₀ given₀ words₀ frame outline₀ loads₀ stores₀ place₀ i₀ counts memory answers given words outline loads
+    stores place i = length trace - place
 
 -- a queue's own arrays are whole runs
 own : (s : tie.Start Inv-loop μ-loop) → (length (s .args .queue .«load_entries») ≡ 64) × (length (s .args .queue .«store_entries») ≡ 64)
@@ -42,7 +46,9 @@ loop-holds c =
     (rw (c .before .before .outline-of .ensures) (walk-none (s .pre)), refl, own s .0, own s .1)
 
 -- the event that was read
-event : (c : tie.After-known-told Inv-loop μ-loop) → EventGot (c .before .before .before .before .before .before .before .before .before .before .before .before .before .before .args .trace .now) (c .before .before .before .before .loop .place) (c .before .read .given .0 .0) (c .before .read .given .0 .1 .0)
+event : (c : tie.After-known-told Inv-loop μ-loop) →
+    let start = c .before .before .before .before .before .before .before .before .before .before .before .before .before .before in
+    EventGot (start .args .trace .now) (c .before .before .before .before .loop .place) (c .before .read .given .0 .0) (c .before .read .given .0 .1 .0)
 event c = event-got _ _ (sym (c .before .before .before .read-event .ensures) ∙ ap eventReply (c .before .read .given .1))
 
 room : (c : tie.After-known-told Inv-loop μ-loop) → Room (c .before .before .before .before .loop .inv .0)
@@ -55,18 +61,34 @@ stores-whole : tie.Need-slice-aggregate-play-event-2 Inv-loop μ-loop
 stores-whole c = sym (c .before .before .before .before .before .before .before .before .before .before .loop .inv .3)
 
 play-event-requires : tie.Need-play-event-requires Inv-loop μ-loop
-play-event-requires c κs = let l = c .before .before .before .before .before .before .before .before .before .before .before in both-whole (l .loop .loads) (l .loop .stores) (l .loop .inv .2) (l .loop .inv .3)
+play-event-requires c κs = let l = c .before .before .before .before .before .before .before .before .before .before .before in
+    both-whole (l .loop .loads) (l .loop .stores) (l .loop .inv .2) (l .loop .inv .3)
 
 put-requires : tie.Need-put-requires Inv-loop μ-loop
-put-requires c κs = let r = room (c .before .before .before .before .before .before .before .before .before .before .before .before .before .before .before) in (r .answers, r .given, r .words)
+put-requires c κs =
+    let r =
+    room (c .before .before .before .before .before .before .before .before .before .before .before .before .before .before .before) in
+    (r .answers, r .given, r .values)
 
 add-i : tie.Need-add-i Inv-loop μ-loop
 add-i c =
-    let t = c .before .before .before .before .before .before .before .before .before .before .before .before .before .before .before .before .before .before .before .before .before .before .before .before .before in
-    omega (arith, room t .answers, walk-lengths (t .before .before .before .before .loop .inv .0) .0, t .before .before .before .before .before .before .before .before .before .before .before .before .before .before .good)
+    let n = c .before .before .before .before .before .before .before .before .before in
+    let k = n .before .before .before .before .before .before .before .before in
+    let t = k .before .before .before .before .before .before .before .before in
+    omega (
+      arith,
+      room t .answers,
+      walk-lengths (t .before .before .before .before .loop .inv .0) .0,
+      t .before .before .before .before .before .before .before .before .before .before .before .before .before .before .good,
+    )
 
 loop-less : tie.Need-loop-less Inv-loop μ-loop
-loop-less c = let g = event (c .before .before .before .before .before .before .before .before .before .before .before .before .before .before .before .before .before .before .before .before .before .before .before .before .before) in omega (arith, g .later, g .inside)
+loop-less c =
+    let n = c .before .before .before .before .before .before .before .before .before in
+    let k = n .before .before .before .before .before .before .before .before in
+    let t = k .before .before .before .before .before .before .before .before in
+    let g = event t in
+    omega (arith, g .later, g .inside)
 
 loop-again : tie.Need-loop-again Inv-loop μ-loop
 loop-again c =
@@ -74,14 +96,24 @@ loop-again c =
     let k = n .before .before .before .before .before .before .before .before in
     let t = k .before .before .before .before .before .before .before .before in
     let l = t .before .before .before .before in
-    let kept = k .play-event .kept .1 .1 .1 .1 in
-    (walk-more _ (l .loop .inv .0) (event t) (k .play-event .ensures) (n .put .ensures), kept .1 .1 .0 ∙ l .loop .inv .1, kept .0 ∙ l .loop .inv .2, kept .1 .0 ∙ l .loop .inv .3)
+    let kept = k .play-event .kept .1 .1 .1 .1 in (
+      walk-more _ (l .loop .inv .0) (event t) (k .play-event .ensures) (n .put .ensures),
+      kept .1 .1 .0 ∙ l .loop .inv .1,
+      kept .0
+          ∙ l .loop .inv .2,
+      kept .1 .0 ∙ l .loop .inv .3,
+    )
 
 -- no event was read, and none is bad: the bytes end there
-ended : (c : tie.At-match-keys2 Inv-loop μ-loop) → let l = c .before .before in eventsFrom (l .before .before .before .before .before .before .before .before .before .before .args .trace .now) (l .loop .place) ≡ got [] []
+ended : (c : tie.At-match-keys2 Inv-loop μ-loop)
+    → let l = c .before .before in
+    let start = l .before .before .before .before .before .before .before .before .before .before in
+    eventsFrom (start .args .trace .now) (l .loop .place) ≡ got [] []
 ended c = go (c .before .read-event .result) refl (c .match .keys2)
   where
-    go : (r : EventRead) → c .before .read-event .result ≡ r → OneOf (1 ∷ 2 ∷ []) (tagOf the-type r) → let l = c .before .before in eventsFrom (l .before .before .before .before .before .before .before .before .before .before .args .trace .now) (l .loop .place) ≡ got [] []
+    go : (r : EventRead) → c .before .read-event .result ≡ r → OneOf (1 ∷ 2 ∷ []) (tagOf the-type r)
+        → let l = c .before .before in
+        eventsFrom (l .before .before .before .before .before .before .before .before .before .before .args .trace .now) (l .loop .place) ≡ got [] []
     go (Found e n) is (inl z) = let y : _≡_ {A = ℕ} 0 1 = z in absurd (omega arith)
     go (Found e n) is (inr z) = let y : _≡_ {A = ℕ} 0 2 = z in absurd (omega arith)
     go End is k = event-end _ _ (sym (c .before .read-event .ensures) ∙ ap eventReply is)

@@ -14,7 +14,7 @@ use Rattle.replay.proofs.replaying.replay_from.Statement.{statement}
 use Rattle.replay.proofs.replaying.replay_from.Tie as tie
 
 abbrev lentAt : tie.After-count-events → Buffers
-lentAt n = let a = n .before .before .before .before .before .before .args in buffers (a .answers .now) (a .given .now) (a .words .now)
+lentAt n = let a = n .before .before .before .before .before .before .args in buffers (a .answers .now) (a .given .now) (a .values .now)
 
 -- the events that were counted
 read : (k : tie.After-known-told)

@@ -65,8 +65,16 @@ check-pairs-requires-2 : tie.Need-check-pairs-requires-2
 check-pairs-requires-2 c κs =
     let p = c .before .before in
     let f = few (p .before .before) in
-    let i = pre (p .before .before .before) in
-    (record { inside = i .0; few = f .0; few-stores = f .1; rising = λ e. rising-checked _ _ _ _ _ (sym (p .check-pairs .ensures .answer) ∙ c .before .if2 .left) }, i .1)
+    let i = pre (p .before .before .before) in (
+      record {
+        inside = i .0;
+        few = f .0;
+        few-stores = f .1;
+        rising =
+            λ e. rising-checked _ _ _ _ _ (sym (p .check-pairs .ensures .answer) ∙ c .before .if2 .left);
+      },
+      i .1,
+    )
 
 returns-3 : tie.Need-returns-3
 returns-3 c =
@@ -75,7 +83,8 @@ returns-3 c =
     let k = e .before in
     let d = c .before .before .if2 .left in
     record {
-      answer = group-stores (loadsIn k) (storesIn k) (groupIn k) (seenBefore k) (right e) (sym (p .check-pairs .ensures .answer) ∙ d) (c .check-pairs2 .ensures .answer);
+      answer = group-stores (loadsIn k) (storesIn k) (groupIn k) (seenBefore k) (right e) (sym (p .check-pairs .ensures .answer) ∙ d)
+          (c .check-pairs2 .ensures .answer);
       marks = λ z. rw (p .check-pairs .ensures .marks d, c .check-pairs2 .ensures .marks z);
     }
 

@@ -35,7 +35,8 @@ inside : (l : tie.In-loop Inv-loop μ-loop) → l .before .loop .i < length (lis
 inside l = omega (arith, size (l .before), l .loop-test .taken)
 
 -- the pair that a turn looks at is the list's
-this : (u : tie.After-unpack-pair Inv-loop μ-loop) → getD (listed (u .before .before .before)) (u .before .before .before .loop .i) blankPair ≡ u .unpack-pair .result
+this : (u : tie.After-unpack-pair Inv-loop μ-loop)
+    → getD (listed (u .before .before .before)) (u .before .before .before .loop .i) blankPair ≡ u .unpack-pair .result
 this u =
     let l = u .before .before in
     let s = start (l .before) in

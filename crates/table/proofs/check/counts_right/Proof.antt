@@ -22,7 +22,8 @@ returns-2 : tie.Need-returns-2
 returns-2 c = rw (le-leb _ _ (c .before .if1 .left), lt-leb _ _ (c .if2 .taken))
 
 returns-3 : tie.Need-returns-3
-returns-3 c = rw (le-leb _ _ (c .before .if1 .left), le-leb _ _ (c .if2 .left)) (some-is-not-none (c .before .before .args .loads + c .before .before .args .stores))
+returns-3 c = rw (le-leb _ _ (c .before .if1 .left), le-leb _ _ (c .if2 .left))
+    (some-is-not-none (c .before .before .args .loads + c .before .before .args .stores))
 
 pub counts-right-spec : {M : Type 1} → statement M
 counts-right-spec = tie.close (tie.spec returns returns-2 (λ c. search needs) returns-3)

@@ -11,7 +11,8 @@ use Rattle.number.specs.Basics.{within}
 use Rattle.table.specs.Group.{GroupPairs, pairsOf}
 use Rattle.table.specs.Table.{groupsIn, groupsOf, noneSeen}
 use Rattle.table.specs.Internal.{seenIn}
-use Rattle.table.proofs.CheckLaws.{Passing, passing-none, passing-stop, passing-more, passing-end, groups-size, group-inside, group-at, table-count, table-groups}
+use Rattle.table.proofs.CheckLaws.{Passing, passing-none, passing-stop, passing-more, passing-end, groups-size}
+use Rattle.table.proofs.CheckLaws.{group-inside, group-at, table-count, table-groups}
 use Rattle.table.proofs.check.fault_in.Statement.{statement}
 use Rattle.table.proofs.check.fault_in.Tie as tie
 
@@ -62,7 +63,8 @@ returns-3 c =
     let l = g .before in
     let e = l .before .before in
     let t = tableAt e in
-    table-groups t (few e) _ (passing-stop (l .before .loop .inv .1) (groupOf g) (groupOf g) (omega (arith, groups-size t, l .loop-test .taken)) (this g) (c .before .check-group .ensures .answer) (c .if3 .taken))
+    table-groups t (few e) _ (passing-stop (l .before .loop .inv .1) (groupOf g) (groupOf g) (omega (arith, groups-size t, l .loop-test .taken))
+    (this g) (c .before .check-group .ensures .answer) (c .if3 .taken))
 
 add-i : tie.Need-add-i Inv-loop μ-loop
 add-i c = omega (arith, c .before .before .before .before .before .loop-test .taken)
@@ -75,8 +77,12 @@ loop-again c =
     let k = c .before in
     let g = k .before .before .before in
     let l = g .before in
-    let t = tableAt (l .before .before) in
-    (omega (arith, l .loop-test .taken), passing-more (l .before .loop .inv .1) (groupOf g) (groupOf g) (omega (arith, groups-size t, l .loop-test .taken)) (this g) (sym (k .check-group .ensures .answer) ∙ c .if3 .left) (k .check-group .ensures .marks (c .if3 .left)))
+    let t = tableAt (l .before .before) in (
+      omega (arith, l .loop-test .taken),
+      passing-more (l .before .loop .inv .1) (groupOf g) (groupOf g)
+          (omega (arith, groups-size t, l .loop-test .taken)) (this g) (sym (k .check-group .ensures .answer) ∙ c .if3 .left)
+          (k .check-group .ensures .marks (c .if3 .left)),
+    )
 
 returns-4 : tie.Need-returns-4 Inv-loop μ-loop
 returns-4 c =

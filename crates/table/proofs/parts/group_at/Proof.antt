@@ -8,7 +8,12 @@ use Rattle.table.proofs.parts.group_at.Tie as tie
 
 returns : tie.Need-returns
 unfolding groupAt
-returns c = rw (c .before .span-meant .ensures, c .span-meant2 .ensures, c .before .before .unpack-group .ensures, c .before .before .before .number-at .ensures)
+returns c = rw (
+  c .before .span-meant .ensures,
+  c .span-meant2 .ensures,
+  c .before .before .unpack-group .ensures,
+  c .before .before .before .number-at .ensures,
+)
 
 pub group-at-spec : {M : Type 1} → statement M
 group-at-spec =

@@ -7,13 +7,15 @@ use borrow.Author.Needs.{needs}
 use Rattle.table.specs.Table.{groupFault}
 use Rattle.table.specs.TableBytes.{readGroup}
 use Rattle.table.specs.Internal.{seenOf, Growing, groups-none, groups-found}
-use Rattle.table.proofs.ReadLaws.{group-bad, GroupGot, group-got, PairsGathering, gathering-none, gathering-refused, gathering-room, gathering-more, gathering-end}
+use Rattle.table.proofs.ReadLaws.{group-bad, GroupGot, group-got, PairsGathering, gathering-none}
+use Rattle.table.proofs.ReadLaws.{gathering-refused, gathering-room, gathering-more, gathering-end}
 use Rattle.table.proofs.RoundTrip.{put-group}
 use Rattle.table.proofs.read.read_groups.Statement.{statement}
 use Rattle.table.proofs.read.read_groups.Tie as tie
 
 abbrev Inv-loop : tie.InvT-loop
-Inv-loop bytes at count table₀ loads₀ stores₀ seen₀ place₀ i₀ table loads stores seen place i = (i ≤ count) × PairsGathering count bytes at i (seenOf seen) place table loads stores
+Inv-loop bytes at count table₀ loads₀ stores₀ seen₀ place₀ i₀ table loads stores seen place i = (i ≤ count)
+    × PairsGathering count bytes at i (seenOf seen) place table loads stores
 
 abbrev μ-loop : tie.MeasureT-loop
 μ-loop bytes at count table₀ loads₀ stores₀ seen₀ place₀ i₀ table loads stores seen place i = count - i
@@ -25,16 +27,20 @@ returns : tie.Need-returns Inv-loop μ-loop
 returns c =
     let k = c .before .before in
     let l = k .before in
-    rw (gathering-refused (l .before .loop .inv .1) (l .loop-test .taken) (group-bad (k .read-group .ensures) (c .if1 .taken))) (groups-none (record { is = refl; some = c .if1 .taken }))
+    rw (gathering-refused (l .before .loop .inv .1) (l .loop-test .taken) (group-bad (k .read-group .ensures) (c .if1 .taken)))
+    (groups-none (record { is = refl; some = c .if1 .taken }))
 
 -- the group that was read, for which there is room
-group : (c : tie.Else1 Inv-loop μ-loop) → let l = c .before .before .before .before in let s = l .before .before .before .args .bytes .now in GroupGot s (seenOf (l .loop .seen)) (readGroup (seenOf (l .loop .seen)) (drop (l .loop .place) s)) (c .before .before .read-group .result)
+group : (c : tie.Else1 Inv-loop μ-loop) → let l = c .before .before .before .before in let s = l .before .before .before .args .bytes .now in
+    GroupGot s (seenOf (l .loop .seen)) (readGroup (seenOf (l .loop .seen)) (drop (l .loop .place) s)) (c .before .before .read-group .result)
 group c = group-got (c .before .before .read-group .ensures) (c .if1 .left)
 
 right : (c : tie.Else1 Inv-loop μ-loop) → groupFault (seenOf (c .before .before .before .before .loop .seen)) (group c .group) ≡ 0
 right c = put-group _ _ _ _ (group c .is) .right
 
-room : (c : tie.Else1 Inv-loop μ-loop) → let l = c .before .before .before .before in Growing (l .loop .table) (l .loop .loads) (l .loop .stores) (c .before .before .read-group .result .group)
+room : (c : tie.Else1 Inv-loop μ-loop)
+    → let l = c .before .before .before .before in
+    Growing (l .loop .table) (l .loop .loads) (l .loop .stores) (c .before .before .read-group .result .group)
 room c =
     let l = c .before .before .before in
     gathering-room (l .before .loop .inv .1) (l .loop-test .taken) (l .before .before .before .before .pre .0) (group c) (right c)
@@ -52,8 +58,11 @@ loop-again : tie.Need-loop-again Inv-loop μ-loop
 loop-again c =
     let t = c .before .before .before .before .before in
     let e = t .before .before in
-    let l = e .before .before .before in
-    (omega arith, gathering-more (l .before .loop .inv .1) (l .loop-test .taken) (l .before .before .before .before .pre .0) (group e) (right e) (t .with-group .ensures))
+    let l = e .before .before .before in (
+      omega arith,
+      gathering-more (l .before .loop .inv .1) (l .loop-test .taken) (l .before .before .before .before .pre .0) (group e) (right e)
+          (t .with-group .ensures),
+    )
 
 returns-2 : tie.Need-returns-2 Inv-loop μ-loop
 returns-2 c =

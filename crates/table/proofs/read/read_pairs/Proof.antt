@@ -12,7 +12,9 @@ use Rattle.table.specs.Table.{pairFault}
 use Rattle.table.specs.TableBytes.{pair}
 use Rattle.table.specs.Internal.{ruleOf, front, twoReply, twoRefusal}
 use Rattle.table.proofs.CheckLaws.{fault-none, rule-small}
-use Rattle.table.proofs.ReadLaws.{TwoGot, two-answer, two-bad, two-refused, PairsReading, reading-none, reading-refused, reading-fault, reading-more, reading-end, packed, held-pairs, pairs-refused, pairs-found}
+use Rattle.table.proofs.ReadLaws.{TwoGot, two-answer, two-bad, two-refused, PairsReading, reading-none}
+use Rattle.table.proofs.ReadLaws.{reading-refused, reading-fault, reading-more, reading-end, packed, held-pairs}
+use Rattle.table.proofs.ReadLaws.{pairs-refused, pairs-found}
 use Rattle.table.proofs.read.read_pairs.Statement.{statement}
 use Rattle.table.proofs.read.read_pairs.Tie as tie
 
@@ -33,13 +35,17 @@ returns : tie.Need-returns Inv-loop μ-loop
 returns c =
     let t = c .before .before in
     let l = t .before .before .before in
-    let e = two-bad (start (l .before) .args .bytes .now) (l .before .loop .place) (sym (ap twoReply (t .enum-told .given .1)) ∙ t .before .before .read-two .ensures) in
-    pairs-refused (reading-refused (l .before .loop .inv .1) (l .loop-test .taken) e) (c .no-pairs-read .ensures ∙ c .before .two-refusal .ensures ∙ ap twoRefusal (t .enum-told .given .1)) (two-refused _ e)
+    let e = two-bad (start (l .before) .args .bytes .now) (l .before .loop .place) (sym (ap twoReply (t .enum-told .given .1))
+    ∙ t .before .before .read-two .ensures) in
+    pairs-refused (reading-refused (l .before .loop .inv .1) (l .loop-test .taken) e) (c .no-pairs-read .ensures ∙ c .before .two-refusal .ensures
+    ∙ ap twoRefusal (t .enum-told .given .1)) (two-refused _ e)
 
 offset-right-requires : tie.Need-offset-right-requires Inv-loop μ-loop
 offset-right-requires c κs = start (c .before .before .before .before .before .before) .pre .2
 
-two : (c : tie.After-read Inv-loop μ-loop) → TwoGot (start (c .before .before .before .before) .args .bytes .now) (c .before .before .before .before .loop .place) (c .read .given .0 .0) (c .read .given .0 .1 .0) (c .read .given .0 .1 .1 .0)
+two : (c : tie.After-read Inv-loop μ-loop)
+    → TwoGot (start (c .before .before .before .before) .args .bytes .now) (c .before .before .before .before .loop .place) (c .read .given .0 .0)
+    (c .read .given .0 .1 .0) (c .read .given .0 .1 .1 .0)
 two c = two-answer _ _ (sym (ap twoReply (c .read .given .1)) ∙ c .before .before .read-two .ensures)
 
 -- the pair's offset by the rule, and its fault
@@ -63,7 +69,8 @@ returns-2 c =
     let f = c .before .before in
     let g = turn f in
     let l = g .before .before .before in
-    pairs-refused (reading-fault (l .before .loop .inv .1) (l .loop-test .taken) (two g) (fault f) (c .before .if1 .taken)) (c .no-pairs-read2 .ensures) (c .before .if1 .taken)
+    pairs-refused (reading-fault (l .before .loop .inv .1) (l .loop-test .taken) (two g) (fault f) (c .before .if1 .taken))
+    (c .no-pairs-read2 .ensures) (c .before .if1 .taken)
 
 no-fault : (c : tie.Else1 Inv-loop μ-loop) → faultOf (turn (c .before)) (rightOf (turn (c .before))) ≡ 0
 no-fault c = sym (fault (c .before)) ∙ c .if1 .left
@@ -73,8 +80,11 @@ small c =
     let g = turn (c .before) in
     let l = g .before .before .before .before in
     let s = start l in
-    let f = fault-none (rightOf g) (l .loop .marks) (g .read .given .0 .1 .0) (no-fault c) in
-    (rule-small (s .args .storing) (s .args .stores) (s .args .loads .places) (front (s .args .loads .count)) (l .loop .low) (l .loop .i) (g .read .given .0 .0) (s .pre .2) (f .0), f .1)
+    let f = fault-none (rightOf g) (l .loop .marks) (g .read .given .0 .1 .0) (no-fault c) in (
+      rule-small (s .args .storing) (s .args .stores) (s .args .loads .places) (front (s .args .loads .count)) (l .loop .low) (l .loop .i)
+          (g .read .given .0 .0) (s .pre .2) (f .0),
+      f .1,
+    )
 
 small-pair : (c : tie.Else1 Inv-loop μ-loop) → let g = turn (c .before) in SmallPair (pair (g .read .given .0 .0) (g .read .given .0 .1 .0))
 small-pair c = record { offset = omega (arith, small c .0); port = omega (arith, small c .1) }
@@ -115,8 +125,11 @@ loop-less c = omega (arith, turn (c .before .before) .before .before .before .lo
 loop-again : tie.Need-loop-again Inv-loop μ-loop
 loop-again c =
     let g = turn (c .before .before) in
-    let l = g .before .before .before in
-    (omega (arith, l .loop-test .taken), reading-more (l .before .loop .inv .1) (l .loop-test .taken) (two g) (start (l .before) .pre .0) (no-fault (c .before)) (small-pair (c .before)) _ (c .pack-pair .ensures))
+    let l = g .before .before .before in (
+      omega (arith, l .loop-test .taken),
+      reading-more (l .before .loop .inv .1) (l .loop-test .taken) (two g) (start (l .before) .pre .0)
+          (no-fault (c .before)) (small-pair (c .before)) _ (c .pack-pair .ensures),
+    )
 
 cast-pairs-2 : tie.Need-cast-pairs-2 Inv-loop μ-loop
 cast-pairs-2 c = omega (arith, c .before .loop .inv .0, start (c .before) .pre .0)

@@ -6,19 +6,33 @@ use borrow.Author.Needs.{needs}
 use Rattle.table.proofs.read.read_two.Statement.{statement}
 use Rattle.table.proofs.read.read_two.Tie as tie
 
-first-got : (c : tie.After-read) → NumberGot (c .before .before .before .before .args .bytes .now) (c .before .before .before .before .args .at) (c .read .given .0 .0) (c .read .given .0 .1 .0)
+first-got : (c : tie.After-read) →
+    let start = c .before .before .before .before in
+    NumberGot (start .args .bytes .now) (start .args .at) (c .read .given .0 .0) (c .read .given .0 .1 .0)
 first-got c = number-got _ _ (sym (ap numberReply (c .read .given .1)) ∙ c .before .before .read-number .ensures)
 
 returns : tie.Need-returns
 unfolding readTwo
-returns c = rw (c .number-refusal .ensures ∙ ap numberRefusal (c .before .enum-told .given .1), number-bad _ _ (sym (ap numberReply (c .before .enum-told .given .1)) ∙ c .before .before .before .read-number .ensures))
+returns c = rw (
+  c .number-refusal .ensures
+      ∙ ap numberRefusal (c .before .enum-told .given .1),
+  number-bad _ _ (sym (ap numberReply (c .before .enum-told .given .1))
+      ∙ c .before .before .before .read-number .ensures),
+)
 
-second-got : (c : tie.After-read2) → NumberGot (c .before .before .before .before .before .before .before .before .args .bytes .now) (c .before .before .before .before .read .given .0 .1 .0) (c .read2 .given .0 .0) (c .read2 .given .0 .1 .0)
+second-got : (c : tie.After-read2) →
+    let start = c .before .before .before .before .before .before .before .before in
+    NumberGot (start .args .bytes .now) (c .before .before .before .before .read .given .0 .1 .0) (c .read2 .given .0 .0) (c .read2 .given .0 .1 .0)
 second-got c = number-got _ _ (sym (ap numberReply (c .read2 .given .1)) ∙ c .before .before .read-number2 .ensures)
 
 returns-2 : tie.Need-returns-2
 unfolding readTwo
-returns-2 c = rw (c .number-refusal2 .ensures ∙ ap numberRefusal (c .before .enum-told2 .given .1), first-got (c .before .before .before .before .before) .is, number-bad _ _ (sym (ap numberReply (c .before .enum-told2 .given .1)) ∙ c .before .before .before .read-number2 .ensures))
+returns-2 c = rw (
+  c .number-refusal2 .ensures
+      ∙ ap numberRefusal (c .before .enum-told2 .given .1),
+  first-got (c .before .before .before .before .before) .is,
+  number-bad _ _ (sym (ap numberReply (c .before .enum-told2 .given .1)) ∙ c .before .before .before .read-number2 .ensures),
+)
 
 returns-3 : tie.Need-returns-3
 unfolding readTwo

@@ -12,7 +12,8 @@ use Rattle.table.proofs.write.pairs_length.Statement.{statement}
 use Rattle.table.proofs.write.pairs_length.Tie as tie
 
 abbrev Inv-loop : tie.InvT-loop
-Inv-loop places first count total₀ i₀ total i = (i ≤ count) × (total ≤ 10 * i) × Tallied pairNumbers (listOf places (record { first = first; count = count })) i total
+Inv-loop places first count total₀ i₀ total i = (i ≤ count) × (total ≤ 10 * i)
+    × Tallied pairNumbers (listOf places (record { first = first; count = count })) i total
 
 abbrev μ-loop : tie.MeasureT-loop
 μ-loop places first count total₀ i₀ total i = count - i
@@ -65,11 +66,19 @@ loop-again c =
     let l = u .before .before in
     let s = start (l .before) in
     let p = u .unpack-pair .result in
-    let e : getD (listOf (s .args .places .now) (s .args .pairs)) (l .before .loop .i) blankPair ≡ p = view-at (s .args .places .now) (s .args .pairs) (l .before .loop .i) (l .loop-test .taken) ∙ sym (u .unpack-pair .ensures) in
-    (omega (arith, l .loop-test .taken), omega (arith, five c .0, five c .1, l .before .loop .inv .1), tallied-more (l .before .loop .inv .2) blankPair (omega (arith, size (l .before), l .loop-test .taken)) (rw (e, pair-length p, ← n .number-length .ensures .1, ← c .number-length2 .ensures .1)))
+    let e : getD (listOf (s .args .places .now) (s .args .pairs)) (l .before .loop .i) blankPair ≡ p =
+    view-at (s .args .places .now) (s .args .pairs) (l .before .loop .i) (l .loop-test .taken) ∙ sym (u .unpack-pair .ensures) in (
+      omega (arith, l .loop-test .taken),
+      omega (arith, five c .0, five c .1, l .before .loop .inv .1),
+      tallied-more (l .before .loop .inv .2) blankPair (omega (arith, size (l .before), l .loop-test .taken))
+          (rw (e, pair-length p, ← n .number-length .ensures .1, ← c .number-length2 .ensures .1)),
+    )
 
 returns : tie.Need-returns Inv-loop μ-loop
-returns c = (tallied-end (c .before .loop .inv .2) (omega (arith, size (c .before), c .loop-test .left)), omega (arith, start (c .before) .pre, c .before .loop .inv .0, c .before .loop .inv .1))
+returns c = (
+  tallied-end (c .before .loop .inv .2) (omega (arith, size (c .before), c .loop-test .left)),
+  omega (arith, start (c .before) .pre, c .before .loop .inv .0, c .before .loop .inv .1),
+)
 
 pub pairs-length-spec : {M : Type 1} → statement M
 pairs-length-spec =

@@ -14,7 +14,10 @@ use Rattle.table.proofs.write.put_group.Statement.{statement}
 use Rattle.table.proofs.write.put_group.Tie as tie
 
 -- the bytes of the group, part by part, and that there is room for them
-room : (c : tie.Start) → c .args .at + (length (numberBytes (c .args .group .loads .count)) + length (numberBytes (c .args .group .stores .count)) + length (bytesOf (flatMap pairNumbers (listOf (c .args .loads .now) (c .args .group .loads)))) + length (bytesOf (flatMap pairNumbers (listOf (c .args .stores .now) (c .args .group .stores))))) ≤ length (c .args .out .now)
+room : (c : tie.Start)
+    → c .args .at + (length (numberBytes (c .args .group .loads .count)) + length (numberBytes (c .args .group .stores .count)) + length
+    (bytesOf (flatMap pairNumbers (listOf (c .args .loads .now) (c .args .group .loads)))) + length
+    (bytesOf (flatMap pairNumbers (listOf (c .args .stores .now) (c .args .group .stores))))) ≤ length (c .args .out .now)
 room c = omega (arith, group-bytes (c .args .loads .now) (c .args .stores .now) (c .args .group), c .pre .1)
 
 -- each count is put
@@ -26,19 +29,27 @@ first-put : (c : tie.After-put-number) → let a = start c .args in
 first-put c = put-at (omega (arith, room (start c))) (c .put-number .ensures)
 
 second-put : (c : tie.After-put-number2) → let n = c .before .before .before .before .before in
-    PutAt (n .put-number .last .0) (n .put-number .result) (numberBytes (start n .args .group .stores .count)) (c .put-number2 .result) (c .put-number2 .last .0)
+    PutAt (n .put-number .last .0) (n .put-number .result) (numberBytes (start n .args .group .stores .count)) (c .put-number2 .result)
+    (c .put-number2 .last .0)
 second-put c =
     let n = c .before .before .before .before .before in
     put-at (omega (arith, room (start n), first-put n .0, n .put-number .kept .0)) (c .put-number2 .ensures)
 
 -- both counts have been put
-counts-put : (c : tie.After-put-number2) → NumbersPut (c .before .before .before .before .before .before .before .before .before .before .before .args .out .now) (c .before .before .before .before .before .before .before .before .before .before .before .args .at) (c .before .before .before .before .before .before .before .before .before .before .before .args .group .loads .count ∷ c .before .before .before .before .before .before .before .before .before .before .before .args .group .stores .count ∷ []) (c .put-number2 .last .0) (c .put-number2 .result)
+counts-put : (c : tie.After-put-number2) →
+    let start = c .before .before .before .before .before .before .before .before .before .before .before in
+    NumbersPut (start .args .out .now) (start .args .at) (start .args .group .loads .count ∷ start .args .group .stores .count ∷ [])
+    (c .put-number2 .last .0) (c .put-number2 .result)
 counts-put c =
     let n = c .before .before .before .before .before in
     let s = start n in
-    put-two put-none (s .args .group .loads .count) (s .args .group .stores .count) (omega (arith, room s)) (first-put n .1) (first-put n .0) (second-put c .1) (second-put c .0)
+    put-two put-none (s .args .group .loads .count) (s .args .group .stores .count) (omega (arith, room s)) (first-put n .1) (first-put n .0)
+    (second-put c .1) (second-put c .0)
 
-counts-end : (c : tie.After-put-number2) → (c .put-number2 .result ≡ c .before .before .before .before .before .before .before .before .before .before .before .args .at + length (numberBytes (c .before .before .before .before .before .before .before .before .before .before .before .args .group .loads .count)) + length (numberBytes (c .before .before .before .before .before .before .before .before .before .before .before .args .group .stores .count))) × (length (c .put-number2 .last .0) ≡ length (c .before .before .before .before .before .before .before .before .before .before .before .args .out .now))
+counts-end : (c : tie.After-put-number2) →
+    let start = c .before .before .before .before .before .before .before .before .before .before .before in
+    (c .put-number2 .result ≡ start .args .at + length (numberBytes (start .args .group .loads .count)) + length
+    (numberBytes (start .args .group .stores .count))) × (length (c .put-number2 .last .0) ≡ length (start .args .out .now))
 counts-end c =
     let n = c .before .before .before .before .before in
     (omega (arith, first-put n .0, second-put c .0), omega (arith, n .put-number .kept .0, c .put-number2 .kept .0))
@@ -49,7 +60,12 @@ put-pairs-requires c κs =
     let s = n .before .before .before .before .before .before .before .before .before .before .before in
     (s .pre .0 .0, omega (arith, room s, counts-end n .0, counts-end n .1))
 
-loads-end : (c : tie.After-put-pairs) → (c .put-pairs .result ≡ c .before .before .before .before .before .before .before .before .before .before .before .before .before .before .before .args .at + length (numberBytes (c .before .before .before .before .before .before .before .before .before .before .before .before .before .before .before .args .group .loads .count)) + length (numberBytes (c .before .before .before .before .before .before .before .before .before .before .before .before .before .before .before .args .group .stores .count)) + length (bytesOf (flatMap pairNumbers (listOf (c .before .before .before .before .before .before .before .before .before .before .before .before .before .before .before .args .loads .now) (c .before .before .before .before .before .before .before .before .before .before .before .before .before .before .before .args .group .loads))))) × (length (c .put-pairs .last .1 .1 .0) ≡ length (c .before .before .before .before .before .before .before .before .before .before .before .before .before .before .before .args .out .now))
+loads-end : (c : tie.After-put-pairs) →
+    let start = c .before .before .before .before .before .before .before .before .before .before .before .before .before .before .before in
+    (c .put-pairs .result ≡ start .args .at + length (numberBytes (start .args .group .loads .count)) + length
+    (numberBytes (start .args .group .stores .count)) + length
+    (bytesOf (flatMap pairNumbers (listOf (start .args .loads .now) (start .args .group .loads)))))
+    × (length (c .put-pairs .last .1 .1 .0) ≡ length (start .args .out .now))
 loads-end c =
     let n = c .before .before .before .before in
     (omega (arith, counts-end n .0, c .put-pairs .ensures .0), omega (arith, counts-end n .1, c .put-pairs .kept .1 .1 .0))
@@ -71,7 +87,8 @@ returns c =
     let l = m .before .before .before .before in
     let n = l .before .before .before .before in
     let s = n .before .before .before .before .before .before .before .before .before .before .before in
-    let w = put-group (s .args .loads .now) (s .args .stores .now) (s .args .group) (counts-put n) (s .pre .1) (l .put-pairs .ensures .1) (l .put-pairs .ensures .0) (m .put-pairs2 .ensures .1) (m .put-pairs2 .ensures .0) in
+    let w = put-group (s .args .loads .now) (s .args .stores .now) (s .args .group) (counts-put n) (s .pre .1) (l .put-pairs .ensures .1)
+    (l .put-pairs .ensures .0) (m .put-pairs2 .ensures .1) (m .put-pairs2 .ensures .0) in
     (w .ends, w .is)
 
 pub put-group-spec : {M : Type 1} → statement M

@@ -17,7 +17,8 @@ use Rattle.table.proofs.write.put_pairs.Statement.{statement}
 use Rattle.table.proofs.write.put_pairs.Tie as tie
 
 abbrev Inv-loop : tie.InvT-loop
-Inv-loop places out₀ at first count place₀ i₀ out place i = (i ≤ count) × NumbersPut out₀ at (flatMap pairNumbers (take i (listOf places (record { first = first; count = count })))) out place
+Inv-loop places out₀ at first count place₀ i₀ out place i = (i ≤ count)
+    × NumbersPut out₀ at (flatMap pairNumbers (take i (listOf places (record { first = first; count = count })))) out place
 
 abbrev μ-loop : tie.MeasureT-loop
 μ-loop places out₀ at first count place₀ i₀ out place i = count - i
@@ -42,10 +43,15 @@ this u =
     view-at (s .args .places .now) (s .args .pairs) (l .before .loop .i) (l .loop-test .taken) ∙ sym (u .unpack-pair .ensures)
 
 -- there is room for it
-room : (u : tie.After-unpack-pair Inv-loop μ-loop) → start (turn u .before) .args .at + (length (bytesOf (flatMap pairNumbers (take (turn u .before .loop .i) (listed (turn u .before))))) + (length (numberBytes (u .unpack-pair .result .offset)) + length (numberBytes (u .unpack-pair .result .port)))) ≤ length (start (turn u .before) .args .out .now)
+room : (u : tie.After-unpack-pair Inv-loop μ-loop)
+    → start (turn u .before) .args .at +
+    (length (bytesOf (flatMap pairNumbers (take (turn u .before .loop .i) (listed (turn u .before))))) +
+    (length (numberBytes (u .unpack-pair .result .offset)) + length (numberBytes (u .unpack-pair .result .port)))) ≤ length
+    (start (turn u .before) .args .out .now)
 room u =
     let l = turn u in
-    let f = rw (this u, pair-length (u .unpack-pair .result)) at (flat-room pairNumbers (listed (l .before)) (l .before .loop .i) blankPair (omega (arith, size (l .before), l .loop-test .taken))) in
+    let f = rw (this u, pair-length (u .unpack-pair .result)) at
+    (flat-room pairNumbers (listed (l .before)) (l .before .loop .i) blankPair (omega (arith, size (l .before), l .loop-test .taken))) in
     omega (arith, f, start (l .before) .pre .1)
 
 loop-holds : tie.Need-loop-holds Inv-loop μ-loop
@@ -72,7 +78,9 @@ offset-put c =
     put-at (omega (arith, room u, w .ends, put-length w (omega (arith, room u)))) (c .put-number .ensures)
 
 first-ends : (c : tie.After-put-number Inv-loop μ-loop) → let l = turn (puts c) .before in
-    (length (c .put-number .last .0) ≡ length (start l .args .out .now)) × (c .put-number .result ≡ start l .args .at + length (bytesOf (flatMap pairNumbers (take (l .loop .i) (listed l)))) + length (numberBytes (puts c .unpack-pair .result .offset)))
+    (length (c .put-number .last .0) ≡ length (start l .args .out .now))
+    × (c .put-number .result ≡ start l .args .at + length (bytesOf (flatMap pairNumbers (take (l .loop .i) (listed l)))) + length
+    (numberBytes (puts c .unpack-pair .result .offset)))
 first-ends c =
     let w = turn (puts c) .before .loop .inv .1 in
     (c .put-number .kept .0 ∙ put-length w (omega (arith, room (puts c))), omega (arith, offset-put c .0, w .ends))
@@ -98,11 +106,16 @@ loop-again c =
     let i = l .before .loop .i in
     let p = u .unpack-pair .result in
     let f = put-at (omega (arith, room u, first-ends n .0, first-ends n .1)) (m .put-number2 .ensures) in
-    let q = flat-next pairNumbers (listed (l .before)) i blankPair (omega (arith, size (l .before), l .loop-test .taken)) in
-    (omega (arith, l .loop-test .taken), rw (q, this u) (put-two (l .before .loop .inv .1) (p .offset) (p .port) (omega (arith, room u)) (offset-put n .1) (offset-put n .0) (f .1) (f .0)))
+    let q = flat-next pairNumbers (listed (l .before)) i blankPair (omega (arith, size (l .before), l .loop-test .taken)) in (
+      omega (arith, l .loop-test .taken),
+      rw (q, this u) (put-two (l .before .loop .inv .1) (p .offset) (p .port) (omega (arith, room u)) (offset-put n .1) (offset-put n .0) (f .1)
+          (f .0)),
+    )
 
 -- all pairs have been put
-done : (c : tie.After-loop Inv-loop μ-loop) → NumbersPut (start (c .before) .args .out .now) (start (c .before) .args .at) (flatMap pairNumbers (listed (c .before))) (c .before .loop .out) (c .before .loop .place)
+done : (c : tie.After-loop Inv-loop μ-loop)
+    → NumbersPut (start (c .before) .args .out .now) (start (c .before) .args .at) (flatMap pairNumbers (listed (c .before))) (c .before .loop .out)
+    (c .before .loop .place)
 done c = rw (take-all (c .before .loop .i) (listed (c .before)) (omega (arith, size (c .before), c .loop-test .left))) at (c .before .loop .inv .1)
 
 same-length : tie.Need-same-length Inv-loop μ-loop

@@ -18,7 +18,8 @@ use Rattle.table.proofs.write.put_table.Statement.{statement}
 use Rattle.table.proofs.write.put_table.Tie as tie
 
 abbrev Inv-loop : tie.InvT-loop
-Inv-loop count groups loads stores out₀ many after-fields place₀ i₀ out place i = (i ≤ count) × NumbersPut out₀ place₀ (flatMap groupNumbers (take i (groupsIn count groups loads stores))) out place
+Inv-loop count groups loads stores out₀ many after-fields place₀ i₀ out place i = (i ≤ count)
+    × NumbersPut out₀ place₀ (flatMap groupNumbers (take i (groupsIn count groups loads stores))) out place
 
 abbrev μ-loop : tie.MeasureT-loop
 μ-loop count groups loads stores out₀ many after-fields place₀ i₀ out place i = count - i
@@ -41,7 +42,9 @@ abbrev tableAt : tie.At-loop Inv-loop μ-loop → Table
 tableAt c = tableOf (start (fields (head c)))
 
 -- there is room for the whole table
-space : (c : tie.Start Inv-loop μ-loop) → length (numberBytes 2) + length (numberBytes (c .args .count)) + length (bytesOf (flatMap groupNumbers (groupsOf (tableOf c)))) ≤ length (c .args .out .now)
+space : (c : tie.Start Inv-loop μ-loop)
+    → length (numberBytes 2) + length (numberBytes (c .args .count)) + length (bytesOf (flatMap groupNumbers (groupsOf (tableOf c)))) ≤ length
+    (c .args .out .now)
 space c = omega (arith, table-size (groupsOf (tableOf c)) (c .args .count) (groups-size (tableOf c)), c .pre .1)
 
 loop-holds : tie.Need-loop-holds Inv-loop μ-loop
@@ -59,12 +62,15 @@ count-put c =
     put-at (omega (arith, space (start n), fields-put n .0, n .put-number .kept .0)) (c .put-number2 .ensures)
 
 -- the head has been put
-head-put : (c : tie.After-put-number2 Inv-loop μ-loop) → NumbersPut (start (fields c) .args .out .now) 0 (2 ∷ start (fields c) .args .count ∷ []) (c .put-number2 .last .0) (c .put-number2 .result)
+head-put : (c : tie.After-put-number2 Inv-loop μ-loop)
+    → NumbersPut (start (fields c) .args .out .now) 0 (2 ∷ start (fields c) .args .count ∷ []) (c .put-number2 .last .0) (c .put-number2 .result)
 head-put c =
     let n = fields c in
     put-two put-none 2 (start n .args .count) (omega (arith, space (start n))) (fields-put n .1) (fields-put n .0) (count-put c .1) (count-put c .0)
 
-head-end : (c : tie.After-put-number2 Inv-loop μ-loop) → (c .put-number2 .result ≡ length (numberBytes 2) + length (numberBytes (start (fields c) .args .count))) × (length (c .put-number2 .last .0) ≡ length (start (fields c) .args .out .now))
+head-end : (c : tie.After-put-number2 Inv-loop μ-loop)
+    → (c .put-number2 .result ≡ length (numberBytes 2) + length (numberBytes (start (fields c) .args .count)))
+    × (length (c .put-number2 .last .0) ≡ length (start (fields c) .args .out .now))
 head-end c =
     let n = fields c in
     (omega (arith, fields-put n .0, count-put c .0), omega (arith, n .put-number .kept .0, c .put-number2 .kept .0))
@@ -84,7 +90,10 @@ inside : (c : tie.In-loop Inv-loop μ-loop) → c .before .loop .i < length (gro
 inside c = omega (arith, groups-size (tableAt (c .before)), c .loop-test .taken)
 
 -- there is room for it
-room : (c : tie.After-group-at Inv-loop μ-loop) → head (c .before .before) .put-number2 .result + (length (bytesOf (flatMap groupNumbers (take (c .before .before .loop .i) (groupsOf (tableAt (c .before .before)))))) + length (bytesOf (groupNumbers (groupOf c)))) ≤ length (head (c .before .before) .put-number2 .last .0)
+room : (c : tie.After-group-at Inv-loop μ-loop)
+    → head (c .before .before) .put-number2 .result +
+    (length (bytesOf (flatMap groupNumbers (take (c .before .before .loop .i) (groupsOf (tableAt (c .before .before)))))) + length
+    (bytesOf (groupNumbers (groupOf c)))) ≤ length (head (c .before .before) .put-number2 .last .0)
 room c =
     let l = c .before in
     let h = head (l .before) in
@@ -110,11 +119,17 @@ loop-again c =
     let p = c .before .before in
     let g = p .before .before in
     let l = g .before in
-    let q = flat-next groupNumbers (groupsOf (tableAt (l .before))) (l .before .loop .i) (groupOf g) (inside l) in
-    (omega (arith, l .loop-test .taken), rw (q, this g) (put-more (l .before .loop .inv .1) (groupNumbers (groupOf g)) (omega (arith, room g)) (p .put-group .ensures .1) (p .put-group .ensures .0)))
+    let q = flat-next groupNumbers (groupsOf (tableAt (l .before))) (l .before .loop .i) (groupOf g) (inside l) in (
+      omega (arith, l .loop-test .taken),
+      rw (q, this g) (put-more (l .before .loop .inv .1) (groupNumbers (groupOf g)) (omega (arith, room g)) (p .put-group .ensures .1)
+          (p .put-group .ensures .0)),
+    )
 
-done : (c : tie.After-loop Inv-loop μ-loop) → NumbersPut (head (c .before) .put-number2 .last .0) (head (c .before) .put-number2 .result) (flatMap groupNumbers (groupsOf (tableAt (c .before)))) (c .before .loop .out) (c .before .loop .place)
-done c = rw (take-all (c .before .loop .i) (groupsOf (tableAt (c .before))) (omega (arith, groups-size (tableAt (c .before)), c .loop-test .left))) at (c .before .loop .inv .1)
+done : (c : tie.After-loop Inv-loop μ-loop)
+    → NumbersPut (head (c .before) .put-number2 .last .0) (head (c .before) .put-number2 .result)
+    (flatMap groupNumbers (groupsOf (tableAt (c .before)))) (c .before .loop .out) (c .before .loop .place)
+done c = rw (take-all (c .before .loop .i) (groupsOf (tableAt (c .before))) (omega (arith, groups-size (tableAt (c .before)), c .loop-test .left))) at
+    (c .before .loop .inv .1)
 
 same-length : tie.Need-same-length Inv-loop μ-loop
 same-length c =

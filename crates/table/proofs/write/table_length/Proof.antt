@@ -30,7 +30,13 @@ group-length-requires : tie.Need-group-length-requires Inv-loop μ-loop
 group-length-requires c κs = group-inside _ _ (c .group-at .ensures)
 
 add-total : tie.Need-add-total Inv-loop μ-loop
-add-total c = omega (arith, c .group-length .ensures .1, c .before .before .before .before .pre, c .before .before .before .loop .inv .1, c .before .before .loop-test .taken)
+add-total c = omega (
+  arith,
+  c .group-length .ensures .1,
+  c .before .before .before .before .pre,
+  c .before .before .before .loop .inv .1,
+  c .before .before .loop-test .taken,
+)
 
 add-i : tie.Need-add-i Inv-loop μ-loop
 add-i c = omega (arith, c .before .before .before .before .pre, c .before .before .loop-test .taken)
@@ -46,14 +52,22 @@ loop-again c =
     let t = tableOf s in
     let i = l .before .loop .i in
     let g = pairsOf (t .loads) (t .stores) (k .group-at .result) in
-    let e = group-at t (s .pre) i (l .loop-test .taken) g (k .group-at .ensures) in
-    (omega (arith, l .loop-test .taken), omega (arith, c .group-length .ensures .1, l .before .loop .inv .1), tallied-more (l .before .loop .inv .2) g (omega (arith, groups-size t, l .loop-test .taken)) (rw e (c .group-length .ensures .0)))
+    let e = group-at t (s .pre) i (l .loop-test .taken) g (k .group-at .ensures) in (
+      omega (arith, l .loop-test .taken),
+      omega (arith, c .group-length .ensures .1, l .before .loop .inv .1),
+      tallied-more (l .before .loop .inv .2) g
+          (omega (arith, groups-size t, l .loop-test .taken)) (rw e (c .group-length .ensures .0)),
+    )
 
-parts : (c : tie.After-number-length2 Inv-loop μ-loop) → (c .before .number-length .result ≤ 5) × (c .number-length2 .result ≤ 5) × (c .before .before .before .loop .total ≤ 10400)
+parts : (c : tie.After-number-length2 Inv-loop μ-loop) → (c .before .number-length .result ≤ 5) × (c .number-length2 .result ≤ 5)
+    × (c .before .before .before .loop .total ≤ 10400)
 parts c =
     let l = c .before .before .before in
-    let s = l .before in
-    (omega (arith, c .before .number-length .ensures .1, bytes-most 2), omega (arith, c .number-length2 .ensures .1, bytes-most (s .args .count)), omega (arith, s .pre, l .loop .inv .1, l .loop .inv .0))
+    let s = l .before in (
+      omega (arith, c .before .number-length .ensures .1, bytes-most 2),
+      omega (arith, c .number-length2 .ensures .1, bytes-most (s .args .count)),
+      omega (arith, s .pre, l .loop .inv .1, l .loop .inv .0),
+    )
 
 add-result : tie.Need-add-result Inv-loop μ-loop
 add-result c = omega (arith, parts c .0, parts c .1)

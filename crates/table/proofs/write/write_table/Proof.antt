@@ -36,7 +36,11 @@ unfolding wroteTable
 returns-2 c =
     let e = c .before .before .before .before .before .before in
     let a = e .before .before .before .args in
-    rw (eq-eqb (tableFault (groupsOf (a .t1))) 0 (right e), wrote-short (tableBytes (groupsOf (a .t1))) (a .out .now) (omega (arith, c .before .table-length .ensures))) (refl, refl)
+    rw (
+      eq-eqb (tableFault (groupsOf (a .t1))) 0 (right e),
+      wrote-short (tableBytes (groupsOf (a .t1))) (a .out .now)
+          (omega (arith, c .before .table-length .ensures)),
+    ) (refl, refl)
 
 put-table-requires : tie.Need-put-table-requires
 put-table-requires c κs =
@@ -50,7 +54,11 @@ returns-3 c =
     let l = p .before .before .before .before .before .before .before in
     let e = l .before .before .before .before .before in
     let a = e .before .before .before .args in
-    rw (eq-eqb (tableFault (groupsOf (a .t1))) 0 (right e), wrote-fits (tableBytes (groupsOf (a .t1))) (a .out .now) (omega (arith, l .table-length .ensures))) (ap accepts (l .table-length .ensures), p .put-table .ensures)
+    rw (
+      eq-eqb (tableFault (groupsOf (a .t1))) 0 (right e),
+      wrote-fits (tableBytes (groupsOf (a .t1))) (a .out .now)
+          (omega (arith, l .table-length .ensures)),
+    ) (ap accepts (l .table-length .ensures), p .put-table .ensures)
 
 pub write-table-spec : {M : Type 1} → statement M
 write-table-spec =

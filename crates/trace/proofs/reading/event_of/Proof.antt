@@ -30,7 +30,14 @@ returns-6 c = rw (c .match .keys6)
 returns-7 : tie.Need-returns-7
 returns-7 c =
     let n = c .match .rest in
-    rw (ne-eqb _ _ (n .0 .0 .0 .0 .0 .1), ne-eqb _ _ (n .0 .0 .0 .0 .1), ne-eqb _ _ (n .0 .0 .0 .1), ne-eqb _ _ (n .0 .0 .1), ne-eqb _ _ (n .0 .1), ne-eqb _ _ (n .1))
+    rw (
+      ne-eqb _ _ (n .0 .0 .0 .0 .0 .1),
+      ne-eqb _ _ (n .0 .0 .0 .0 .1),
+      ne-eqb _ _ (n .0 .0 .0 .1),
+      ne-eqb _ _ (n .0 .0 .1),
+      ne-eqb _ _ (n .0 .1),
+      ne-eqb _ _ (n .1),
+    )
 
 pub event-of-spec : {M : Type 1} → statement M
 event-of-spec =

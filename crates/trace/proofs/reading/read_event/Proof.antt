@@ -11,14 +11,22 @@ use Rattle.trace.proofs.reading.read_event.Tie as tie
 returns : tie.Need-returns
 returns c = sym (event-at-end _ _ (omega (arith, c .if1 .taken)))
 
-kind-got : (c : tie.After-read) → NumberGot (c .before .before .before .before .before .args .bytes .now) (c .before .before .before .before .before .args .at) (c .read .given .0 .0) (c .read .given .0 .1 .0)
+kind-got : (c : tie.After-read) →
+    let start = c .before .before .before .before .before in
+    NumberGot (start .args .bytes .now) (start .args .at) (c .read .given .0 .0) (c .read .given .0 .1 .0)
 kind-got c = number-got _ _ (sym (ap numberReply (c .read .given .1)) ∙ c .before .before .read-number .ensures)
 
 returns-2 : tie.Need-returns-2
 unfolding readEvent
 returns-2 c =
     let r = c .before .before .before in
-    rw (event-at-inside _ _ (r .before .if1 .left), c .number-refusal .ensures ∙ ap numberRefusal (c .before .enum-told .given .1), number-bad _ _ (sym (ap numberReply (c .before .enum-told .given .1)) ∙ r .read-number .ensures))
+    rw (
+      event-at-inside _ _ (r .before .if1 .left),
+      c .number-refusal .ensures
+          ∙ ap numberRefusal (c .before .enum-told .given .1),
+      number-bad _ _ (sym (ap numberReply (c .before .enum-told .given .1))
+          ∙ r .read-number .ensures),
+    )
 
 returns-3 : tie.Need-returns-3
 unfolding readEvent

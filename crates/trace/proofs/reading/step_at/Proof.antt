@@ -13,12 +13,20 @@ returns c =
 returns-2 : tie.Need-returns-2
 returns-2 c =
     let r = c .before .before in
-    record { read = r .read-event .ensures; next = ap (placeAfter (r .before .before .args .at)) (sym (ap eventReply (c .enum-told .given .1)) ∙ r .read-event .ensures) }
+    record {
+      read = r .read-event .ensures;
+      next = ap (placeAfter (r .before .before .args .at)) (sym (ap eventReply (c .enum-told .given .1))
+          ∙ r .read-event .ensures);
+    }
 
 returns-3 : tie.Need-returns-3
 returns-3 c =
     let r = c .before .before in
-    record { read = r .read-event .ensures; next = ap (placeAfter (r .before .before .args .at)) (sym (ap eventReply (c .enum-told2 .given .1)) ∙ r .read-event .ensures) }
+    record {
+      read = r .read-event .ensures;
+      next = ap (placeAfter (r .before .before .args .at)) (sym (ap eventReply (c .enum-told2 .given .1))
+          ∙ r .read-event .ensures);
+    }
 
 pub step-at-spec : {M : Type 1} → statement M
 step-at-spec =

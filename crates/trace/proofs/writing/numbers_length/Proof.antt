@@ -17,14 +17,22 @@ loop-holds : tie.Need-loop-holds Inv-loop μ-loop
 loop-holds c = (search needs, search needs, counted-none)
 
 add-total : tie.Need-add-total Inv-loop μ-loop
-add-total c = omega (arith, c .number-length .ensures .1, bytes-most (getD (c .before .before .before .before .args .t1 .values) (c .before .before .before .loop .i) 0))
+add-total c = omega (
+  arith,
+  c .number-length .ensures .1,
+  bytes-most (getD (c .before .before .before .before .args .t1 .values) (c .before .before .before .loop .i) 0),
+)
 
 loop-again : tie.Need-loop-again Inv-loop μ-loop
 loop-again c =
+    let start = c .before .before .before .before in
     let i = c .before .before .before .loop .inv in
-    let e : length (c .before .before .before .before .args .t1 .values) ≡ 4 = search needs in
-    let r : c .before .before .before .loop .i < length (c .before .before .before .before .args .t1 .values) = omega arith in
-    (omega arith, omega (arith, c .number-length .ensures .1, bytes-most (getD (c .before .before .before .before .args .t1 .values) (c .before .before .before .loop .i) 0)), counted-more (i .2) r (c .number-length .ensures .1))
+    let e : length (start .args .t1 .values) ≡ 4 = search needs in
+    let r : c .before .before .before .loop .i < length (start .args .t1 .values) = omega arith in (
+      omega arith,
+      omega (arith, c .number-length .ensures .1, bytes-most (getD (start .args .t1 .values) (c .before .before .before .loop .i) 0)),
+      counted-more (i .2) r (c .number-length .ensures .1),
+    )
 
 returns : tie.Need-returns Inv-loop μ-loop
 returns c = counted-end {count = c .before .before .args .t1 .count} (c .before .loop .inv .2) (omega arith)

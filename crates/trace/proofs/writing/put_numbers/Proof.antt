@@ -22,7 +22,9 @@ whole c =
     omega (arith, c .pre .0)
 
 -- there is room for the next number
-next-fits : (c : tie.In-loop Inv-loop μ-loop) → length (bytesOf (take (c .before .loop .i) (c .before .before .before .args .t1 .values))) + length (numberBytes (getD (c .before .before .before .args .t1 .values) (c .before .loop .i) 0)) ≤ length (c .before .before .before .args .out .now)
+next-fits : (c : tie.In-loop Inv-loop μ-loop)
+    → length (bytesOf (take (c .before .loop .i) (c .before .before .before .args .t1 .values))) + length
+    (numberBytes (getD (c .before .before .before .args .t1 .values) (c .before .loop .i) 0)) ≤ length (c .before .before .before .args .out .now)
 next-fits c =
     let s = c .before .before .before in
     omega (arith, bytes-room (s .args .t1 .values) (s .args .t1 .count) (c .before .loop .i) (c .loop-test .taken) (whole s), s .pre .1)
@@ -37,8 +39,11 @@ loop-again c =
     let v = l .before .before .before .args .t1 .values in
     let i = l .before .loop .i in
     let w = l .before .loop .inv .1 in
-    let e = put-at (omega (arith, next-fits l, put-length w (omega (arith, next-fits l)), w .ends)) (p .put-number .ensures) in
-    (omega arith, rw (add-one, take-suc v i 0 (omega (arith, whole (l .before .before .before), l .loop-test .taken))) (put-one w (getD v i 0) (omega (arith, next-fits l)) (e .1) (e .0)))
+    let e = put-at (omega (arith, next-fits l, put-length w (omega (arith, next-fits l)), w .ends)) (p .put-number .ensures) in (
+      omega arith,
+      rw (add-one, take-suc v i 0 (omega (arith, whole (l .before .before .before), l .loop-test .taken)))
+          (put-one w (getD v i 0) (omega (arith, next-fits l)) (e .1) (e .0)),
+    )
 
 all-put : (c : tie.After-loop Inv-loop μ-loop) → c .before .loop .i ≡ c .before .before .before .args .t1 .count
 all-put c = omega arith

@@ -8,12 +8,14 @@ use Rattle.trace.proofs.writing.write_numbers.Statement.{statement}
 use Rattle.trace.proofs.writing.write_numbers.Tie as tie
 
 returns : tie.Need-returns
-returns c = rw (wrote-short (bytesOf (numbersListed (c .before .before .before .args .numbers))) (c .before .before .before .args .out .now) (omega arith)) (refl, refl)
+returns c = rw (wrote-short (bytesOf (numbersListed (c .before .before .before .args .numbers))) (c .before .before .before .args .out .now)
+    (omega arith)) (refl, refl)
 
 returns-2 : tie.Need-returns-2
 returns-2 c =
     let e = c .before .before .before .before in
-    rw (wrote-fits (bytesOf (numbersListed (e .before .before .before .args .numbers))) (e .before .before .before .args .out .now) (omega arith)) (ap accepts (e .before .numbers-length .ensures), c .before .before .put-numbers .ensures)
+    rw (wrote-fits (bytesOf (numbersListed (e .before .before .before .args .numbers))) (e .before .before .before .args .out .now) (omega arith))
+    (ap accepts (e .before .numbers-length .ensures), c .before .before .put-numbers .ensures)
 
 pub write-numbers-spec : {M : Type 1} → statement M
 write-numbers-spec =

@@ -225,7 +225,7 @@ impl Live for Broken {
             record.frame.loads.next ^= 1;
         }
         if self.does(OpenFrameWhenRefused, answer == 14) {
-            record.frame.words = 1;
+            record.frame.memory_length = 1;
         }
         Opened {
             answer: answer + u32::from(self.does(OpenAnswer, answer == 12)),

@@ -68,8 +68,8 @@ enum lsq_answer {
     LSQ_EARLIER_STORE_ADDRESS = 28, /* an earlier store has no address */
     LSQ_NO_DATA = 29,               /* the store (to forward from) has no data */
     LSQ_OTHER_MEMORY = 30,          /* lent memory has another length */
-    LSQ_LOAD_CONFLICT = 31,         /* an earlier unserved load conflicts */
-    LSQ_STORE_CONFLICT = 32,        /* an earlier unwritten store conflicts */
+    LSQ_LOAD_CONFLICT = 31,         /* an earlier unserved load has no address or the same one */
+    LSQ_STORE_CONFLICT = 32,        /* an earlier unwritten store has no address or the same one */
     LSQ_NONE_UNTAKEN = 33,          /* no untaken load of the port is queued */
     LSQ_NOT_SERVED = 34,            /* the port's oldest untaken load is unserved */
     LSQ_KIND = 35,                  /* an event's kind is above 6 */

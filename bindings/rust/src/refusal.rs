@@ -54,8 +54,8 @@ refusals! {
     EARLIER_STORE_ADDRESS = 28, "an earlier store has no address";
     NO_DATA = 29, "the store (to forward from) has no data";
     OTHER_MEMORY = 30, "lent memory has another length";
-    LOAD_CONFLICT = 31, "an earlier unserved load conflicts";
-    STORE_CONFLICT = 32, "an earlier unwritten store conflicts";
+    LOAD_CONFLICT = 31, "an earlier unserved load has no address or the same one";
+    STORE_CONFLICT = 32, "an earlier unwritten store has no address or the same one";
     NONE_UNTAKEN = 33, "no untaken load of the port is queued";
     NOT_SERVED = 34, "the port's oldest untaken load is unserved";
     KIND = 35, "an event's kind is above 6";

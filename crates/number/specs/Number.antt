@@ -74,7 +74,7 @@ readIn s (bad k) = refuses k
 
 -- the number and the values of each case of `NumberRead`
 abbrev pub numberReply : NumberRead → Reply (Reading ℕ)
-numberReply (Number n spells-one) = accepts (reading n spells-one)
+numberReply (Number n next) = accepts (reading n next)
 numberReply (Refused k) = refuses k
 
 -- its number: 0 where a number was read

@@ -1,4 +1,4 @@
--- The refusal numbers of document 01, "Calls and their refusals": all of them. Accepted is 0. src/refusal.rt has the same names.
+-- The refusal numbers of document 01, "Calls and their refusals" and "The printed run": all of them. Accepted is 0. src/refusal.rt has the same names.
 use Prim.Native.Nat.{ℕ}
 
 -- the bytes end inside a number or before it

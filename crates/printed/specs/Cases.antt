@@ -26,9 +26,9 @@ refusalOf (got a s) = 0
 refusalOf (bad n) = n
 
 -- the number read, where there is one
-abbrev pub eventNumber : Got ℕ → List ℕ
-eventNumber (got n s) = n ∷ []
-eventNumber (bad k) = []
+abbrev pub numberRead : Got ℕ → List ℕ
+numberRead (got n s) = n ∷ []
+numberRead (bad k) = []
 
 -- an access as two numbers: 0 for a load or 1 for a store, and its port
 abbrev pub shownAccesses : List Access → List ℕ
@@ -94,9 +94,9 @@ cases =
     case 1 (text k1Table k1Trace) k1Text
     -- K2: 127 is 7F; K3: 128 is 80 01
     ∷ case 2 (numberBytes 127) (0x7F ∷ [])
-    ∷ case 2 (eventNumber (readNumber (0x7F ∷ []))) (127 ∷ [])
+    ∷ case 2 (numberRead (readNumber (0x7F ∷ []))) (127 ∷ [])
     ∷ case 3 (numberBytes 128) (0x80 ∷ 0x01 ∷ [])
-    ∷ case 3 (eventNumber (readNumber (0x80 ∷ 0x01 ∷ []))) (128 ∷ [])
+    ∷ case 3 (numberRead (readNumber (0x80 ∷ 0x01 ∷ []))) (128 ∷ [])
     -- K4: FF FF FF FF 10 gets 2
     ∷ case 4 (refusalOf (readNumber (0xFF ∷ 0xFF ∷ 0xFF ∷ 0xFF ∷ 0x10 ∷ [])) ∷ []) (2 ∷ [])
     -- K5: group 2,2,0,4,2,5,1,3,1,4 is load 4, store 3, store 4, load 5
@@ -115,12 +115,12 @@ cases =
     ∷ case 10 (share (record { loads = 16; forwarded = 1 }) ∷ []) (63 ∷ [])
     ∷ []
 
-abbrev pub eventGiven : Case → List ℕ
-eventGiven c = c .given
+abbrev pub caseGiven : Case → List ℕ
+caseGiven c = c .given
 
 abbrev pub expectedOf : Case → List ℕ
 expectedOf c = c .expected
 
 -- every case is as the paper says
 abbrev pub AllCasesHold : Type 0
-AllCasesHold = map eventGiven cases ≡ map expectedOf cases
+AllCasesHold = map caseGiven cases ≡ map expectedOf cases

@@ -22,7 +22,7 @@ fn plain_outcome(queue: Queue, command: usize, first: u32, second: u32) -> Outco
 }
 
 // Prints what a call handed back, and hands on the queue that follows.
-fn settled(before: Queue, outcome: Outcome) -> Queue {
+fn handed_on(before: Queue, outcome: Outcome) -> Queue {
     let value = outcome.value;
     show::answer(outcome.answer, value);
     let next = outcome.queue;
@@ -33,7 +33,7 @@ fn settled(before: Queue, outcome: Outcome) -> Queue {
 fn plain(mut run: Run, command: usize, first: u32, second: u32) -> Run {
     let queue = run.queue;
     let outcome = plain_outcome(queue, command, first, second);
-    let next = settled(queue, outcome);
+    let next = handed_on(queue, outcome);
     run.queue = next;
     run
 }
@@ -75,7 +75,7 @@ fn write(mut run: Run, serial: u32) -> Run {
     let held = run.memory;
     let mut memory = held;
     let outcome = written(queue, &mut memory, run.length, serial);
-    let next = settled(queue, outcome);
+    let next = handed_on(queue, outcome);
     show::same(b" memory", same::same_memory(held, memory));
     run.queue = next;
     run.memory = memory;

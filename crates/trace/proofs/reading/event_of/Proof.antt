@@ -2,31 +2,24 @@ use borrow.Author.Tests.{ne-eqb}
 use Rattle.trace.proofs.reading.event_of.Statement.{statement}
 use Rattle.trace.proofs.reading.event_of.Tie as tie
 
--- src/trace.rt:75:1
 returns : tie.Need-returns
 returns c = rw (c .match .keys1)
 
--- src/trace.rt:75:1
 returns-2 : tie.Need-returns-2
 returns-2 c = rw (c .match .keys2)
 
--- src/trace.rt:75:1
 returns-3 : tie.Need-returns-3
 returns-3 c = rw (c .match .keys3)
 
--- src/trace.rt:75:1
 returns-4 : tie.Need-returns-4
 returns-4 c = rw (c .match .keys4)
 
--- src/trace.rt:75:1
 returns-5 : tie.Need-returns-5
 returns-5 c = rw (c .match .keys5)
 
--- src/trace.rt:75:1
 returns-6 : tie.Need-returns-6
 returns-6 c = rw (c .match .keys6)
 
--- src/trace.rt:75:1
 returns-7 : tie.Need-returns-7
 returns-7 c =
     let n = c .match .rest in

@@ -3,4 +3,5 @@ pub mod Both
 pub mod Rule
 pub mod NumberLaws
 pub mod SpliceLaws
+pub mod PutLaws
 pub mod RoundTrip

@@ -12,7 +12,7 @@ use borrow.Author.Tests.{lt-ltb, le-ltb, lt-leb, le-leb}
 use lib.Dec.{ltb}
 use Rattle.number.specs.Basics.{pick, splice}
 use Rattle.number.specs.Refusal.{tooShort}
-use Rattle.number.specs.Number.{bytesUpTo, numberBytes, bytesOf, accepts, wrote, unwritten, PutAt, PutIfFits}
+use Rattle.number.specs.Number.{bytesUpTo, numberBytes, bytesOf, accepts, wrote, unwritten, Puts, PutIfFits}
 use Rattle.number.proofs.NumberLaws.{numberBound}
 
 pub splice-none : (d : List ℕ) (p : ℕ) → splice d p [] ≡ d
@@ -52,11 +52,11 @@ wrote-fits bytes buffer h = rw (le-leb _ _ h, zero-add)
 
 -- what is put at a place, where there is room and where there is none
 module _ {buffer bytes left : List ℕ} {at r : ℕ} where
-  pub put-at : at + length bytes ≤ length buffer → PutIfFits buffer at bytes r left → PutAt buffer at bytes r left
-  put-at h w = (rw (le-leb _ _ h) at (w .ends), rw (le-leb _ _ h) at (w .is))
+  pub put-at : at + length bytes ≤ length buffer → PutIfFits buffer at bytes r left → Puts buffer at bytes r left
+  put-at h w = record { ends = rw (le-leb _ _ h) at (w .ends); is = rw (le-leb _ _ h) at (w .is) }
 
-  pub put-fits : at + length bytes ≤ length buffer → PutAt buffer at bytes r left → PutIfFits buffer at bytes r left
-  put-fits h w = record { ends = rw (le-leb _ _ h) (w .0); is = rw (le-leb _ _ h) (w .1) }
+  pub put-fits : at + length bytes ≤ length buffer → Puts buffer at bytes r left → PutIfFits buffer at bytes r left
+  put-fits h w = record { ends = rw (le-leb _ _ h) (w .ends); is = rw (le-leb _ _ h) (w .is) }
 
 pub put-nothing : {buffer bytes : List ℕ} {at : ℕ} → length buffer < at + length bytes → PutIfFits buffer at bytes at buffer
 put-nothing h = record { ends = rw (lt-leb _ _ h); is = rw (lt-leb _ _ h) }
@@ -124,11 +124,11 @@ module _ {d : List ℕ} {p n : ℕ} {out : List ℕ} {left place : ℕ} (w : Put
       go (suc m) = rw (lt-ltb left 128 k)
 
   pub putting-end : p + length (numberBytes n) ≤ length d → left < 128
-      → (place + 1 ≡ p + length (numberBytes n)) × (set out place left ≡ splice d p (numberBytes n))
+      → Puts d p (numberBytes n) (place + 1) (set out place left)
   putting-end h k =
       let i = rw (last-byte k) at (w .is) in
       let j = rw (last-byte k) at (w .ends) in
-      (j, sym (splice-none (set out place left) (place + 1)) ∙ splice-set out place left [] (putting-room h) ∙ i)
+      record { ends = j; is = sym (splice-none (set out place left) (place + 1)) ∙ splice-set out place left [] (putting-room h) ∙ i }
 
 -- ---- numbers put one after the other
 pub bytes-append : (xs ys : List ℕ) → bytesOf (xs ++ ys) ≡ bytesOf xs ++ bytesOf ys

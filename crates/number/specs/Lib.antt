@@ -2,3 +2,4 @@
 pub mod Basics
 pub mod Refusal
 pub mod Number
+pub mod Texts

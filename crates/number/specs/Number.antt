@@ -129,8 +129,9 @@ wrote bytes buffer =
     (unwritten tooShort buffer)
 
 -- bytes put at a place of a buffer: where they end, and the buffer as it is left
-abbrev pub PutAt : List ℕ → ℕ → List ℕ → ℕ → List ℕ → Type 0
-PutAt buffer at bytes r left = (r ≡ at + length bytes) × (left ≡ splice buffer at bytes)
+pub record Puts (buffer : List ℕ) (at : ℕ) (bytes : List ℕ) (r : ℕ) (left : List ℕ) : Type 0 where
+  pub ends : r ≡ at + length bytes
+  pub is : left ≡ splice buffer at bytes
 
 -- the same where they fit; else nothing is put, and the answer is the place itself
 pub record PutIfFits (buffer : List ℕ) (at : ℕ) (bytes : List ℕ) (r : ℕ) (left : List ℕ) : Type 0 where

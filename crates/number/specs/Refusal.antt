@@ -1,4 +1,5 @@
--- The refusal numbers of document 01, "Calls and their refusals" and "The printed run": all of them. Accepted is 0. src/refusal.rt has the same names.
+-- The refusal numbers of document 01, "Calls and their refusals" and "The printed run", and 41 of S-1 of document 02: all of them.
+-- Accepted is 0. src/refusal.rt has the same names.
 use Prim.Native.Nat.{ℕ}
 
 -- the bytes end inside a number or before it
@@ -128,3 +129,7 @@ fileTooLong = 36
 -- the record is not one that the rules speak of
 abbrev pub unsound : ℕ
 unsound = 40
+
+-- a page buffer has fewer than 1,394 bytes
+abbrev pub pageTooShort : ℕ
+pageTooShort = 41

@@ -3,6 +3,7 @@
 
 pub mod reading;
 pub mod refusal;
+pub mod texts;
 pub mod writing;
 
 // What reading a number answers: its value and the place after it, or the refusal number.

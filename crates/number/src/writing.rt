@@ -2,7 +2,7 @@
 ghost use mathlib.Core.Path.{_≡_};
 ghost use Prim.Native.Nat.{_+_, _≤_};
 ghost use lib.ListN.{length};
-ghost use Rattle.number.specs.Number.{numberBytes, byteCount, significantBits, HasWritten, wrote, PutAt, PutIfFits};
+ghost use Rattle.number.specs.Number.{numberBytes, byteCount, significantBits, HasWritten, wrote, Puts, PutIfFits};
 use crate::BytesWritten;
 use crate::refusal::TOO_SHORT;
 
@@ -55,7 +55,7 @@ pub fn number_length(value: u32) -> usize
 // Puts a number's bytes at a place where they fit, and says where they end.
 fn put_fitting(out: &mut [u8], at: usize, value: u32) -> usize
     requires { ⌜ at + length (numberBytes value) ≤ length (now out) ⌝ }
-    ensures { λ r. ⌜ PutAt (now (out .entry)) at (numberBytes value) r (now (out .exit)) ⌝ }
+    ensures { λ r. ⌜ Puts (now (out .entry)) at (numberBytes value) r (now (out .exit)) ⌝ }
 {
     let mut left = value;
     let mut place = at;

@@ -3,7 +3,7 @@ ghost use mathlib.Core.Path.{_≡_};
 ghost use Prim.Native.Nat.{_+_, _≤_};
 ghost use lib.ListN.{length};
 ghost use Rattle.number.specs.Basics.{flatMap, splice};
-ghost use Rattle.number.specs.Number.{bytesOf, HasWritten, PutAt};
+ghost use Rattle.number.specs.Number.{bytesOf, HasWritten, Puts};
 ghost use Rattle.table.specs.Group.{listOf, pairsOf, Inside};
 ghost use Rattle.table.specs.Table.{groupsIn, groupsOf};
 ghost use Rattle.table.specs.TableBytes.{pairNumbers, groupNumbers, tableNumbers, wroteTable};
@@ -71,7 +71,7 @@ fn table_length<'a>(
 // Puts a group's pairs of one kind at a place where they fit, and says where they end.
 fn put_pairs(places: &[u16; 32], pairs: Span, out: &mut [u8], at: usize) -> usize
     requires { ⌜ Inside pairs × (at + length (bytesOf (flatMap pairNumbers (listOf (now places) pairs))) ≤ length (now out)) ⌝ }
-    ensures { λ r. ⌜ PutAt (now (out .entry)) at (bytesOf (flatMap pairNumbers (listOf (now (places .entry)) pairs))) r (now (out .exit)) ⌝ }
+    ensures { λ r. ⌜ Puts (now (out .entry)) at (bytesOf (flatMap pairNumbers (listOf (now (places .entry)) pairs))) r (now (out .exit)) ⌝ }
 {
     let first = pairs.first as usize;
     let count = pairs.count as usize;
@@ -95,7 +95,7 @@ fn put_group<'a>(
     at: usize,
 ) -> usize
     requires { ⌜ GroupInside group × (at + length (bytesOf (groupNumbers (pairsOf (now loads) (now stores) group))) ≤ length (now out)) ⌝ }
-    ensures { λ r. ⌜ PutAt (now (out .entry)) at (bytesOf (groupNumbers (pairsOf (now (loads .entry)) (now (stores .entry)) group))) r (now (out .exit)) ⌝ }
+    ensures { λ r. ⌜ Puts (now (out .entry)) at (bytesOf (groupNumbers (pairsOf (now (loads .entry)) (now (stores .entry)) group))) r (now (out .exit)) ⌝ }
 {
     let load_span = group.loads;
     let store_span = group.stores;

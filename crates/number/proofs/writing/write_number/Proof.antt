@@ -27,7 +27,7 @@ returns-2 : tie.Need-returns-2
 returns-2 c =
     let e = c .before .before .before .before in
     rw (wrote-fits (numberBytes (e .before .before .before .args .value)) (e .before .before .before .args .out .now) (fits e))
-    (ap accepts (long (e .before)), c .before .before .put-fitting .ensures .1)
+    (ap accepts (long (e .before)), c .before .before .put-fitting .ensures .is)
 
 pub write-number-spec : {M : Type 1} → statement M
 write-number-spec =

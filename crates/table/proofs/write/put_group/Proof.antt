@@ -4,7 +4,7 @@ use mathlib.Core.List.{_∷_, []}
 use native.Mathlib.Omega.{arith}
 use lib.ListN.{length}
 use Rattle.number.specs.Basics.{flatMap}
-use Rattle.number.specs.Number.{bytesOf, numberBytes, PutAt}
+use Rattle.number.specs.Number.{bytesOf, numberBytes, Puts}
 use Rattle.table.specs.Group.{listOf}
 use Rattle.table.specs.TableBytes.{pairNumbers}
 use Rattle.number.proofs.SpliceLaws.{put-at, NumbersPut, put-none, put-two}
@@ -25,15 +25,15 @@ abbrev start : tie.After-put-number → tie.Start
 start c = c .before .before .before .before .before .before
 
 first-put : (c : tie.After-put-number) → let a = start c .args in
-    PutAt (a .out .now) (a .at) (numberBytes (a .group .loads .count)) (c .put-number .result) (c .put-number .last .0)
+    Puts (a .out .now) (a .at) (numberBytes (a .group .loads .count)) (c .put-number .result) (c .put-number .last .0)
 first-put c = put-at (omega (arith, room (start c))) (c .put-number .ensures)
 
 second-put : (c : tie.After-put-number2) → let n = c .before .before .before .before .before in
-    PutAt (n .put-number .last .0) (n .put-number .result) (numberBytes (start n .args .group .stores .count)) (c .put-number2 .result)
+    Puts (n .put-number .last .0) (n .put-number .result) (numberBytes (start n .args .group .stores .count)) (c .put-number2 .result)
     (c .put-number2 .last .0)
 second-put c =
     let n = c .before .before .before .before .before in
-    put-at (omega (arith, room (start n), first-put n .0, n .put-number .kept .0)) (c .put-number2 .ensures)
+    put-at (omega (arith, room (start n), first-put n .ends, n .put-number .kept .0)) (c .put-number2 .ensures)
 
 -- both counts have been put
 counts-put : (c : tie.After-put-number2) →
@@ -43,8 +43,8 @@ counts-put : (c : tie.After-put-number2) →
 counts-put c =
     let n = c .before .before .before .before .before in
     let s = start n in
-    put-two put-none (s .args .group .loads .count) (s .args .group .stores .count) (omega (arith, room s)) (first-put n .1) (first-put n .0)
-    (second-put c .1) (second-put c .0)
+    put-two put-none (s .args .group .loads .count) (s .args .group .stores .count) (omega (arith, room s)) (first-put n .is) (first-put n .ends)
+    (second-put c .is) (second-put c .ends)
 
 counts-end : (c : tie.After-put-number2) →
     let start = c .before .before .before .before .before .before .before .before .before .before .before in
@@ -52,7 +52,7 @@ counts-end : (c : tie.After-put-number2) →
     (numberBytes (start .args .group .stores .count))) × (length (c .put-number2 .last .0) ≡ length (start .args .out .now))
 counts-end c =
     let n = c .before .before .before .before .before in
-    (omega (arith, first-put n .0, second-put c .0), omega (arith, n .put-number .kept .0, c .put-number2 .kept .0))
+    (omega (arith, first-put n .ends, second-put c .ends), omega (arith, n .put-number .kept .0, c .put-number2 .kept .0))
 
 put-pairs-requires : tie.Need-put-pairs-requires
 put-pairs-requires c κs =
@@ -68,7 +68,7 @@ loads-end : (c : tie.After-put-pairs) →
     × (length (c .put-pairs .last .1 .1 .0) ≡ length (start .args .out .now))
 loads-end c =
     let n = c .before .before .before .before in
-    (omega (arith, counts-end n .0, c .put-pairs .ensures .0), omega (arith, counts-end n .1, c .put-pairs .kept .1 .1 .0))
+    (omega (arith, counts-end n .0, c .put-pairs .ensures .ends), omega (arith, counts-end n .1, c .put-pairs .kept .1 .1 .0))
 
 put-pairs-requires-2 : tie.Need-put-pairs-requires-2
 put-pairs-requires-2 c κs =
@@ -87,9 +87,9 @@ returns c =
     let l = m .before .before .before .before in
     let n = l .before .before .before .before in
     let s = n .before .before .before .before .before .before .before .before .before .before .before in
-    let w = put-group (s .args .loads .now) (s .args .stores .now) (s .args .group) (counts-put n) (s .pre .1) (l .put-pairs .ensures .1)
-    (l .put-pairs .ensures .0) (m .put-pairs2 .ensures .1) (m .put-pairs2 .ensures .0) in
-    (w .ends, w .is)
+    let w = put-group (s .args .loads .now) (s .args .stores .now) (s .args .group) (counts-put n) (s .pre .1) (l .put-pairs .ensures .is)
+    (l .put-pairs .ensures .ends) (m .put-pairs2 .ensures .is) (m .put-pairs2 .ensures .ends) in
+    record { ends = w .ends; is = w .is }
 
 pub put-group-spec : {M : Type 1} → statement M
 put-group-spec =

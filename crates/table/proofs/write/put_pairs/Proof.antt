@@ -7,7 +7,7 @@ use lib.Seq.{take-all}
 use borrow.Author.Needs.{needs}
 use Rattle.table.specs.declared.Pair.{Pair}
 use Rattle.number.specs.Basics.{flatMap}
-use Rattle.number.specs.Number.{bytesOf, numberBytes, PutAt}
+use Rattle.number.specs.Number.{bytesOf, numberBytes, Puts}
 use Rattle.table.specs.Group.{listOf, blankPair}
 use Rattle.table.specs.TableBytes.{pairNumbers}
 use Rattle.table.proofs.CheckLaws.{view-length, view-at}
@@ -71,7 +71,7 @@ puts c = c .before .before .before
 
 -- the offset is put, and where it ends
 offset-put : (c : tie.After-put-number Inv-loop μ-loop) → let l = turn (puts c) .before .loop in
-    PutAt (l .out) (l .place) (numberBytes (puts c .unpack-pair .result .offset)) (c .put-number .result) (c .put-number .last .0)
+    Puts (l .out) (l .place) (numberBytes (puts c .unpack-pair .result .offset)) (c .put-number .result) (c .put-number .last .0)
 offset-put c =
     let u = puts c in
     let w = turn u .before .loop .inv .1 in
@@ -83,7 +83,7 @@ first-ends : (c : tie.After-put-number Inv-loop μ-loop) → let l = turn (puts 
     (numberBytes (puts c .unpack-pair .result .offset)))
 first-ends c =
     let w = turn (puts c) .before .loop .inv .1 in
-    (c .put-number .kept .0 ∙ put-length w (omega (arith, room (puts c))), omega (arith, offset-put c .0, w .ends))
+    (c .put-number .kept .0 ∙ put-length w (omega (arith, room (puts c))), omega (arith, offset-put c .ends, w .ends))
 
 -- the turn that ends
 abbrev ended : tie.After-slice-known3 Inv-loop μ-loop → tie.After-put-number Inv-loop μ-loop
@@ -108,8 +108,8 @@ loop-again c =
     let f = put-at (omega (arith, room u, first-ends n .0, first-ends n .1)) (m .put-number2 .ensures) in
     let q = flat-next pairNumbers (listed (l .before)) i blankPair (omega (arith, size (l .before), l .loop-test .taken)) in (
       omega (arith, l .loop-test .taken),
-      rw (q, this u) (put-two (l .before .loop .inv .1) (p .offset) (p .port) (omega (arith, room u)) (offset-put n .1) (offset-put n .0) (f .1)
-          (f .0)),
+      rw (q, this u) (put-two (l .before .loop .inv .1) (p .offset) (p .port) (omega (arith, room u)) (offset-put n .is) (offset-put n .ends) (f .is)
+          (f .ends)),
     )
 
 -- all pairs have been put
@@ -122,7 +122,7 @@ same-length : tie.Need-same-length Inv-loop μ-loop
 same-length c = put-length (done c) (start (c .before) .pre .1)
 
 returns : tie.Need-returns Inv-loop μ-loop
-returns c = (done c .ends, done c .is)
+returns c = record { ends = done c .ends; is = done c .is }
 
 pub put-pairs-spec : {M : Type 1} → statement M
 put-pairs-spec =

@@ -7,7 +7,7 @@ use lib.Seq.{take-all}
 use borrow.Author.Needs.{needs}
 use Rattle.table.specs.declared.Table.{Table}
 use Rattle.number.specs.Basics.{flatMap}
-use Rattle.number.specs.Number.{numberBytes, bytesOf, PutAt}
+use Rattle.number.specs.Number.{numberBytes, bytesOf, Puts}
 use Rattle.table.specs.Group.{GroupPairs, pairsOf}
 use Rattle.table.specs.Table.{groupsIn, groupsOf}
 use Rattle.table.specs.TableBytes.{groupNumbers}
@@ -52,28 +52,28 @@ loop-holds c = (search needs, put-none)
 
 -- the head's numbers are put, one by one
 fields-put : (c : tie.After-put-number Inv-loop μ-loop) →
-    PutAt (start c .args .out .now) 0 (numberBytes 2) (c .put-number .result) (c .put-number .last .0)
+    Puts (start c .args .out .now) 0 (numberBytes 2) (c .put-number .result) (c .put-number .last .0)
 fields-put c = put-at (omega (arith, space (start c))) (c .put-number .ensures)
 
 count-put : (c : tie.After-put-number2 Inv-loop μ-loop) → let n = fields c in
-    PutAt (n .put-number .last .0) (n .put-number .result) (numberBytes (start n .args .count)) (c .put-number2 .result) (c .put-number2 .last .0)
+    Puts (n .put-number .last .0) (n .put-number .result) (numberBytes (start n .args .count)) (c .put-number2 .result) (c .put-number2 .last .0)
 count-put c =
     let n = fields c in
-    put-at (omega (arith, space (start n), fields-put n .0, n .put-number .kept .0)) (c .put-number2 .ensures)
+    put-at (omega (arith, space (start n), fields-put n .ends, n .put-number .kept .0)) (c .put-number2 .ensures)
 
 -- the head has been put
 head-put : (c : tie.After-put-number2 Inv-loop μ-loop)
     → NumbersPut (start (fields c) .args .out .now) 0 (2 ∷ start (fields c) .args .count ∷ []) (c .put-number2 .last .0) (c .put-number2 .result)
 head-put c =
     let n = fields c in
-    put-two put-none 2 (start n .args .count) (omega (arith, space (start n))) (fields-put n .1) (fields-put n .0) (count-put c .1) (count-put c .0)
+    put-two put-none 2 (start n .args .count) (omega (arith, space (start n))) (fields-put n .is) (fields-put n .ends) (count-put c .is) (count-put c .ends)
 
 head-end : (c : tie.After-put-number2 Inv-loop μ-loop)
     → (c .put-number2 .result ≡ length (numberBytes 2) + length (numberBytes (start (fields c) .args .count)))
     × (length (c .put-number2 .last .0) ≡ length (start (fields c) .args .out .now))
 head-end c =
     let n = fields c in
-    (omega (arith, fields-put n .0, count-put c .0), omega (arith, n .put-number .kept .0, c .put-number2 .kept .0))
+    (omega (arith, fields-put n .ends, count-put c .ends), omega (arith, n .put-number .kept .0, c .put-number2 .kept .0))
 
 -- the group that a turn puts is the table's
 abbrev groupOf : tie.After-group-at Inv-loop μ-loop → GroupPairs
@@ -121,8 +121,8 @@ loop-again c =
     let l = g .before in
     let q = flat-next groupNumbers (groupsOf (tableAt (l .before))) (l .before .loop .i) (groupOf g) (inside l) in (
       omega (arith, l .loop-test .taken),
-      rw (q, this g) (put-more (l .before .loop .inv .1) (groupNumbers (groupOf g)) (omega (arith, room g)) (p .put-group .ensures .1)
-          (p .put-group .ensures .0)),
+      rw (q, this g) (put-more (l .before .loop .inv .1) (groupNumbers (groupOf g)) (omega (arith, room g)) (p .put-group .ensures .is)
+          (p .put-group .ensures .ends)),
     )
 
 done : (c : tie.After-loop Inv-loop μ-loop)

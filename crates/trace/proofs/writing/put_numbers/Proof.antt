@@ -42,7 +42,7 @@ loop-again c =
     let e = put-at (omega (arith, next-fits l, put-length w (omega (arith, next-fits l)), w .ends)) (p .put-number .ensures) in (
       omega arith,
       rw (add-one, take-suc v i 0 (omega (arith, whole (l .before .before .before), l .loop-test .taken)))
-          (put-one w (getD v i 0) (omega (arith, next-fits l)) (e .1) (e .0)),
+          (put-one w (getD v i 0) (omega (arith, next-fits l)) (e .is) (e .ends)),
     )
 
 all-put : (c : tie.After-loop Inv-loop μ-loop) → c .before .loop .i ≡ c .before .before .before .args .t1 .count

@@ -1,43 +1,13 @@
 // Prints the run of the files table.bin and trace.bin of the current folder.
-ghost use Prim.Native.Nat.{_≤_};
-ghost use lib.ListN.{length};
-use libc::STDERR_FILENO;
-use libc::STDOUT_FILENO;
 use number::BytesWritten;
-use printed::text::MOST_BYTES;
 use printed::text::MOST_TEXT;
-
-// One byte more than a file may have, so that a longer file is seen to be too long.
-fn file_buffer() -> [u8; MOST_BYTES + 1] {
-    [0; MOST_BYTES + 1]
-}
+use program::file_buffer;
+use program::read_file;
+use program::write_out;
 
 // Room for every text.
 fn text_buffer() -> [u8; MOST_TEXT] {
     [0; MOST_TEXT]
-}
-
-// The front of a file, as much of it as the buffer holds. A file that can't be opened counts as empty.
-fn read_file(name: &[u8], into: &mut [u8]) -> usize
-    ensures { λ r. ⌜ r ≤ length (now (into .entry)) ⌝ }
-{
-    let fd = os::open_read(name);
-    if fd < 0 {
-        return 0;
-    }
-    let n = io::read_full(fd, into);
-    libc::close(fd);
-    n
-}
-
-// Writes all of the text to standard output; where that fails, says so on standard error, since part of the text may be lost.
-fn write_out(text: &[u8]) {
-    if !io::write_all(STDOUT_FILENO, text) {
-        io::write_all(
-            STDERR_FILENO,
-            b"play: standard output took only part of the text\n",
-        );
-    }
 }
 
 // Prints the text of both files' bytes.
@@ -45,7 +15,7 @@ fn show(table: &[u8], trace: &[u8]) {
     let mut out = text_buffer();
     let written = printed::text::print(table, trace, &mut out);
     if let BytesWritten::Bytes(n) = written {
-        write_out(&out[..n]);
+        write_out(&out[..n], b"play");
     }
 }
 

@@ -13,11 +13,11 @@ use Rattle.queue.specs.Serve.{serve}
 use Rattle.queue.specs.Write.{write}
 use Rattle.queue.specs.Take.{takeRule}
 use Rattle.replay.specs.Replay.{prepare}
-use Rattle.printed.specs.Decimal.{digitsUpTo}
-use Rattle.printed.specs.Text.{traceText, text}
+use Rattle.number.specs.Texts.{digitsUpTo}
+use Rattle.printed.specs.Files.{traceFiles, files}
 use Rattle.printed.specs.Cases.{AllCasesHold}
 
 pub all-cases-hold : AllCasesHold
-unfolding text traceText digitsUpTo prepare eventsUpTo numberUpTo bytesUpTo pairsFault seeing groupFault groupsFault tableFault readPairs
+unfolding files traceFiles digitsUpTo prepare eventsUpTo numberUpTo bytesUpTo pairsFault seeing groupFault groupsFault tableFault readPairs
     readGroup readGroups readTable readEvent readHeader sound openQueue activate give serve write takeRule
 all-cases-hold = refl

@@ -1,6 +1,7 @@
 pub mod CasesHold
 -- laws that the functions' proofs cite
-pub mod PutLaws
 pub mod LineLaws
+pub mod PlayedLaws
+pub mod FilesLaws
 pub mod TextLaws
 pub mod TextFits

@@ -1,50 +1,44 @@
 -- The lines of the printed run, piece by piece.
-use Prim.Native.Nat.{ℕ, zero, suc, _+_, _*_, _≤_, _<_}
+use Prim.Native.Nat.{ℕ, zero, suc, _+_, _*_, _/_, _%_, _^_, _≤_, _<_}
 use mathlib.Core.Path.{_≡_, refl, sym, ap, ap₂, _∙_}
 use mathlib.Core.Bool.{Bool, true, false}
 use mathlib.Core.List.{List, [], _∷_, _++_, map, append-assoc, append-nil}
 use mathlib.Core.Option.{Option, none, some}
 use native.Mathlib.Omega.{arith}
-use lib.Dec.{eqb}
-use native.Mathlib.Nat.{add-zero}
+use lib.Dec.{eqb, ltb}
+use native.Mathlib.Nat.{add-zero, zero-add}
 use native.Mathlib.Numerals.{add-one}
-use lib.ListN.{length, getD, take, length-append}
-use lib.Seq.{take-suc, length-take-le, append-snoc}
-use borrow.Author.Tests.{eq-eqb, ne-eqb}
-use Rattle.printed.specs.Decimal.{decimal}
+use lib.ListN.{length, getD, take, drop, length-append}
+use lib.Seq.{take-suc, length-take-le, append-snoc, take-at}
+use borrow.Author.Tests.{eq-eqb, ne-eqb, lt-ltb}
+use Rattle.number.specs.Texts.{bytes, digitsUpTo, decimal}
 use Rattle.number.specs.Basics.{pick}
+use Rattle.number.specs.Number.{Puts, PutIfFits}
+use Rattle.number.proofs.SpliceLaws.{splice-front}
 use Rattle.queue.specs.declared.Counts.{Counts}
 use Rattle.queue.specs.Counts.{share}
 use Rattle.replay.specs.Playing.{Logged, answerOf, givenOf, wordOf, givenIn, wordIn}
-use Rattle.printed.specs.Words.{bytes, line}
-use Rattle.printed.specs.Text.{shown, eventLine, eventLines, wordLine, wordLines, countsLine, tableFaultText, traceFaultText}
-use Rattle.printed.specs.Internal.{Puts, item, loggedAs, rows}
-use Rattle.printed.proofs.PutLaws.{puts-length, puts-puts, decimal-few}
+use Rattle.printed.specs.Words.{line}
+use Rattle.printed.specs.Text.{shown, eventLine, eventLines, wordLine, wordLines, countsLine}
+use Rattle.printed.specs.Files.{tableFaultText, traceFaultText, faultText}
+use Rattle.printed.specs.Internal.{item, loggedAs, rows}
+use Rattle.number.proofs.PutLaws.{decimal-few, digits-under}
 
--- ---- two items, one behind the other
-module _ {d : List ℕ} {p : ℕ} {xs : List ℕ} {e : ℕ} {out : List ℕ} {ys : List ℕ} {e₂ : ℕ} {out₂ : List ℕ} (w : Puts d p xs e out)
-    (v : Puts out e ys e₂ out₂) (fits : p + length xs + length ys ≤ length d) where
-  pub both : Puts d p (xs ++ ys) e₂ out₂
-  both = puts-puts w (omega arith) v
-
-  pub both-end : e₂ ≡ p + length xs + length ys
-  both-end = v .ends ∙ ap (λ (n : ℕ). n + length ys) (w .ends)
-
-  pub both-fit : p + length (xs ++ ys) ≤ length d
-  both-fit = omega (arith, length-append xs ys)
-
-  pub both-long : length out₂ ≡ length d
-  both-long = puts-length both both-fit
+-- ---- items
+pub item-few : (words : List ℕ) (n end : ℕ) → length (item words n end) ≤ length words + 21
+item-few words n end = omega (arith, length-append (words ++ decimal n) (end ∷ []), length-append words (decimal n), decimal-few n)
 
 -- what stands behind an item
 item-then : (words : List ℕ) (n end : ℕ) (ys : List ℕ) → item words n end ++ ys ≡ words ++ (decimal n ++ end ∷ ys)
 item-then words n end ys = append-snoc (words ++ decimal n) end ys ∙ append-assoc words (decimal n) (end ∷ ys)
 
 -- ---- an event's line
-pub event-value : (n answer given word : ℕ) → given ≡ 1 → (item [] n 32 ++ item [] answer 32) ++ item [] word 10 ≡ eventLine n (loggedAs answer given word)
+pub event-value : (n answer given word : ℕ) → given ≡ 1
+    → (item [] n 32 ++ item [] answer 32) ++ item [] word 10 ≡ eventLine n (loggedAs answer given word)
 event-value n answer given word h = rw (eq-eqb given 1 h) (simp append-assoc)
 
-pub event-none : (n answer given word : ℕ) → (given ≡ 1 → ⊥) → (item [] n 32 ++ item [] answer 32) ++ 45 ∷ 10 ∷ [] ≡ eventLine n (loggedAs answer given word)
+pub event-none : (n answer given word : ℕ) → (given ≡ 1 → ⊥)
+    → (item [] n 32 ++ item [] answer 32) ++ 45 ∷ 10 ∷ [] ≡ eventLine n (loggedAs answer given word)
 event-none n answer given word h = rw (ne-eqb given 1 h) (simp append-assoc)
 
 -- ---- how long a line is
@@ -78,7 +72,8 @@ events-snoc n (k ∷ ls) l =
 abbrev noRow : Logged
 noRow = record { number = 0; value = none }
 
-rows-at : (a g w : List ℕ) (i : ℕ) → i < length a → i < length g → i < length w → getD (rows a g w) i noRow ≡ loggedAs (getD a i 0) (getD g i 0) (getD w i 0)
+rows-at : (a g w : List ℕ) (i : ℕ) → i < length a → i < length g → i < length w
+    → getD (rows a g w) i noRow ≡ loggedAs (getD a i 0) (getD g i 0) (getD w i 0)
 rows-at [] g w i h k m = absurd (omega arith)
 rows-at (x ∷ a) [] w i h k m = absurd (omega arith)
 rows-at (x ∷ a) (y ∷ g) [] i h k m = absurd (omega arith)
@@ -181,3 +176,31 @@ table-line n = refl
 
 pub trace-line : (n : ℕ) → item (116 ∷ 114 ∷ 97 ∷ 99 ∷ 101 ∷ 32 ∷ []) n 10 ≡ traceFaultText n
 trace-line n = refl
+
+module _ (t : Bool) (n : ℕ) where
+  pub fault-table : t ≡ true → item (116 ∷ 97 ∷ 98 ∷ 108 ∷ 101 ∷ 32 ∷ []) n 10 ≡ faultText t n
+  fault-table h = rw h (table-line n)
+
+  pub fault-trace : t ≡ false → item (116 ∷ 114 ∷ 97 ∷ 99 ∷ 101 ∷ 32 ∷ []) n 10 ≡ faultText t n
+  fault-trace h = rw h (trace-line n)
+
+  -- a fault's number has at most three digits
+  pub fault-few : n < 256 → length (faultText t n) ≤ 10
+  fault-few h = go t
+    where
+      digits : length (decimal n) ≤ 3
+      digits = digits-under 19 2 n (omega arith)
+
+      go : (t : Bool) → length (faultText t n) ≤ 10
+      go true = omega (arith, length-append (decimal n) (10 ∷ []), digits)
+      go false = omega (arith, length-append (decimal n) (10 ∷ []), digits)
+
+-- what was put at a buffer's front stands there
+pub puts-taken : {d xs : List ℕ} {e : ℕ} {out : List ℕ} → Puts d 0 xs e out → take e out ≡ xs
+puts-taken {d} {xs} {e} w =
+    let long : length xs ≡ e = sym (w .ends ∙ zero-add (length xs)) in
+    ap (take e) (w .is ∙ splice-front d xs) ∙ take-at xs (drop (length xs) d) e long
+
+-- the same bytes, written otherwise
+pub fits-as : {d : List ℕ} {p : ℕ} {xs ys : List ℕ} {e : ℕ} {out : List ℕ} → xs ≡ ys → PutIfFits d p xs e out → PutIfFits d p ys e out
+fits-as h w = rw h at w

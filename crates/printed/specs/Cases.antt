@@ -9,7 +9,7 @@ use Rattle.table.specs.TableBytes.{readGroup, readTable}
 use Rattle.queue.specs.Ruled.{number}
 use Rattle.queue.specs.Open.{openQueue}
 use Rattle.queue.specs.Counts.{share}
-use Rattle.printed.specs.Words.{bytes}
+use Rattle.number.specs.Texts.{bytes}
 use Rattle.printed.specs.Text.{text}
 
 pub record Case : Type 0 where

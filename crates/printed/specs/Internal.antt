@@ -1,21 +1,19 @@
 -- What the crate's own functions promise each other: nothing here is promised to a caller from outside.
 use Prim.Native.Nat.{ℕ, _+_, _≤_}
 use mathlib.Core.Path.{_≡_}
+use mathlib.Core.Bool.{true}
 use mathlib.Core.List.{List, [], _∷_, _++_}
 use mathlib.Core.Option.{none, some}
 use lib.Dec.{eqb}
-use lib.ListN.{length, replicate}
-use Rattle.number.specs.Basics.{pick, splice}
+use lib.ListN.{length}
+use Rattle.number.specs.Basics.{pick}
+use Rattle.number.specs.Texts.{decimal}
 use Rattle.queue.specs.Contents.{Contents}
 use Rattle.replay.specs.Playing.{Logged}
-use Rattle.printed.specs.Decimal.{decimal}
-use Rattle.printed.specs.Text.{mostBytes}
+use Rattle.replay.specs.Replay.{Buffers, fits}
+use Rattle.printed.specs.Files.{mostBytes, mostWords}
+use Rattle.printed.specs.Played.{zeroed}
 use Rattle.printed.specs.Outcome.{mostText}
-
--- bytes put at a place of a buffer, and where they end
-pub record Puts (buffer : List ℕ) (place : ℕ) (bytes : List ℕ) (end : ℕ) (left : List ℕ) : Type 0 where
-  pub ends : end ≡ place + length bytes
-  pub is : left ≡ splice buffer place bytes
 
 -- words, a number, and the byte after it
 abbrev pub item : List ℕ → ℕ → ℕ → List ℕ
@@ -37,12 +35,21 @@ pub record RunFits (count : ℕ) (answers given values memory out : List ℕ) : 
   pub given-hold : count ≤ length given
   pub values-hold : count ≤ length values
   pub few : count ≤ mostBytes
-  pub memory-few : length memory ≤ 4096
+  pub memory-few : length memory ≤ mostWords
   pub room : mostText ≤ length out
 
--- a trace that is short enough to be played on a queue and a memory all zero, and room for its text
-pub record Printable (q : Contents) (trace memory out : List ℕ) : Type 0 where
+-- a memory and buffers that have room for every file
+pub record Room (memory : List ℕ) (b : Buffers) : Type 0 where
+  pub words : mostWords ≤ length memory
+  pub places : fits mostBytes b ≡ true
+
+-- the same, and the memory is all zero
+pub record Cleared (memory : List ℕ) (b : Buffers) : Type 0 where
+  pub room : Room memory b
+  pub zeros : memory ≡ zeroed memory
+
+-- the same, a trace that is no longer than a file, and a queue whose memory has no more words than any
+pub record Playable (q : Contents) (trace memory : List ℕ) (b : Buffers) : Type 0 where
+  pub cleared : Cleared memory b
   pub short : length trace ≤ mostBytes
-  pub memory-few : q .memoryLength ≤ 4096
-  pub zeros : memory ≡ replicate (q .memoryLength) 0
-  pub room : mostText ≤ length out
+  pub memory-few : q .memoryLength ≤ mostWords

@@ -1,7 +1,8 @@
 -- The printed run, in the order of document 01.
 pub mod Words
-pub mod Decimal
+pub mod Files
 pub mod Text
 pub mod Cases
+pub mod Played
 pub mod Outcome
 pub mod Internal

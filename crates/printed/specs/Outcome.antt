@@ -6,7 +6,8 @@ use lib.ListN.{length, drop}
 use Rattle.number.specs.Basics.{pick}
 use Rattle.number.specs.Refusal.{tooShort}
 use Rattle.number.specs.Number.{accepts, Wrote, unwritten}
-use Rattle.printed.specs.Text.{mostBytes, text}
+use Rattle.printed.specs.Files.{mostBytes}
+use Rattle.printed.specs.Text.{text}
 
 -- No text is longer (`TextFits`): an event's line takes at most 63 bytes and there are no more events than bytes, a word's line takes at
 -- most 47, and the last line at most 85.

@@ -2,24 +2,15 @@
 use Prim.Native.Nat.{ℕ, suc}
 use mathlib.Core.List.{List, [], _∷_, _++_}
 use mathlib.Core.Option.{Option, none, some}
-use lib.Dec.{eqb, ltb}
-use lib.ListN.{length, replicate}
+use lib.Dec.{eqb}
 use Rattle.number.specs.Basics.{pick}
-use Rattle.number.specs.Number.{Got, got, bad}
-use Rattle.table.specs.Group.{GroupPairs}
-use Rattle.table.specs.TableBytes.{readTable}
+use Rattle.number.specs.Texts.{bytes, decimal}
 use Rattle.queue.specs.declared.Counts.{Counts}
-use Rattle.queue.specs.Ruled.{Ruled, refuse, accept}
 use Rattle.queue.specs.Counts.{share}
 use Rattle.replay.specs.Playing.{Logged}
-use Rattle.replay.specs.Replay.{Start, prepare, Replay, replayed}
-use Rattle.printed.specs.Words.{bytes, line}
-use Rattle.printed.specs.Decimal.{decimal}
-use Rattle.number.specs.Refusal.{fileTooLong}
-
--- "each at most 16,384 bytes (else 36, checked first for that file)"
-abbrev pub mostBytes : ℕ
-mostBytes = 16384
+use Rattle.replay.specs.Replay.{Replay}
+use Rattle.printed.specs.Words.{line}
+use Rattle.printed.specs.Files.{Files, tableFault, traceFault, run, files, runOf, tableFaultText, traceFaultText}
 
 -- the value of an accepted serve or take, else `-`
 abbrev pub shown : Option ℕ → List ℕ
@@ -52,29 +43,12 @@ runText log memory c = eventLines 1 log ++ wordLines 0 memory ++ countsLine c
 abbrev pub playText : Replay → List ℕ
 playText r = runText (r .log) (r .left .machine .memory) (r .left .counts)
 
-abbrev pub noCounts : Counts
-noCounts = record { loads = 0; forwarded = 0 }
-
-abbrev pub tableFaultText : ℕ → List ℕ
-tableFaultText n = line (bytes "table") (decimal n ∷ [])
-
-abbrev pub traceFaultText : ℕ → List ℕ
-traceFaultText n = line (bytes "trace") (decimal n ∷ [])
-
--- "a fault in the trace's four leading numbers, then in opening, then in any event, found before one is played, prints
--- `trace N`"; else the events are played on a memory all zero
-abbrev pub startText : Ruled Start → List ℕ
-startText (refuse n) = traceFaultText n
-startText (accept s) = playText (replayed s (replicate (s .queue .memoryLength) 0) noCounts)
-
-unfoldable pub traceText : List GroupPairs → List ℕ → List ℕ
-traceText gs trace = pick (ltb mostBytes (length trace)) (traceFaultText fileTooLong) (startText (prepare gs trace))
-
--- "A table fault prints one line `table N`."
-abbrev pub groupsText : List ℕ → Got (List GroupPairs) → List ℕ
-groupsText trace (got gs rest) = traceText gs trace
-groupsText trace (bad n) = tableFaultText n
+-- one line for a fault, else the lines of the run
+abbrev pub filesText : Files → List ℕ
+filesText (tableFault n) = tableFaultText n
+filesText (traceFault n) = traceFaultText n
+filesText (run s) = playText (runOf s)
 
 -- the text of both files' bytes
-unfoldable pub text : List ℕ → List ℕ → List ℕ
-text table trace = pick (ltb mostBytes (length table)) (tableFaultText fileTooLong) (groupsText trace (readTable table))
+abbrev pub text : List ℕ → List ℕ → List ℕ
+text table trace = filesText (files table trace)

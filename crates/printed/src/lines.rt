@@ -2,9 +2,11 @@
 ghost use Prim.Native.Nat.{_+_, _*_, _≤_};
 ghost use lib.ListN.{length, take};
 ghost use Rattle.printed.specs.Text.{eventLine, eventLines, wordLine, wordLines, countsLine, runText};
-ghost use Rattle.printed.specs.Internal.{Puts, loggedAs, rows, RunFits};
-use crate::put::put_bytes;
+ghost use Rattle.number.specs.Number.{Puts, PutIfFits};
+ghost use Rattle.printed.specs.Files.{faultText};
+ghost use Rattle.printed.specs.Internal.{item, loggedAs, rows, RunFits};
 use crate::put::put_item;
+use number::texts::put_bytes;
 use queue::Counts;
 use queue::counting::share;
 
@@ -23,7 +25,8 @@ fn put_event(out: &mut [u8], at: usize, number: u64, answer: u8, given: u8, word
 
 // Puts the lines of the first events, from what a replay put down of them.
 fn put_events(out: &mut [u8], answers: &[u8], given: &[u8], values: &[u32], count: usize) -> usize
-    requires { ⌜ (count ≤ length (now answers)) × (count ≤ length (now given)) × (count ≤ length (now values)) × (63 * count ≤ length (now out)) ⌝ }
+    requires { ⌜ (count ≤ length (now answers)) × (count ≤ length (now given)) × (count ≤ length (now values))
+        × (63 * count ≤ length (now out)) ⌝ }
     ensures { λ r. ⌜ Puts (now (out .entry)) 0 (eventLines 1 (take count (rows (now (answers .entry)) (now (given .entry)) (now (values .entry)))))
         r (now (out .exit)) ⌝ }
 {
@@ -89,4 +92,30 @@ pub(crate) fn put_run(
     let place = put_events(out, answers, given, values, count);
     let place = put_words(out, place, memory);
     put_counts(out, place, counts)
+}
+
+// Room for the longest line of a fault.
+fn no_line() -> [u8; 32] {
+    [0; 32]
+}
+
+// Puts a word and a number as a line at a buffer's front, where it fits.
+fn put_line(out: &mut [u8], word: &[u8], number: u8) -> usize
+    requires { ⌜ length (now word) ≤ 11 ⌝ }
+    ensures { λ r. ⌜ PutIfFits (now (out .entry)) 0 (item (now (word .entry)) number 10) r (now (out .exit)) ⌝ }
+{
+    let mut line = no_line();
+    let end = put_item(&mut line, 0, word, number as u64, 10);
+    put_bytes(out, 0, &line[..end])
+}
+
+// Puts the line of a fault, of the table or of the trace, at a buffer's front, and says where it ends; where it does not fit,
+// nothing is put. No such line is longer than 10 bytes (`fault-few`).
+pub fn put_fault(out: &mut [u8], of_table: bool, number: u8) -> usize
+    ensures { λ r. ⌜ PutIfFits (now (out .entry)) 0 (faultText «of_table» number) r (now (out .exit)) ⌝ }
+{
+    if of_table {
+        return put_line(out, b"table ", number);
+    }
+    put_line(out, b"trace ", number)
 }

@@ -1,23 +1,10 @@
 // Putting bytes at a place of a buffer where they fit. Each function says where they end.
 ghost use Prim.Native.Nat.{_+_, _≤_, _<_};
 ghost use lib.ListN.{length};
-ghost use Rattle.printed.specs.Decimal.{digitsUpTo, decimal};
-ghost use Rattle.printed.specs.Internal.{Puts, item};
-
-// Puts some bytes.
-pub(crate) fn put_bytes(out: &mut [u8], at: usize, bytes: &[u8]) -> usize
-    requires { ⌜ at + length (now bytes) ≤ length (now out) ⌝ }
-    ensures { λ r. ⌜ Puts (now (out .entry)) at (now (bytes .entry)) r (now (out .exit)) ⌝ }
-{
-    let mut place = at;
-    let mut i: usize = 0;
-    while i < bytes.len() {
-        out[place] = bytes[i];
-        place += 1;
-        i += 1;
-    }
-    place
-}
+ghost use Rattle.number.specs.Texts.{digitsUpTo};
+ghost use Rattle.number.specs.Number.{Puts};
+ghost use Rattle.printed.specs.Internal.{item};
+use number::texts::put_bytes;
 
 // Puts a number's digits: one, and up to `more` before it.
 fn put_digits(out: &mut [u8], at: usize, n: u64, more: u32) -> usize

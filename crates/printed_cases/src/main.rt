@@ -7,7 +7,7 @@ mod texts;
 
 use crate::files::Lengths;
 use libc::STDIN_FILENO;
-use printed::text::MOST_BYTES;
+use printed::files::MOST_BYTES;
 use script::Bytes;
 use script::bytes_of;
 use script::is_text;

@@ -22,7 +22,7 @@ use Rattle.queue.specs.Outcome.{valueIn}
 use Rattle.number.proofs.Both.{and-left, and-right}
 use Rattle.replay.specs.declared.Replayed.{Replayed}
 use Rattle.replay.specs.Events.{eventsFrom}
-use Rattle.replay.specs.Playing.{Playing, playing, stepOf, Logged, logged, log, playedAll, answerOf, givenOf, wordOf}
+use Rattle.replay.specs.Playing.{Playing, playing, played, stepOf, Logged, logged, log, playedAll, answerOf, givenOf, wordOf}
 use Rattle.replay.specs.Replay.{Start, prepare, replayed, Buffers, fits, replayStart, replayFrom, replay}
 use Rattle.replay.specs.Outcome.{atFront, logIn, Unreplayed, ReplayedWell, Replays}
 use Rattle.replay.specs.Internal.{Plays, PutAnswer, Playable, eventsIn, through}
@@ -30,6 +30,11 @@ use Rattle.trace.proofs.TraceSteps.{EventGot}
 
 abbrev pub buffers : List ℕ → List ℕ → List ℕ → Buffers
 buffers a g w = record { answers = a; given = g; values = w }
+
+-- as many answers as events
+pub log-many : (p : Playing) (es : List Event) → length (log p es) ≡ length es
+log-many p [] = refl
+log-many p (e ∷ es) = ap suc (log-many (played p e) es)
 
 -- one number more behind those at a buffer's front
 over-more : (f : Logged → ℕ) (done : List Logged) (l : Logged) (d : List ℕ) (i : ℕ) → length done ≡ i → i < length d
@@ -84,12 +89,12 @@ walk-none {p₀ = p₀} {b₀} w = record {
 }
 
 -- the next event is one of those that are left
-record Next (s : List ℕ) (next : ℕ) (left : List Event) (e : Event) : Type 0 where
+pub record Next (s : List ℕ) (next : ℕ) (left : List Event) (e : Event) : Type 0 where
   pub rest : List Event
   pub is : left ≡ e ∷ rest
   pub reads : eventsFrom s next ≡ got rest []
 
-next-left : {s : List ℕ} {place next : ℕ} {e : Event} (left : List Event) → eventsFrom s place ≡ got left [] → EventGot s place e next → Next s next left e
+pub next-left : {s : List ℕ} {place next : ℕ} {e : Event} (left : List Event) → eventsFrom s place ≡ got left [] → EventGot s place e next → Next s next left e
 next-left {s} {place} {next} {e} left reads g = go (eventsFrom s next) refl
   where
     go : (h : Got (List Event)) → eventsFrom s next ≡ h → Next s next left e

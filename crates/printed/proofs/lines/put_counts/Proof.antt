@@ -2,8 +2,8 @@ use native.Mathlib.Omega.{arith}
 use lib.ListN.{length-append}
 use Rattle.queue.specs.Counts.{share}
 use Rattle.printed.specs.Internal.{item}
-use Rattle.printed.proofs.PutLaws.{puts-as, puts-length, item-few}
-use Rattle.printed.proofs.LineLaws.{both, both-end, both-long, loadsSpace, forwardedSpace, shareSpace, counts-line}
+use Rattle.number.proofs.PutLaws.{puts-as, puts-length, both, both-end, both-long}
+use Rattle.printed.proofs.LineLaws.{item-few, loadsSpace, forwardedSpace, shareSpace, counts-line}
 use borrow.Author.Needs.{needs}
 use Rattle.printed.proofs.lines.put_counts.Statement.{statement}
 use Rattle.printed.proofs.lines.put_counts.Tie as tie

@@ -4,8 +4,9 @@ use native.Mathlib.Omega.{arith}
 use borrow.Author.Needs.{needs}
 use lib.ListN.{length, length-append}
 use Rattle.printed.specs.Internal.{item}
-use Rattle.printed.proofs.PutLaws.{puts-as, puts-length, item-few}
-use Rattle.printed.proofs.LineLaws.{both, both-end, both-long, event-value, event-none}
+use Rattle.number.proofs.SpliceLaws.{put-at}
+use Rattle.number.proofs.PutLaws.{puts-as, puts-length, both, both-end, both-long}
+use Rattle.printed.proofs.LineLaws.{item-few, event-value, event-none}
 use Rattle.printed.proofs.lines.put_event.Statement.{statement}
 use Rattle.printed.proofs.lines.put_event.Tie as tie
 
@@ -44,15 +45,6 @@ returns c =
     (both (both w v (omega arith)) (c .before .before .put-item3 .ensures)
     (omega (arith, h, item-few [] (s .word) 10, length-append (item [] (s .number) 32) (item [] (s .answer) 32))))
 
-put-bytes-requires : tie.Need-put-bytes-requires
-put-bytes-requires c κs =
-    let k = c .before .before .before in
-    let w = k .before .before .before .before .before .before .before .put-item .ensures in
-    let v = k .before .before .put-item2 .ensures in
-    let s = k .before .before .before .before .before .before .before .before .before .before .before .args in
-    let h = fits k in
-    omega (arith, h, both-end w v (omega arith), both-long w v (omega arith))
-
 returns-2 : tie.Need-returns-2
 returns-2 c =
     let k = c .before .before .before .before .before .before in
@@ -60,9 +52,9 @@ returns-2 c =
     let v = k .before .before .put-item2 .ensures in
     let s = k .before .before .before .before .before .before .before .before .before .before .before .args in
     let h = fits k in
+    let end = put-at (omega (arith, h, both-end w v (omega arith), both-long w v (omega arith))) (c .before .before .put-bytes .ensures) in
     puts-as (event-none (s .number) (s .answer) (s .given) (s .word) (c .before .before .before .before .before .if1 .left))
-    (both (both w v (omega arith)) (c .before .before .put-bytes .ensures)
-    (omega (arith, h, length-append (item [] (s .number) 32) (item [] (s .answer) 32))))
+    (both (both w v (omega arith)) end (omega (arith, h, length-append (item [] (s .number) 32) (item [] (s .answer) 32))))
 
 pub put-event-spec : {M : Type 1} → statement M
 put-event-spec =
@@ -77,6 +69,6 @@ put-event-spec =
     (λ c. search needs)
     returns
     (λ c. search needs)
-    put-bytes-requires
+    (λ c κs. search needs)
     (λ c. search needs)
     returns-2)

@@ -3,8 +3,9 @@ use mathlib.Core.Path.{_≡_}
 use native.Mathlib.Omega.{arith}
 use lib.ListN.{take}
 use Rattle.printed.specs.Text.{eventLines}
-use Rattle.printed.specs.Internal.{Puts, rows}
-use Rattle.printed.proofs.PutLaws.{puts-none, puts-as, puts-length, puts-puts}
+use Rattle.number.specs.Number.{Puts}
+use Rattle.printed.specs.Internal.{rows}
+use Rattle.number.proofs.PutLaws.{puts-none, puts-as, puts-length, puts-puts}
 use Rattle.printed.proofs.LineLaws.{rows-text-few, rows-next}
 use borrow.Author.Needs.{needs}
 use Rattle.printed.proofs.lines.put_events.Statement.{statement}
@@ -77,7 +78,8 @@ same-length c =
 
 returns : tie.Need-returns Inv-loop μ-loop
 returns c =
-    let e : c .before .loop .i ≡ c .before .before .before .before .before .before .args .count = omega (arith, c .loop-test .left, c .before .loop .inv .0) in
+    let s = c .before .before .before .before .before .before in
+    let e : c .before .loop .i ≡ s .args .count = omega (arith, c .loop-test .left, c .before .loop .inv .0) in
     rw e at (c .before .loop .inv .1)
 
 pub put-events-spec : {M : Type 1} → statement M

@@ -4,8 +4,8 @@ use native.Mathlib.Omega.{arith}
 use lib.ListN.{length, take, length-append}
 use Rattle.printed.specs.Text.{eventLines, wordLines}
 use Rattle.printed.specs.Internal.{rows}
-use Rattle.printed.proofs.PutLaws.{puts-length, puts-puts}
-use Rattle.printed.proofs.LineLaws.{both, both-end, both-long, rows-text-few, words-few}
+use Rattle.number.proofs.PutLaws.{puts-length, puts-puts, both, both-end, both-long}
+use Rattle.printed.proofs.LineLaws.{rows-text-few, words-few}
 use borrow.Author.Needs.{needs}
 use Rattle.printed.proofs.lines.put_run.Statement.{statement}
 use Rattle.printed.proofs.lines.put_run.Tie as tie

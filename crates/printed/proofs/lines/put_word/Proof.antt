@@ -1,7 +1,7 @@
 use mathlib.Core.Path.{sym}
 use native.Mathlib.Omega.{arith}
-use Rattle.printed.proofs.PutLaws.{puts-none, puts-as, puts-length, puts-puts, item-few}
-use Rattle.printed.proofs.LineLaws.{wordSpace, word-zero, word-some}
+use Rattle.number.proofs.PutLaws.{puts-none, puts-as, puts-length, puts-puts}
+use Rattle.printed.proofs.LineLaws.{item-few, wordSpace, word-zero, word-some}
 use borrow.Author.Needs.{needs}
 use Rattle.printed.proofs.lines.put_word.Statement.{statement}
 use Rattle.printed.proofs.lines.put_word.Tie as tie

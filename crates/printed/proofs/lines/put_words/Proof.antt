@@ -3,8 +3,8 @@ use native.Mathlib.Omega.{arith}
 use lib.ListN.{length, take}
 use lib.Seq.{take-all}
 use Rattle.printed.specs.Text.{wordLines}
-use Rattle.printed.specs.Internal.{Puts}
-use Rattle.printed.proofs.PutLaws.{puts-none, puts-as, puts-length, puts-puts}
+use Rattle.number.specs.Number.{Puts}
+use Rattle.number.proofs.PutLaws.{puts-none, puts-as, puts-length, puts-puts}
 use Rattle.printed.proofs.LineLaws.{words-text-few, words-next}
 use mathlib.Core.Path.{ap}
 use borrow.Author.Needs.{needs}

@@ -7,8 +7,8 @@ use lib.ListN.{length, length-set}
 use borrow.Author.Needs.{needs}
 use borrow.Fn.Kinds.{In}
 use borrow.Fn.PlainCycle.{Measures, is, falls, and}
-use Rattle.printed.specs.Decimal.{digitsUpTo}
-use Rattle.printed.proofs.PutLaws.{puts-none, puts-as, puts-length, put-byte, digits-zero, digits-one, digits-more, digits-room}
+use Rattle.number.specs.Texts.{digitsUpTo}
+use Rattle.number.proofs.PutLaws.{puts-none, puts-as, puts-length, put-byte, digits-zero, digits-one, digits-more, digits-room}
 use Rattle.printed.proofs.put.put_digits.Reads as reads
 use Rattle.printed.proofs.put.put_digits.Kinds as kinds
 use Rattle.printed.proofs.put.+put_digits.Lts-put_digits as lts

@@ -1,8 +1,8 @@
 /* Runs the loop h[x[i]] += 1 on a live queue: a group of a load and a store is
  * activated for each i, addresses and data arrive call by call, and whatever is
  * ready is served or written. Midway the queue is saved to a file, forgotten,
- * and read back. Prints what came out; exits with 1 where it is not what the
- * plain loop gives. */
+ * and read back. Prints what came out, and the page of what was taken; exits
+ * with 1 where it is not what the plain loop gives. */
 #include <inttypes.h>
 #include <stdio.h>
 #include <stdlib.h>
@@ -24,6 +24,7 @@ struct loop {
     lsq_queue queue;
     uint32_t h[WORDS];
     lsq_counts counts;
+    lsq_shift_record taken;
     /* Iterations that were activated, got their addresses, got their data. */
     uint32_t activated, addressed, added;
 };
@@ -77,7 +78,7 @@ static void serve_ready(struct loop *loop)
 static void add(struct loop *loop)
 {
     for (;; loop->added++) {
-        uint32_t value, answer = lsq_take(&loop->queue, 0, &value);
+        uint32_t value, answer = lsq_take_recorded(&loop->queue, &loop->taken, 0, &value);
         if (answer == LSQ_NONE_UNTAKEN || answer == LSQ_NOT_SERVED)
             return;
         must(answer, "take");
@@ -130,6 +131,13 @@ static void run(struct loop *loop)
     }
 }
 
+static void print_page(lsq_shift_record taken)
+{
+    uint8_t page[LSQ_PAGE_BYTES];
+    must(lsq_page(taken, page, sizeof page).answer, "page");
+    fwrite(page, 1, sizeof page, stdout);
+}
+
 int main(void)
 {
     struct loop loop;
@@ -147,5 +155,7 @@ int main(void)
            loop.counts.forwarded, share);
     int same = memcmp(loop.h, plain, sizeof plain) == 0;
     printf("%s the plain loop gives\n", same ? "as" : "not as");
-    return same && loop.counts.loads == ITERATIONS && loop.counts.forwarded > 0 ? 0 : 1;
+    print_page(loop.taken);
+    return same && loop.counts.loads == ITERATIONS && loop.counts.forwarded > 0
+        && loop.taken.takes[0] == ITERATIONS ? 0 : 1;
 }

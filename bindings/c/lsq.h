@@ -1,8 +1,8 @@
 /* The group-allocated load-store queue: the functions of two libraries, which
  * `rt staticlib exports` and `rt staticlib live` write to target/staticlib/, and
  * a live queue on top. libexports.a has the replays, the text and the share;
- * liblive.a the calls on a queue, and tables, numbers and events as bytes. A
- * program links those that it calls.
+ * liblive.a the calls on a queue, the shift record and its page, and tables,
+ * numbers and events as bytes. A program links those that it calls.
  *
  * What is proved, and what is not. Every function that is declared here and
  * not defined is one of the libraries': its whole outcome, for whatever it is
@@ -40,6 +40,10 @@ extern "C" {
 /* The least length of the text buffer of lsq_text: no text is longer. */
 #define LSQ_TEXT_BYTES 1224789
 
+/* The length of every shift page, and the least length of the buffer of
+ * lsq_page. */
+#define LSQ_PAGE_BYTES 1394
+
 /* Answers of the functions below, and of a replay's events. */
 enum lsq_answer {
     LSQ_ACCEPTED = 0,
@@ -74,7 +78,8 @@ enum lsq_answer {
     LSQ_NOT_SERVED = 34,            /* the port's oldest untaken load is unserved */
     LSQ_KIND = 35,                  /* an event's kind is above 6 */
     LSQ_FILE_TOO_LONG = 36,         /* above 16,384 bytes; in the text of lsq_text alone */
-    LSQ_UNSOUND = 40                /* no right queue: see lsq_sound_in */
+    LSQ_UNSOUND = 40,               /* no right queue: see lsq_sound_in */
+    LSQ_PAGE_TOO_SHORT = 41         /* a page buffer has fewer than 1,394 bytes */
 };
 
 /* 0 where the bytes spell a right table, else 1 to 9. */
@@ -113,6 +118,32 @@ uint32_t lsq_replay(const uint8_t *table, size_t table_len,
                     uint8_t *answers, size_t answers_len,
                     uint8_t *given, size_t given_len,
                     uint32_t *values, size_t values_len);
+
+/* What was taken at each of the load ports 0 to 31: how many takes were
+ * accepted, a count that stops at 4294967295, and the last value. A record of no
+ * take is 0 in every field; a record may come from anywhere and hold anything. */
+typedef struct lsq_shift_record {
+    uint32_t takes[32], values[32];
+} lsq_shift_record;
+
+/* What a replay that keeps a record answers: what lsq_replay answers, and the
+ * record that the takes leave. */
+typedef struct lsq_replayed {
+    uint32_t answer;
+    lsq_shift_record kept;
+} lsq_replayed;
+
+/* Plays the trace as lsq_replay does, and keeps the record of what it takes,
+ * going on from the one that is handed in. A refused replay hands back the very
+ * record. */
+lsq_replayed lsq_replay_recorded(const uint8_t *table, size_t table_len,
+                                 const uint8_t *trace, size_t trace_len,
+                                 uint32_t *memory, size_t memory_len,
+                                 uint32_t *counts, size_t counts_len,
+                                 uint8_t *answers, size_t answers_len,
+                                 uint8_t *given, size_t given_len,
+                                 uint32_t *values, size_t values_len,
+                                 lsq_shift_record kept);
 
 /* Thousandths of the loads that were forwarded, to the nearest, half going up;
  * 0 for no loads. */
@@ -168,6 +199,19 @@ lsq_written lsq_write_number(uint32_t value, uint8_t *out, size_t out_len);
  * with one number the second is not looked at. */
 lsq_written lsq_write_event(uint32_t kind, uint32_t first, uint32_t second,
                             uint8_t *out, size_t out_len);
+
+/* ---- The shift record, and its page ---- */
+
+/* The record once this value was taken at this port: the port's count is one
+ * more, if it has not stopped, and its value is this one. A port above 31
+ * changes nothing. */
+lsq_shift_record lsq_recorded(lsq_shift_record kept, uint32_t port, uint32_t value);
+
+/* Writes the page of a record at the front of out: 41. It is LSQ_PAGE_BYTES bytes
+ * of text: the lines LOAD PORTS, one for each port, and END. A port stands in
+ * columns 1 to 2, its accepted takes in 7 to 16 and the last value taken in 31
+ * to 40, right-aligned; a port with no take shows 0 and 0. */
+lsq_written lsq_page(lsq_shift_record kept, uint8_t *out, size_t out_len);
 
 /* ---- A queue, and the library's calls on it ---- */
 
@@ -315,9 +359,9 @@ typedef struct lsq_queue {
 } lsq_queue;
 
 /* Each of these but lsq_sound answers 0 or the refusal number of the call that
- * it stands on. A refusal leaves *q, *value, *counts, *count, memory and out as they were.
- * Besides what every call is owed, q points to an lsq_queue, and nothing else
- * that is handed over lies inside it. */
+ * it stands on. A refusal leaves *q, *value, *counts, *kept, *count, memory and
+ * out as they were. Besides what every call is owed, q points to an lsq_queue,
+ * and nothing else that is handed over lies inside it. */
 
 /* An accepted opening sets every field of *q, so that it can be saved. */
 static inline uint32_t lsq_open(lsq_queue *q, const uint8_t *table, size_t table_len,
@@ -397,6 +441,17 @@ static inline uint32_t lsq_take(lsq_queue *q, uint32_t port, uint32_t *value)
     if (step.answer == LSQ_ACCEPTED)
         *value = step.value;
     return lsq_follow(q, &step);
+}
+
+/* Takes as lsq_take does. An accepted take changes the port's two numbers in the
+ * record, and no others. */
+static inline uint32_t lsq_take_recorded(lsq_queue *q, lsq_shift_record *kept, uint32_t port,
+                                         uint32_t *value)
+{
+    uint32_t answer = lsq_take(q, port, value);
+    if (answer == LSQ_ACCEPTED)
+        *kept = lsq_recorded(*kept, port, *value);
+    return answer;
 }
 
 static inline uint32_t lsq_ready_loads(const lsq_queue *q, uint32_t *out, size_t out_len,
@@ -530,6 +585,10 @@ LSQ_HOLDS(sizeof(lsq_step) == 28);
 LSQ_HOLDS(sizeof(lsq_service) == 20);
 LSQ_HOLDS(sizeof(lsq_listed) == 16);
 LSQ_HOLDS(sizeof(lsq_written) == 16);
+LSQ_HOLDS(sizeof(lsq_shift_record) == 256);
+LSQ_HOLDS(offsetof(lsq_shift_record, values) == 128);
+LSQ_HOLDS(sizeof(lsq_replayed) == 260);
+LSQ_HOLDS(offsetof(lsq_replayed, kept) == 4);
 LSQ_HOLDS(sizeof(lsq_queue) == 1240);
 LSQ_HOLDS(offsetof(lsq_queue, loads) == 216);
 LSQ_HOLDS(offsetof(lsq_queue, stores) == 728);

@@ -1,5 +1,6 @@
 /* The inline functions of lsq.h under names that can be linked to, so that they
- * can be held to the reference as the library's own are. */
+ * can be held to the reference as the library's own are; and the functions of the
+ * shift record, so that C hands one over by value and gets one back. */
 #include "lsq.h"
 
 uint32_t header_open(lsq_queue *q, const uint8_t *table, size_t table_len, uint32_t load_depth,
@@ -47,6 +48,21 @@ uint32_t header_write(lsq_queue *q, uint32_t *memory, size_t memory_len, uint32_
 uint32_t header_take(lsq_queue *q, uint32_t port, uint32_t *value)
 {
     return lsq_take(q, port, value);
+}
+
+uint32_t header_take_recorded(lsq_queue *q, lsq_shift_record *kept, uint32_t port, uint32_t *value)
+{
+    return lsq_take_recorded(q, kept, port, value);
+}
+
+lsq_shift_record header_recorded(lsq_shift_record kept, uint32_t port, uint32_t value)
+{
+    return lsq_recorded(kept, port, value);
+}
+
+lsq_written header_page(lsq_shift_record kept, uint8_t *out, size_t out_len)
+{
+    return lsq_page(kept, out, out_len);
 }
 
 uint32_t header_ready_loads(const lsq_queue *q, uint32_t *out, size_t out_len, size_t *count)

@@ -7,7 +7,7 @@ use lsq_ref::number::write_numbers;
 use lsq_ref::play::MAX_FILE;
 use lsq_ref::replay::{event_count, trace_fault};
 use lsq_ref::rng::Rng;
-use lsq_ref::Table;
+use lsq_ref::{ShiftRecord, Table};
 
 use crate::buffers::{Buffers, Lengths};
 
@@ -103,6 +103,8 @@ pub struct Case {
     pub buffers: Buffers,
     /// Whether the text buffer is one byte too short.
     pub short_text: bool,
+    /// The record that a replay goes on from, with any numbers.
+    pub kept: ShiftRecord,
 }
 
 impl Case {
@@ -130,6 +132,7 @@ impl Case {
             trace,
             buffers: Buffers::random(&mut rng, lengths),
             short_text: rng.chance(1, 16),
+            kept: gen::shift_record(&mut rng),
         }
     }
 }

@@ -5,14 +5,15 @@ use std::fmt::{Debug, Display};
 use lsq::{Buffer, Error, TEXT_BYTES};
 use lsq_ref::gen;
 use lsq_ref::play::play;
-use lsq_ref::replay::{self, replay_watched};
+use lsq_ref::replay::{self, replay_recorded_watched, replay_watched};
 use lsq_ref::rng::Rng;
 use lsq_ref::Counts;
 
 use crate::buffers::{Buffers, Guarded};
 use crate::cases::{Case, Kind};
+use crate::shift::{library_record, same_record};
 use crate::subject::Subject;
-use crate::tally::Tally;
+use crate::tally::{Takes, Tally};
 
 /// What differs, in words.
 #[derive(Clone, Debug, PartialEq, Eq)]
@@ -50,6 +51,7 @@ impl<'a, S: Subject> Comparer<'a, S> {
         self.faults(&case.table, &case.trace)?;
         self.damaged(case, tally)?;
         let played = self.replay(case, tally)?;
+        self.replay_recorded(case, tally)?;
         self.shares(case, &played)?;
         self.text(case, tally)
     }
@@ -106,6 +108,25 @@ impl<'a, S: Subject> Comparer<'a, S> {
         same("lsq_replay", u32::from(answer), found)?;
         same_buffers("lsq_replay", &expected, &buffers)?;
         Ok(expected)
+    }
+
+    /// The same with a record, which a refused replay hands back as it is.
+    fn replay_recorded(&self, case: &Case, tally: &mut Tally) -> Result<(), Difference> {
+        let Case { table, trace, .. } = case;
+        let (mut expected, mut kept) = (case.buffers.clone(), case.kept);
+        let mut takes = Takes::default();
+        let watch = |_: &_, event: &_, outcome: Result<_, _>| takes.note(event, outcome.is_ok());
+        let lent = expected.lend();
+        let played = replay_recorded_watched::<true>(table, trace, lent, &mut kept, watch);
+        tally.recorded(case, played.is_ok(), &takes);
+        let mut buffers = case.buffers.clone();
+        let lent = buffers.lend();
+        let handed = library_record(&case.kept);
+        let found = self.subject.replay_recorded(table, trace, lent, handed);
+        let answer = played.err().unwrap_or(0);
+        same("lsq_replay_recorded", u32::from(answer), found.answer)?;
+        same_buffers("lsq_replay_recorded", &expected, &buffers)?;
+        same_record("lsq_replay_recorded", &kept, &found.kept)
     }
 
     fn shares(&self, case: &Case, played: &Buffers) -> Result<(), Difference> {
@@ -167,7 +188,22 @@ pub fn wrapper(case: &Case) -> Result<(), Difference> {
         Err(refusal) => Err(Error::Refused(refusal.into())),
     };
     same_shown("the wrapper's replay", &outcome, &result)?;
-    same_buffers("the wrapper's replay", &expected, &found)
+    same_buffers("the wrapper's replay", &expected, &found)?;
+    wrapper_recorded(case, &outcome)
+}
+
+/// The same of the replay that keeps the record.
+fn wrapper_recorded(case: &Case, outcome: &Result<usize, Error>) -> Result<(), Difference> {
+    let Case { table, trace, .. } = case;
+    let (mut expected, mut kept) = (case.buffers.clone(), case.kept);
+    // Its answer is that of the replay without a record, which was compared.
+    let _ = replay::replay_recorded::<true>(table, trace, expected.lend(), &mut kept);
+    let (mut found, mut record) = (case.buffers.clone(), library_record(&case.kept));
+    let result = lsq::replay_recorded(table, trace, found.lend_to_wrapper(), &mut record);
+    let what = "the wrapper's replay with a record";
+    same_shown(what, outcome, &result)?;
+    same_buffers(what, &expected, &found)?;
+    same_record(what, &kept, &record)
 }
 
 /// The wrong length that the wrapper names first.

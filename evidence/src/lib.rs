@@ -11,6 +11,7 @@ pub mod clock;
 pub mod compare;
 pub mod live;
 pub mod program;
+pub mod shift;
 pub mod subject;
 pub mod tally;
 pub mod timing;

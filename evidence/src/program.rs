@@ -1,4 +1,4 @@
-//! The program `play` on files, held to the reference's text.
+//! The programs `play` and `page` on files, held to the reference's texts.
 
 use std::ffi::OsStr;
 use std::path::{Path, PathBuf};
@@ -6,7 +6,7 @@ use std::process::Command;
 use std::{env, fs, io};
 
 use lsq_ref::gen;
-use lsq_ref::play::{play, MAX_FILE};
+use lsq_ref::play::{page, play, MAX_FILE};
 use lsq_ref::rng::Rng;
 
 use crate::cases::Case;
@@ -58,47 +58,79 @@ struct Files {
     trace: Found,
 }
 
-/// `target/bin/play` of the repository, or the program that LSQ_PLAY names.
-///
-/// # Errors
-/// Where it is missing, so that no run passes over it.
-pub fn built() -> Result<PathBuf, String> {
-    let default = || Path::new(env!("CARGO_MANIFEST_DIR")).join("../target/bin/play");
-    let named = env::var_os("LSQ_PLAY").map_or_else(default, PathBuf::from);
-    let program = named.canonicalize().ok().filter(|path| path.is_file());
-    let shown = named.display();
-    let words = || format!("{shown} is missing: `rt check play` builds target/bin/play");
-    program.ok_or_else(words)
+/// What a program prints for the bytes of two files, of which each may be none.
+type Text = fn(Option<&[u8]>, Option<&[u8]>) -> Vec<u8>;
+
+/// A program that reads `table.bin` and `trace.bin` of the current folder.
+pub struct Program {
+    /// Its name in `target/bin`.
+    pub name: &'static str,
+    /// What names another one.
+    variable: &'static str,
+    /// What the reference prints for two files.
+    text: Text,
 }
 
-/// Runs the program on files of special lengths, and on the files of some
-/// cases as they are and damaged; gives the number of runs.
+/// Prints a run.
+pub const PLAY: Program = Program {
+    name: "play",
+    variable: "LSQ_PLAY",
+    text: |table, trace| play(table, trace).into_bytes(),
+};
+
+/// Prints the shift page after a run.
+pub const PAGE: Program = Program {
+    name: "page",
+    variable: "LSQ_PAGE",
+    text: page,
+};
+
+impl Program {
+    /// The program of the repository's `target/bin`, or the one that LSQ_PLAY or
+    /// LSQ_PAGE names.
+    ///
+    /// # Errors
+    /// Where it is missing, so that no run passes over it.
+    pub fn built(&self) -> Result<PathBuf, String> {
+        let Self { name, variable, .. } = self;
+        let folder = Path::new(env!("CARGO_MANIFEST_DIR")).join("../target/bin");
+        let named = env::var_os(variable).map_or_else(|| folder.join(name), PathBuf::from);
+        let built = named.canonicalize().ok().filter(|path| path.is_file());
+        let shown = named.display();
+        let words = || format!("{shown} is missing: `rt check {name}` builds target/bin/{name}");
+        built.ok_or_else(words)
+    }
+}
+
+/// Runs the program at this path on files of special lengths, and on the files
+/// of some cases as they are and damaged; gives the number of runs.
 ///
 /// # Errors
 /// The first difference, or what kept the program from running.
-pub fn compare(program: &Path, seed: u64, cases: u64) -> Result<usize, Difference> {
-    let folder = env::temp_dir().join(format!("lsq-play-{}", std::process::id()));
+pub fn compare(program: &Program, path: &Path, seed: u64, cases: u64) -> Result<usize, Difference> {
+    let named = format!("lsq-{}-{}", program.name, std::process::id());
+    let runner = Runner {
+        program,
+        path,
+        folder: env::temp_dir().join(named),
+    };
     let special = special(seed);
     let mut runs = special.len();
-    let mut compared = special
+    special
         .iter()
-        .try_for_each(|files| compare_one(program, &folder, files))
-        .map_err(|difference| in_files(seed, "special lengths", &difference));
+        .try_for_each(|files| runner.compare(files))
+        .map_err(|difference| in_files(seed, "special lengths", &difference))?;
     for case in (seed..seed + cases).map(Case::new) {
-        let pairs = [("as it is", whole(&case)), ("damaged", damaged(&case))];
-        runs += pairs.len();
-        let each = |(state, files): &(&str, Files)| {
-            compare_one(program, &folder, files)
-                .map_err(|difference| in_files(case.seed, state, &difference))
-        };
-        compared = compared.and_then(|()| pairs.iter().try_for_each(each));
+        for (state, files) in [("as it is", whole(&case)), ("damaged", damaged(&case))] {
+            let compared = runner.compare(&files);
+            compared.map_err(|difference| in_files(case.seed, state, &difference))?;
+            runs += 1;
+        }
     }
-    if compared.is_ok() {
-        // The last pair stays where there is a difference.
-        let removed = fs::remove_dir_all(&folder);
-        removed.map_err(|error| Difference(format!("{}: {error}", folder.display())))?;
-    }
-    compared.map(|()| runs)
+    // The last pair stays where there is a difference.
+    let removed = fs::remove_dir_all(&runner.folder);
+    removed.map_err(|error| Difference(format!("{}: {error}", runner.folder.display())))?;
+    Ok(runs)
 }
 
 fn in_files(seed: u64, state: &str, Difference(words): &Difference) -> Difference {
@@ -177,38 +209,59 @@ fn with_takes(trace: &[u8], length: usize) -> Vec<u8> {
     bytes
 }
 
-fn compare_one(program: &Path, folder: &Path, files: &Files) -> Result<(), Difference> {
-    let Files { table, trace } = files;
-    let printed = run(program, folder, files);
-    let printed = printed.map_err(|error| Difference(format!("running play: {error}")))?;
-    let expected = play(table.bytes(), trace.bytes());
-    if printed == expected.as_bytes() {
-        return Ok(());
-    }
-    Err(Difference(format!(
-        "play on a table ({}) and a trace ({}), kept in {}: reference {:?}.., program {:?}..",
-        table.named(),
-        trace.named(),
-        folder.display(),
-        expected.chars().take(60).collect::<String>(),
-        String::from_utf8_lossy(&printed)
-            .chars()
-            .take(60)
-            .collect::<String>(),
-    )))
+/// A program, where it is, and the folder in which it is run.
+struct Runner<'a> {
+    program: &'a Program,
+    path: &'a Path,
+    folder: PathBuf,
 }
 
-/// What the program prints in a fresh folder with these files.
-fn run(program: &Path, folder: &Path, files: &Files) -> io::Result<Vec<u8>> {
-    let _ = fs::remove_dir_all(folder);
-    fs::create_dir_all(folder)?;
-    let named = [("table.bin", &files.table), ("trace.bin", &files.trace)];
-    for (name, found) in named {
-        found.put(&folder.join(OsStr::new(name)))?;
+impl Runner<'_> {
+    fn compare(&self, files: &Files) -> Result<(), Difference> {
+        let Files { table, trace } = files;
+        let name = self.program.name;
+        let printed = self.run(files);
+        let printed = printed.map_err(|error| Difference(format!("running {name}: {error}")))?;
+        let expected = (self.program.text)(table.bytes(), trace.bytes());
+        if printed == expected {
+            return Ok(());
+        }
+        Err(Difference(format!(
+            "{name} on a table ({}) and a trace ({}), kept in {}: {}",
+            table.named(),
+            trace.named(),
+            self.folder.display(),
+            first_difference(&expected, &printed),
+        )))
     }
-    let output = Command::new(program).current_dir(folder).output()?;
-    if !output.status.success() {
-        return Err(io::Error::other(format!("exit status {}", output.status)));
+
+    /// What the program prints in a fresh folder with these files.
+    fn run(&self, files: &Files) -> io::Result<Vec<u8>> {
+        let folder = &self.folder;
+        let _ = fs::remove_dir_all(folder);
+        fs::create_dir_all(folder)?;
+        let named = [("table.bin", &files.table), ("trace.bin", &files.trace)];
+        for (name, found) in named {
+            found.put(&folder.join(OsStr::new(name)))?;
+        }
+        let output = Command::new(self.path).current_dir(folder).output()?;
+        if !output.status.success() {
+            return Err(io::Error::other(format!("exit status {}", output.status)));
+        }
+        Ok(output.stdout)
     }
-    Ok(output.stdout)
+}
+
+/// Where two texts part, and what they have from there on.
+fn first_difference(expected: &[u8], printed: &[u8]) -> String {
+    let mut pairs = expected.iter().zip(printed);
+    let shorter = expected.len().min(printed.len());
+    let at = pairs.position(|(mine, others)| mine != others);
+    let at = at.unwrap_or(shorter);
+    let shown = |text: &[u8]| {
+        let part = &text[at..text.len().min(at + 60)];
+        String::from_utf8_lossy(part).into_owned()
+    };
+    let (mine, others) = (shown(expected), shown(printed));
+    format!("from byte {at} on, reference {mine:?}.., program {others:?}..")
 }

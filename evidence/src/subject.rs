@@ -1,6 +1,7 @@
 //! What is held to the reference.
 
 use lsq::direct;
+use lsq::record::{Replayed, ShiftRecord};
 use lsq_ref::replay::Lent;
 
 /// The functions of `bindings/c/lsq.h`.
@@ -15,6 +16,14 @@ pub trait Subject {
     fn memory_length(&self, table: &[u8], trace: &[u8]) -> u32;
     /// `lsq_replay`.
     fn replay(&self, table: &[u8], trace: &[u8], lent: Lent) -> u32;
+    /// `lsq_replay_recorded`.
+    fn replay_recorded(
+        &self,
+        table: &[u8],
+        trace: &[u8],
+        lent: Lent,
+        kept: ShiftRecord,
+    ) -> Replayed;
     /// `lsq_share`.
     fn share(&self, loads: u32, forwarded: u32) -> u64;
     /// `lsq_text`.
@@ -42,21 +51,17 @@ impl Subject for Library {
     }
 
     fn replay(&self, table: &[u8], trace: &[u8], lent: Lent) -> u32 {
-        let Lent {
-            memory,
-            counts,
-            answers,
-            given,
-            values,
-        } = lent;
-        let lent = lsq::Lent {
-            memory,
-            counts,
-            answers,
-            given,
-            values,
-        };
-        direct::replay(table, trace, lent)
+        direct::replay(table, trace, lent_to_library(lent))
+    }
+
+    fn replay_recorded(
+        &self,
+        table: &[u8],
+        trace: &[u8],
+        lent: Lent,
+        kept: ShiftRecord,
+    ) -> Replayed {
+        direct::replay_recorded(table, trace, lent_to_library(lent), kept)
     }
 
     fn share(&self, loads: u32, forwarded: u32) -> u64 {
@@ -65,5 +70,22 @@ impl Subject for Library {
 
     fn text(&self, table: &[u8], trace: &[u8], out: &mut [u8]) -> u64 {
         direct::text(table, trace, out)
+    }
+}
+
+fn lent_to_library(lent: Lent) -> lsq::Lent {
+    let Lent {
+        memory,
+        counts,
+        answers,
+        given,
+        values,
+    } = lent;
+    lsq::Lent {
+        memory,
+        counts,
+        answers,
+        given,
+        values,
     }
 }

@@ -6,6 +6,7 @@ use std::fmt;
 use lsq_ref::event::{read_header, Event};
 use lsq_ref::queue::MAX_DEPTH;
 use lsq_ref::replay::{event_count, trace_fault};
+use lsq_ref::shift::PORTS;
 use lsq_ref::{Queue, Table};
 
 use crate::buffers::Buffers;
@@ -73,8 +74,12 @@ const FORWARDED: &str = "loads that were counted as forwarded";
 const FROM_MEMORY: &str = "loads that were counted and came from memory";
 const TEXT_PLAYED: &str = "texts of a played trace";
 const TEXT_SHORT: &str = "text buffers one byte short";
+const RECORD_KEPT: &str = "refused replays that hand back the record";
+const RECORDED: &str = "replays that changed a record";
+const RECORDED_31: &str = "replays that took at port 31";
+const TAKES_STOPPED: &str = "replays whose takes of a port stop at 4294967295";
 
-const STATES: [&str; 17] = [
+const STATES: [&str; 21] = [
     LONG,
     HUGE,
     EMPTY,
@@ -92,7 +97,24 @@ const STATES: [&str; 17] = [
     FROM_MEMORY,
     TEXT_PLAYED,
     TEXT_SHORT,
+    RECORD_KEPT,
+    RECORDED,
+    RECORDED_31,
+    TAKES_STOPPED,
 ];
+
+/// Accepted takes of a replay, by their ports.
+#[derive(Clone, Debug, Default)]
+pub struct Takes([u64; PORTS]);
+
+impl Takes {
+    /// Counts an event, if it is an accepted take.
+    pub fn note(&mut self, event: &Event, accepted: bool) {
+        if let (Event::Take { port }, true) = (event, accepted) {
+            self.0[*port as usize] += 1;
+        }
+    }
+}
 
 /// How often each thing occurred.
 #[derive(Clone, Debug, Default)]
@@ -208,6 +230,21 @@ impl Tally {
         let forwarded = u64::from(after[1].wrapping_sub(before[1]));
         *self.states.entry(FORWARDED).or_default() += forwarded;
         *self.states.entry(FROM_MEMORY).or_default() += loads - forwarded;
+    }
+
+    /// Counts a replay with a record, by the takes that it made.
+    pub fn recorded(&mut self, case: &Case, accepted: bool, Takes(takes): &Takes) {
+        let mut counts = case.kept.takes.iter().zip(takes);
+        let stops = |(&before, &more): (&u32, &u64)| {
+            more > 0 && u64::from(before) + more > u64::from(u32::MAX)
+        };
+        let stopped = counts.any(stops);
+        self.reach(&[
+            (!accepted, RECORD_KEPT),
+            (takes.iter().any(|&more| more > 0), RECORDED),
+            (takes.last().is_some_and(|&more| more > 0), RECORDED_31),
+            (stopped, TAKES_STOPPED),
+        ]);
     }
 
     /// Counts a text.

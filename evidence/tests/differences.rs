@@ -5,8 +5,10 @@ use std::cell::Cell;
 
 use evidence::cases::Case;
 use evidence::compare::{Comparer, Difference};
+use evidence::shift::{held_record, library_record};
 use evidence::subject::Subject;
 use evidence::tally::Tally;
+use lsq::record::{Replayed, ShiftRecord};
 use lsq::TEXT_BYTES;
 use lsq_ref::play::play;
 use lsq_ref::replay::{self, Lent};
@@ -32,6 +34,12 @@ enum Fault {
     ValueBehind,
     CountBehind,
     WordWhenRefused,
+    RecordedAnswer,
+    RecordedWord,
+    RecordedTakes,
+    RecordedValue,
+    RecordFromZero,
+    RecordWhenRefused,
     Share,
     TextLength,
     TextLastByte,
@@ -41,7 +49,7 @@ enum Fault {
 
 use Fault::*;
 
-const FAULTS: [Fault; 21] = [
+const FAULTS: [Fault; 27] = [
     WrongTable,
     WrongTrace,
     EventCount,
@@ -58,6 +66,12 @@ const FAULTS: [Fault; 21] = [
     ValueBehind,
     CountBehind,
     WordWhenRefused,
+    RecordedAnswer,
+    RecordedWord,
+    RecordedTakes,
+    RecordedValue,
+    RecordFromZero,
+    RecordWhenRefused,
     Share,
     TextLength,
     TextLastByte,
@@ -122,6 +136,26 @@ impl Broken {
     }
 }
 
+/// What it does wrong with the record of a replay.
+impl Broken {
+    fn spoil_record(&self, before: &ShiftRecord, after: &mut ShiftRecord, answer: u32) {
+        let taken = before.takes[31] != after.takes[31];
+        if self.does(RecordedTakes, taken) {
+            after.takes[31] ^= 1;
+        }
+        if self.does(RecordedValue, taken && after.values[31] > 0) {
+            after.values[31] -= 1;
+        }
+        let some = before.takes[30] > 0 && before.takes == after.takes;
+        if self.does(RecordFromZero, answer == 0 && some) {
+            after.takes[30] = 0;
+        }
+        if self.does(RecordWhenRefused, answer == 30) {
+            after.values[0] ^= 1;
+        }
+    }
+}
+
 impl Subject for Broken {
     fn table_fault(&self, table: &[u8]) -> u32 {
         let fault = u32::from(replay::table_fault(table));
@@ -178,6 +212,41 @@ impl Subject for Broken {
         }
         let answer = u32::from(refused.unwrap_or(0));
         answer + u32::from(self.does(ReplayAnswer, answer == 10))
+    }
+
+    fn replay_recorded(
+        &self,
+        table: &[u8],
+        trace: &[u8],
+        lent: Lent,
+        kept: ShiftRecord,
+    ) -> Replayed {
+        let Lent {
+            memory,
+            counts,
+            answers,
+            given,
+            values,
+        } = lent;
+        let again = Lent {
+            memory: &mut *memory,
+            counts,
+            answers,
+            given,
+            values,
+        };
+        let mut after = held_record(&kept);
+        let played = replay::replay_recorded::<true>(table, trace, again, &mut after);
+        if self.does(RecordedWord, played.is_ok() && memory.len() > 4_000) {
+            memory[4_000] ^= 1;
+        }
+        let answer = u32::from(played.err().unwrap_or(0));
+        let mut after = library_record(&after);
+        self.spoil_record(&kept, &mut after, answer);
+        Replayed {
+            answer: answer + u32::from(self.does(RecordedAnswer, answer == 10)),
+            kept: after,
+        }
     }
 
     fn share(&self, loads: u32, forwarded: u32) -> u64 {

@@ -65,3 +65,19 @@ fn the_page_says_what_is_printed() {
         assert!(part.contains(&rest), "{rest}");
     }
 }
+
+/// The lines that stand there of K1's page are its first ones.
+#[test]
+fn the_page_shows_the_page_of_k1() {
+    let page = formats();
+    let (tables, traces) = (made(&page, "table.bin"), made(&page, "trace.bin"));
+    let mut parts = page.split("\n## ");
+    let part = parts.find(|part| part.starts_with("The shift page\n"));
+    let lines = part.expect("a part of the shift page").lines();
+    let shown: Vec<&str> = lines.filter_map(|line| line.strip_prefix("    ")).collect();
+    let printed = lsq_ref::play::page(Some(&tables[0]), Some(&traces[0]));
+    let printed = String::from_utf8(printed).expect("a page is text");
+    let first: Vec<&str> = printed.lines().take(shown.len()).collect();
+    assert!(shown.len() > 1, "{shown:?}");
+    assert_eq!(shown, first);
+}

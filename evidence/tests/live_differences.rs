@@ -12,9 +12,11 @@ use evidence::live::record::{held_table, table_of, Record};
 use evidence::live::subject::{Live, Made, Ready};
 use evidence::live::tally::{LiveTally, IN_LISTS, IN_RECORDS};
 use evidence::live::{lists, records};
-use lsq::record::{Counts, Frame, Listed, Opened, Table, TableRead, Written};
+use evidence::shift::{held_record, library_record};
+use lsq::record::{Counts, Frame, Listed, Opened, ShiftRecord, Table, TableRead, Written};
 use lsq_ref::number::{write_number, write_numbers};
 use lsq_ref::rng::Rng;
+use lsq_ref::shift::PAGE_BYTES;
 use lsq_ref::{Event, Header, Queue, Table as HeldTable};
 
 /// What a subject does wrong.
@@ -57,6 +59,23 @@ enum Fault {
     EventWhenShort,
     EventSecond,
     EventKind,
+    TakenAnswer,
+    TakenValue,
+    TakenEntry,
+    TakenRecord,
+    TakenRecordLeft,
+    TakenWhenRefused,
+    TakenRecordWhenRefused,
+    RecordedPastStop,
+    RecordedValue,
+    RecordedOther,
+    RecordedAbove,
+    PageAnswer,
+    PageCount,
+    PageLastByte,
+    PageNoTake,
+    PageBehind,
+    PageWhenShort,
 }
 
 use Fault::*;
@@ -81,7 +100,24 @@ const OF_CALLS: [Fault; 17] = [
     FrameWhenRefused,
 ];
 
-const BESIDE_CALLS: [Fault; 19] = [
+/// With a record, in lists too.
+const OF_TAKES: [Fault; 13] = [
+    TakenAnswer,
+    TakenValue,
+    TakenEntry,
+    TakenRecord,
+    TakenRecordLeft,
+    TakenWhenRefused,
+    TakenRecordWhenRefused,
+    PageAnswer,
+    PageCount,
+    PageLastByte,
+    PageNoTake,
+    PageBehind,
+    PageWhenShort,
+];
+
+const BESIDE_CALLS: [Fault; 23] = [
     LongRuns,
     NeverUnsound,
     OpenAnswer,
@@ -101,6 +137,10 @@ const BESIDE_CALLS: [Fault; 19] = [
     EventWhenShort,
     EventSecond,
     EventKind,
+    RecordedPastStop,
+    RecordedValue,
+    RecordedOther,
+    RecordedAbove,
 ];
 
 /// The reference on records, but for a fault. It notes whether it did the wrong
@@ -334,6 +374,104 @@ impl Live for Broken {
         };
         self.written(outcome, out, EventWhenShort)
     }
+
+    fn take_recorded(&self, record: &mut Record, kept: &mut ShiftRecord, port: u32) -> Made {
+        let counts = Counts::default();
+        let mut made = self.call(record, &mut [], counts, &Event::Take { port });
+        match made.answer {
+            0 => self.spoil_taken(record, &mut made, kept, port),
+            _ => self.spoil_untaken(record, kept, &mut made.answer),
+        }
+        made
+    }
+
+    fn recorded(&self, kept: ShiftRecord, port: u32, value: u32) -> ShiftRecord {
+        let mut after = held_record(&kept);
+        after.recorded(port, value);
+        let mut after = library_record(&after);
+        let Some(place) = kept.takes.get(port as usize) else {
+            if self.does(RecordedAbove, port == 32) {
+                after.values[31] ^= 1;
+            }
+            return after;
+        };
+        if self.does(RecordedPastStop, *place == u32::MAX) {
+            after.takes[port as usize] = 0;
+        }
+        if self.does(RecordedValue, *place == u32::MAX) {
+            after.values[port as usize] ^= 1;
+        }
+        if self.does(RecordedOther, port < 31) {
+            after.takes[port as usize + 1] ^= 1;
+        }
+        after
+    }
+
+    fn page(&self, kept: ShiftRecord, out: &mut [u8]) -> Written {
+        let record = held_record(&kept);
+        let outcome = record.write_page(out);
+        let mut written = Written {
+            answer: outcome.err().unwrap_or(0).into(),
+            count: outcome.unwrap_or(0) as u64,
+        };
+        self.spoil_page(&kept, &mut written, out);
+        written
+    }
+}
+
+/// What it does wrong with records and pages.
+impl Broken {
+    fn spoil_taken(&self, record: &mut Record, made: &mut Made, kept: &mut ShiftRecord, port: u32) {
+        let before = *kept;
+        *kept = self.recorded(before, port, made.value);
+        if self.does(TakenRecord, before.takes[port as usize] > 0) {
+            kept.takes[port as usize] ^= 1;
+        }
+        if self.does(TakenRecordLeft, *kept != before) {
+            *kept = before;
+        }
+        if self.does(TakenValue, made.value > 0) {
+            made.value -= 1;
+        }
+        if self.does(TakenEntry, record.frame.stores.count > 0) {
+            record.stores.lend()[0] ^= 1 << 5;
+        }
+    }
+
+    fn spoil_untaken(&self, record: &mut Record, kept: &mut ShiftRecord, answer: &mut u32) {
+        if self.does(TakenWhenRefused, *answer == 33) {
+            record.frame.loads.next ^= 1;
+        }
+        if self.does(TakenRecordWhenRefused, *answer == 34) {
+            kept.takes[31] ^= 1;
+        }
+        if self.does(TakenAnswer, *answer == 22) {
+            *answer = 33;
+        }
+    }
+
+    fn spoil_page(&self, kept: &ShiftRecord, written: &mut Written, out: &mut [u8]) {
+        let written_all = written.answer == 0;
+        // The last port's value ends before the line feed and the footer.
+        let (digit, last) = (PAGE_BYTES - 43, PAGE_BYTES - 1);
+        let ones = (kept.values[31] % 10) as u8;
+        if self.does(PageNoTake, written_all && kept.takes[31] == 0 && ones > 0) {
+            out[digit] = b'0' + ones;
+        }
+        if self.does(PageLastByte, written_all) {
+            out[last] = b' ';
+        }
+        if self.does(PageBehind, out.len() > PAGE_BYTES) {
+            out[PAGE_BYTES] ^= 1;
+        }
+        if self.does(PageWhenShort, !written_all && !out.is_empty()) {
+            out[0] ^= 1;
+        }
+        written.count += u64::from(self.does(PageCount, written_all));
+        if self.does(PageAnswer, written.answer == 41) {
+            written.answer = 10;
+        }
+    }
 }
 
 /// The first difference in what is compared from one seed on, and whether the
@@ -380,14 +518,14 @@ fn the_reference_does_not_differ_from_itself() {
 
 #[test]
 fn every_fault_is_found_on_the_record_where_it_first_shows() {
-    for fault in OF_CALLS.into_iter().chain(BESIDE_CALLS) {
+    for fault in OF_CALLS.into_iter().chain(OF_TAKES).chain(BESIDE_CALLS) {
         assert_found(fault, in_records(fault));
     }
 }
 
 #[test]
 fn every_fault_of_a_call_is_found_in_the_list_where_it_first_shows() {
-    for fault in OF_CALLS {
+    for fault in OF_CALLS.into_iter().chain(OF_TAKES) {
         assert_found(fault, in_lists(fault));
     }
 }

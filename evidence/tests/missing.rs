@@ -12,7 +12,9 @@ fn run_with(variable: &str, place: &str) -> Output {
     let script = Path::new(env!("CARGO_MANIFEST_DIR")).join("run");
     let mut command = Command::new(script);
     // What is not tried stands where it is, so that nothing is built.
-    command.env("LSQ_PLAY", env!("CARGO_BIN_EXE_differential"));
+    for program in ["LSQ_PLAY", "LSQ_PAGE"] {
+        command.env(program, env!("CARGO_BIN_EXE_differential"));
+    }
     command
         .env(variable, place)
         .args(["differential", "1", "1"]);
@@ -28,20 +30,27 @@ fn assert_names(ended: &Output, status: i32, words: &str) {
 }
 
 #[test]
-fn a_differential_run_needs_the_program() {
-    let place = format!("{NOWHERE}/play");
-    let mut command = Command::new(env!("CARGO_BIN_EXE_differential"));
-    command.env("LSQ_PLAY", &place).args(["1", "1"]);
-    let ended = command.output().expect("differential");
-    let words = format!("nothing was compared: {place} is missing");
-    assert_names(&ended, 2, &words);
+fn a_differential_run_needs_both_programs() {
+    for (variable, name) in [("LSQ_PLAY", "play"), ("LSQ_PAGE", "page")] {
+        let place = format!("{NOWHERE}/{name}");
+        let mut command = Command::new(env!("CARGO_BIN_EXE_differential"));
+        for program in ["LSQ_PLAY", "LSQ_PAGE"] {
+            command.env(program, env!("CARGO_BIN_EXE_differential"));
+        }
+        command.env(variable, &place).args(["1", "1"]);
+        let ended = command.output().expect("differential");
+        let words = format!("nothing was compared: {place} is missing");
+        assert_names(&ended, 2, &words);
+    }
 }
 
 #[test]
 fn the_script_names_a_missing_program() {
-    let place = format!("{NOWHERE}/play");
-    let words = format!("{place} is missing");
-    assert_names(&run_with("LSQ_PLAY", &place), 1, &words);
+    for (variable, name) in [("LSQ_PLAY", "play"), ("LSQ_PAGE", "page")] {
+        let place = format!("{NOWHERE}/{name}");
+        let words = format!("{place} is missing");
+        assert_names(&run_with(variable, &place), 1, &words);
+    }
 }
 
 #[test]

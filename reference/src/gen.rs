@@ -1,6 +1,8 @@
 //! Seeded inputs for comparing implementations: valid tables, traces that lean
 //! towards conflicts, full queues and the turn of the serials, damaged bytes,
-//! queue records that no opening leads to, and calls on them.
+//! queue records that no opening leads to, calls on them, and shift records.
+
+use std::array;
 
 use crate::counts::Counts;
 use crate::event::{write_event, write_header, Event, Header};
@@ -8,6 +10,7 @@ use crate::number::{read_number, write_number};
 use crate::play::MAX_FILE;
 use crate::queue::{LoadEntry, Queue, Side, StoreEntry, TrustingQueue, MAX_DEPTH, MAX_MEMORY};
 use crate::rng::Rng;
+use crate::shift::ShiftRecord;
 use crate::table::{Access, Group, Pair, Table, MAX_PORT};
 
 /// Longest encodings: of one number, and of a whole valid table.
@@ -801,6 +804,38 @@ pub fn counts(rng: &mut Rng) -> Counts {
         loads: rng.pick(&[0, 7, edge]),
         forwarded: rng.pick(&[0, 9, edge]),
     }
+}
+
+/// A shift record that may hold anything: many counts at or next to 0 and
+/// 4294967295, and values of every number of digits. One in eight has no takes
+/// and no values.
+pub fn shift_record(rng: &mut Rng) -> ShiftRecord {
+    if rng.chance(1, 8) {
+        return ShiftRecord::default();
+    }
+    ShiftRecord {
+        takes: array::from_fn(|_| takes(rng)),
+        values: array::from_fn(|_| number_of_digits(rng)),
+    }
+}
+
+fn takes(rng: &mut Rng) -> u32 {
+    let any = number_of_digits(rng);
+    rng.pick(&[0, 1, u32::MAX - 1, u32::MAX, any, any])
+}
+
+/// A number of one to ten digits, each as often, and often the least or the
+/// greatest of so many.
+fn number_of_digits(rng: &mut Rng) -> u32 {
+    let digits = rng.between(1, 10);
+    let least = if digits == 1 {
+        0
+    } else {
+        10u32.pow(digits - 1)
+    };
+    let most = 10u32.checked_pow(digits).map_or(u32::MAX, |next| next - 1);
+    let any = rng.between(least, most);
+    rng.pick(&[least, most, any, any])
 }
 
 /// A memory of the record's length, where that can be, or of another one.

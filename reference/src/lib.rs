@@ -1,14 +1,16 @@
 //! Reference model of the group-allocated load-store queue of the tally board.
 //!
-//! It is written from the paper "The group-allocated load-store queue of the
-//! tally board" alone; quoted sentences in the comments are the paper's.
+//! It is written from the papers alone: document 01, "The group-allocated
+//! load-store queue of the tally board", and S-1 of document 02, the shift
+//! page. Quoted sentences in the comments are theirs.
 //! Everything works in place and refusals are plain numbers, so that another
 //! implementation can be compared with this one answer by answer.
 //!
 //! "Tables and events lie lowest, the queue above, `play` on top":
-//! [`number`], [`table`] and [`event`] know nothing of [`queue`], which knows
-//! nothing of [`play`]. [`plain`] is the run that demand 3 is measured on and
-//! uses nothing of the queue. [`gen`] and [`rng`] make inputs for comparisons.
+//! [`number`], [`table`], [`event`] and [`shift`] know nothing of [`queue`],
+//! which knows nothing of [`play`]. [`plain`] is the run that demand 3 is
+//! measured on and uses nothing of the queue. [`gen`] and [`rng`] make inputs
+//! for comparisons.
 
 #![forbid(unsafe_code)]
 #![warn(missing_docs)]
@@ -23,9 +25,11 @@ pub mod queue;
 pub mod refusal;
 pub mod replay;
 pub mod rng;
+pub mod shift;
 pub mod table;
 
 pub use counts::Counts;
 pub use event::{Event, Header, Step};
 pub use queue::Queue;
+pub use shift::ShiftRecord;
 pub use table::Table;

@@ -5,6 +5,7 @@ use std::collections::VecDeque;
 use crate::counts::Counts;
 use crate::event::{Event, Header};
 use crate::refusal;
+use crate::shift::ShiftRecord;
 use crate::table::{Group, Table};
 
 /// "Depths are 1 to 64 entries each."
@@ -314,6 +315,18 @@ impl<const CHECKED: bool> LoadStoreQueue<CHECKED> {
         Ok(value)
     }
 
+    /// [`Self::take`], lent the record that "each accepted take updates": the
+    /// port's two numbers there and no others. A refused take leaves it as it
+    /// was.
+    ///
+    /// # Errors
+    /// Those of [`Self::take`].
+    pub fn take_recorded(&mut self, record: &mut ShiftRecord, port: u32) -> Result<u32, u8> {
+        let value = self.take(port)?;
+        record.recorded(port, value);
+        Ok(value)
+    }
+
     /// Puts "the serials that serve would now accept with memory of the right
     /// length, oldest first, at the front of a lent run of numbers" and gives
     /// back that front part; "the rest keeps its contents".
@@ -357,6 +370,23 @@ impl<const CHECKED: bool> LoadStoreQueue<CHECKED> {
             Event::Serve { serial } => self.serve(serial, memory, counts).map(Some),
             Event::Write { serial } => self.write(serial, memory).map(|()| None),
             Event::Take { port } => self.take(port).map(Some),
+        }
+    }
+
+    /// [`Self::apply`] with a record that is lent to each take.
+    ///
+    /// # Errors
+    /// Those of the call.
+    pub fn apply_recorded(
+        &mut self,
+        event: &Event,
+        memory: &mut [u32],
+        counts: &mut Counts,
+        record: &mut ShiftRecord,
+    ) -> Result<Option<u32>, u8> {
+        match *event {
+            Event::Take { port } => self.take_recorded(record, port).map(Some),
+            _ => self.apply(event, memory, counts),
         }
     }
 }

@@ -1,4 +1,4 @@
-//! The paper's refusal numbers. "Accepted is 0. A refusal returns its number
+//! The papers' refusal numbers. "Accepted is 0. A refusal returns its number
 //! and no value; everything handed in or lent keeps its contents."
 
 /// The call was accepted.
@@ -67,3 +67,5 @@ pub const KIND: u8 = 35;
 pub const FILE_TOO_LONG: u8 = 36;
 /// The record handed in is not one that the queue's rules speak about.
 pub const UNSOUND: u8 = 40;
+/// "Page buffer under 1,394 bytes."
+pub const PAGE_TOO_SHORT: u8 = 41;

@@ -1,10 +1,11 @@
-//! A whole trace played in one call, on memory, counts and buffers that the
-//! caller lends; what a library for other languages offers.
+//! A whole trace played in one call, on memory, counts, buffers and a shift
+//! record that the caller lends; what a library for other languages offers.
 
 use crate::counts::Counts;
 use crate::event::{read_header, Event, EventReader, Step};
 use crate::queue::LoadStoreQueue;
 use crate::refusal;
+use crate::shift::ShiftRecord;
 use crate::table::Table;
 
 /// What a replay is lent.
@@ -68,9 +69,59 @@ pub fn replay_watched<const CHECKED: bool>(
     table: &[u8],
     trace: &[u8],
     lent: Lent,
-    watch: impl FnMut(&LoadStoreQueue<CHECKED>, &Event, Result<Option<u32>, u8>),
+    mut watch: impl FnMut(&LoadStoreQueue<CHECKED>, &Event, Result<Option<u32>, u8>),
 ) -> Result<(), u8> {
     let table = Table::read(table)?;
+    let opened = open_lent::<CHECKED>(table, trace, &lent)?;
+    play(opened, lent, |queue, event, memory, counts| {
+        let outcome = queue.apply(event, memory, counts);
+        watch(queue, event, outcome);
+        outcome
+    });
+    Ok(())
+}
+
+/// [`replay`] with a lent record, which "each accepted take updates" from what
+/// it holds.
+///
+/// # Errors
+/// Those of [`replay`]. The record too then keeps its contents.
+pub fn replay_recorded<const CHECKED: bool>(
+    table: &[u8],
+    trace: &[u8],
+    lent: Lent,
+    record: &mut ShiftRecord,
+) -> Result<(), u8> {
+    replay_recorded_watched::<CHECKED>(table, trace, lent, record, |_, _, _| {})
+}
+
+/// [`replay_recorded`], with the look of [`replay_watched`].
+///
+/// # Errors
+/// Those of [`replay_recorded`].
+pub fn replay_recorded_watched<const CHECKED: bool>(
+    table: &[u8],
+    trace: &[u8],
+    lent: Lent,
+    record: &mut ShiftRecord,
+    mut watch: impl FnMut(&LoadStoreQueue<CHECKED>, &Event, Result<Option<u32>, u8>),
+) -> Result<(), u8> {
+    let table = Table::read(table)?;
+    let opened = open_lent::<CHECKED>(table, trace, &lent)?;
+    play(opened, lent, |queue, event, memory, counts| {
+        let outcome = queue.apply_recorded(event, memory, counts, record);
+        watch(queue, event, outcome);
+        outcome
+    });
+    Ok(())
+}
+
+/// A fresh queue for what is lent: the checks that follow the table's.
+fn open_lent<'a, const CHECKED: bool>(
+    table: Table,
+    trace: &'a [u8],
+    lent: &Lent,
+) -> Result<Opened<'a, CHECKED>, u8> {
     if lent.counts.len() < 2 {
         return Err(refusal::TOO_SHORT);
     }
@@ -82,8 +133,7 @@ pub fn replay_watched<const CHECKED: bool>(
     if room.min(lent.values.len()) < opened.count {
         return Err(refusal::TOO_SHORT);
     }
-    play(opened.queue, opened.events, lent, watch);
-    Ok(())
+    Ok(opened)
 }
 
 /// A fresh queue and its events, which can all be read.
@@ -121,26 +171,31 @@ fn count_events(bytes: &[u8], at: usize) -> Result<usize, u8> {
     }
 }
 
+/// Has each event's call made by `call`, lent memory and counts.
 fn play<const CHECKED: bool>(
-    mut queue: LoadStoreQueue<CHECKED>,
-    mut events: EventReader,
+    opened: Opened<CHECKED>,
     lent: Lent,
-    mut watch: impl FnMut(&LoadStoreQueue<CHECKED>, &Event, Result<Option<u32>, u8>),
+    mut call: impl FnMut(
+        &mut LoadStoreQueue<CHECKED>,
+        &Event,
+        &mut [u32],
+        &mut Counts,
+    ) -> Result<Option<u32>, u8>,
 ) {
+    let (mut queue, mut events) = (opened.queue, opened.events);
     let mut counts = Counts {
         loads: lent.counts[0],
         forwarded: lent.counts[1],
     };
     let mut places = lent.answers.iter_mut().zip(lent.given).zip(lent.values);
     while let Step::Event(event, _) = events.step() {
-        let outcome = queue.apply(&event, lent.memory, &mut counts);
+        let outcome = call(&mut queue, &event, lent.memory, &mut counts);
         if let Some(((answer, given), word)) = places.next() {
             let value = outcome.ok().flatten();
             *answer = outcome.err().unwrap_or(refusal::ACCEPTED);
             *given = u8::from(value.is_some());
             *word = value.unwrap_or(0);
         }
-        watch(&queue, &event, outcome);
     }
     lent.counts[0] = counts.loads;
     lent.counts[1] = counts.forwarded;

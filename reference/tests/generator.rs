@@ -1,5 +1,6 @@
 //! The generator: equal seeds give equal bytes, whole scenarios are accepted,
-//! and together the pairs reach every answer that `play` can print.
+//! shift records reach every edge, and together the pairs reach every answer
+//! that `play` can print.
 
 use std::collections::BTreeSet;
 
@@ -7,7 +8,7 @@ use lsq_ref::event::{read_header, EventReader};
 use lsq_ref::gen::{self, Scenario};
 use lsq_ref::play::play;
 use lsq_ref::rng::Rng;
-use lsq_ref::{Queue, Table};
+use lsq_ref::{Queue, ShiftRecord, Table};
 
 #[test]
 fn equal_seeds_give_equal_pairs() {
@@ -42,6 +43,36 @@ fn spoiled_tables_are_wrong() {
         met.insert(table.check());
     }
     assert_eq!(met, BTreeSet::from([4, 5, 6, 7, 8]));
+}
+
+/// The numbers of digits, and which of 0, 1, 4294967294 and 4294967295 occur.
+fn spread(numbers: &[u32]) -> (BTreeSet<usize>, BTreeSet<u32>) {
+    let digits = numbers.iter().map(|number| number.to_string().len());
+    let edges = [0, 1, u32::MAX - 1, u32::MAX];
+    let met = numbers.iter().filter(|number| edges.contains(number));
+    (digits.collect(), met.copied().collect())
+}
+
+#[test]
+fn shift_records_hold_anything() {
+    let records: Vec<_> = (0..200)
+        .map(|seed| gen::shift_record(&mut Rng::new(seed)))
+        .collect();
+    let takes: Vec<u32> = records.iter().flat_map(|record| record.takes).collect();
+    let values: Vec<u32> = records.iter().flat_map(|record| record.values).collect();
+    let every_length: BTreeSet<usize> = (1..=10).collect();
+    let edges = BTreeSet::from([0, 1, u32::MAX - 1, u32::MAX]);
+    assert_eq!(spread(&takes), (every_length.clone(), edges));
+    let (digits, met) = spread(&values);
+    assert_eq!(digits, every_length);
+    assert!(met.contains(&0) && met.contains(&u32::MAX));
+    for port in 0..32 {
+        let at_stop = records.iter().filter(|r| r.takes[port] == u32::MAX);
+        assert!(at_stop.count() > 10, "port {port}");
+        let odd = |r: &&ShiftRecord| r.takes[port] == 0 && r.values[port] > 0;
+        assert!(records.iter().filter(odd).count() > 10, "port {port}");
+    }
+    assert!(records.contains(&ShiftRecord::default()));
 }
 
 /// The number in a line's second field.

@@ -2,36 +2,16 @@
 
 mod common;
 
-use std::path::{Path, PathBuf};
+use std::fs;
+use std::path::Path;
 use std::process::Command;
-use std::{env, fs, process};
 
-use common::{K1_TABLE, K1_TRACE};
+use common::{text_in, Folder, K1_TABLE, K1_TRACE};
 use lsq_ref::gen;
 use lsq_ref::play::play;
 
-/// An empty folder, gone again at the end of the test.
-struct Folder(PathBuf);
-
-impl Folder {
-    fn new(name: &str) -> Self {
-        let folder = env::temp_dir().join(format!("lsq_ref_{}_{name}", process::id()));
-        fs::create_dir(&folder).expect("a new folder");
-        Self(folder)
-    }
-}
-
-impl Drop for Folder {
-    fn drop(&mut self) {
-        let _ = fs::remove_dir_all(&self.0);
-    }
-}
-
 fn play_in(folder: &Path) -> String {
-    let mut command = Command::new(env!("CARGO_BIN_EXE_play_ref"));
-    let output = command.current_dir(folder).output().expect("play_ref");
-    assert!(output.status.success());
-    String::from_utf8(output.stdout).expect("text")
+    text_in(folder, env!("CARGO_BIN_EXE_play_ref"))
 }
 
 #[test]

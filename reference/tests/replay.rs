@@ -1,13 +1,16 @@
-//! A whole trace in one call: what is told first, and what lent buffers keep.
+//! A whole trace in one call: what is told first, what lent buffers keep, and
+//! what a lent record is left with.
 
 mod common;
 
 use common::{k1_trace, K1_TABLE, K1_TRACE};
-use lsq_ref::gen::Scenario;
+use lsq_ref::gen::{self, Scenario};
 use lsq_ref::replay::{
-    event_count, memory_length, replay, replay_watched, table_fault, trace_fault, Lent,
+    event_count, memory_length, replay, replay_recorded, replay_recorded_watched, replay_watched,
+    table_fault, trace_fault, Lent,
 };
 use lsq_ref::rng::Rng;
+use lsq_ref::{Event, ShiftRecord};
 
 /// Buffers with something in each place.
 #[derive(Clone, Debug, PartialEq, Eq)]
@@ -133,5 +136,90 @@ fn the_trusting_queue_plays_alike() {
         assert!(replay::<false>(&table, &trace, trusting.lent()).is_ok());
         assert_eq!(checked, trusting);
         assert_eq!(watched, events);
+    }
+}
+
+// With a lent record.
+
+/// A record with something in each place.
+fn some_record() -> ShiftRecord {
+    ShiftRecord {
+        takes: [66; 32],
+        values: [55; 32],
+    }
+}
+
+/// The refusal of a replay with a record, everything lent found unchanged.
+fn recorded_refusal(table: &[u8], trace: &[u8], mut buffers: Buffers) -> u8 {
+    let before = buffers.clone();
+    let mut record = some_record();
+    let played = replay_recorded::<true>(table, trace, buffers.lent(), &mut record);
+    assert_eq!((buffers, record), (before, some_record()));
+    played.expect_err("a refusal")
+}
+
+#[test]
+fn k1_with_a_record() {
+    let mut buffers = Buffers::new([4, 3, 13, 14, 15]);
+    let mut without = buffers.clone();
+    let mut record = some_record();
+    let played = replay_recorded::<true>(&K1_TABLE, &K1_TRACE, buffers.lent(), &mut record);
+    assert_eq!(played, Ok(()));
+    let mut after = some_record();
+    (after.takes[0], after.values[0]) = (68, 1);
+    assert_eq!(record, after);
+    assert!(replay::<true>(&K1_TABLE, &K1_TRACE, without.lent()).is_ok());
+    assert_eq!(buffers, without);
+}
+
+#[test]
+fn a_refused_replay_leaves_the_record() {
+    let wrong = k1_trace(3, &[7]);
+    let none = || Buffers::new([0; 5]);
+    let counts_alone = || Buffers::new([0, 2, 0, 0, 0]);
+    assert_eq!(recorded_refusal(&[3], &wrong, none()), 3);
+    assert_eq!(recorded_refusal(&K1_TABLE, &wrong, none()), 10);
+    assert_eq!(recorded_refusal(&K1_TABLE, &wrong, counts_alone()), 35);
+    assert_eq!(recorded_refusal(&K1_TABLE, &K1_TRACE, counts_alone()), 30);
+    for short in [[4, 2, 11, 12, 12], [4, 2, 12, 11, 12], [4, 2, 12, 12, 11]] {
+        let short = Buffers::new(short);
+        assert_eq!(recorded_refusal(&K1_TABLE, &K1_TRACE, short), 10);
+    }
+}
+
+/// The record is that of the takes which the answers and values tell; all else
+/// is as without a record, on both kinds of queue.
+#[test]
+fn a_record_follows_the_answers() {
+    for seed in 0..200 {
+        let mut rng = Rng::new(seed);
+        let scenario = Scenario::random(&mut rng);
+        let (table, trace) = scenario.bytes();
+        let events = scenario.events.len();
+        let length = scenario.header.memory_length as usize;
+        let mut without = Buffers::new([length, 2, events, events, events]);
+        let (mut checked, mut trusting) = (without.clone(), without.clone());
+        assert!(replay::<true>(&table, &trace, without.lent()).is_ok());
+        let mut expected = gen::shift_record(&mut rng);
+        let (mut record, mut other) = (expected, expected);
+        let mut watched = 0;
+        let watch = |_: &_, event: &_, _| {
+            assert_eq!(*event, scenario.events[watched]);
+            watched += 1;
+        };
+        let played =
+            replay_recorded_watched::<true>(&table, &trace, checked.lent(), &mut record, watch);
+        assert_eq!((played, watched), (Ok(()), events));
+        let played = replay_recorded::<false>(&table, &trace, trusting.lent(), &mut other);
+        assert_eq!(played, Ok(()));
+        assert_eq!((&checked, &trusting), (&without, &without));
+        for (i, event) in scenario.events.iter().enumerate() {
+            if let (Event::Take { port }, 0) = (event, without.answers[i]) {
+                let port = *port as usize;
+                expected.takes[port] = expected.takes[port].saturating_add(1);
+                expected.values[port] = without.values[i];
+            }
+        }
+        assert_eq!((record, other), (expected, expected));
     }
 }

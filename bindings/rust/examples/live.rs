@@ -1,11 +1,11 @@
 //! Runs the loop `h[x[i]] += 1` on a live queue: a group of a load and a store
 //! is activated for each i, addresses and data arrive call by call, and
 //! whatever is ready is served or written. Midway the queue is saved as bytes
-//! and goes on from them. Prints what came out; fails where it is not what the
-//! plain loop gives.
+//! and goes on from them. Prints what came out, and the page of what was taken;
+//! fails where it is not what the plain loop gives.
 
 use lsq::record::ENTRIES;
-use lsq::{share, Counts, Queue, Refusal};
+use lsq::{share, Counts, Queue, Refusal, ShiftRecord, PAGE_BYTES};
 
 const ITERATIONS: u32 = 200;
 const WORDS: usize = 16;
@@ -21,6 +21,7 @@ struct Loop {
     queue: Queue,
     h: [u32; WORDS],
     counts: Counts,
+    taken: ShiftRecord,
     /// Iterations that were activated, got their addresses, got their data.
     activated: u32,
     addressed: u32,
@@ -37,6 +38,7 @@ impl Loop {
             queue: Queue::open(&TABLE, DEPTH, DEPTH, FIRST_SERIAL, WORDS as u32)?,
             h: [0; WORDS],
             counts: Counts::default(),
+            taken: ShiftRecord::default(),
             activated: 0,
             addressed: 0,
             added: 0,
@@ -76,7 +78,7 @@ impl Loop {
     /// Takes the values that were loaded, and hands on each with 1 added.
     fn add(&mut self) -> Result<(), Refusal> {
         loop {
-            let value = match self.queue.take(0) {
+            let value = match self.queue.take_recorded(&mut self.taken, 0) {
                 Err(Refusal::NONE_UNTAKEN | Refusal::NOT_SERVED) => return Ok(()),
                 taken => taken?,
             };
@@ -135,6 +137,10 @@ fn main() -> Result<(), Refusal> {
     println!("loads {loads} forwarded {forwarded} share {share}");
     assert_eq!(live.h, plain);
     println!("as the plain loop gives");
+    let mut page = [0; PAGE_BYTES];
+    live.taken.page(&mut page)?;
+    print!("{}", String::from_utf8_lossy(&page));
     assert!(loads == ITERATIONS && forwarded > 0);
+    assert_eq!(live.taken.takes[0], ITERATIONS);
     Ok(())
 }

@@ -1,8 +1,9 @@
 //! Replays the scope paper's case K1: two activations of a group of one load
-//! and one store, whose second load gets the first store's data. Fails where
-//! the end is not what the paper says.
+//! and one store, whose second load gets the first store's data, and prints the
+//! page of what was taken. Fails where the end is not what the paper says.
 
-use lsq::{event_count, memory_length, replay, share, text, value, Error, Lent, TEXT_BYTES};
+use lsq::{event_count, memory_length, replay_recorded, share, text, value};
+use lsq::{Error, Lent, ShiftRecord, PAGE_BYTES, TEXT_BYTES};
 
 const TABLE: [u8; 8] = [0x02, 0x01, 0x01, 0x01, 0x00, 0x00, 0x01, 0x00];
 
@@ -36,7 +37,8 @@ fn main() -> Result<(), Error> {
         given: &mut given,
         values: &mut values,
     };
-    let played = replay(&TABLE, &TRACE, lent)?;
+    let mut taken = ShiftRecord::default();
+    let played = replay_recorded(&TABLE, &TRACE, lent, &mut taken)?;
     for (i, answer) in answers.iter().enumerate() {
         let shown = value(given[i], values[i]).map_or("-".into(), |value| value.to_string());
         println!("{} {answer} {shown}", i + 1);
@@ -45,7 +47,11 @@ fn main() -> Result<(), Error> {
     let [loads, forwarded] = counts;
     let share = share(loads, forwarded);
     println!("loads {loads} forwarded {forwarded} share {share}");
+    let mut page = [0; PAGE_BYTES];
+    taken.page(&mut page)?;
+    print!("{}", String::from_utf8_lossy(&page));
     assert_eq!((played, memory[3], share), (12, 1, 500));
+    assert_eq!((taken.takes[0], taken.values[0]), (2, 1));
 
     let mut out = vec![0; TEXT_BYTES];
     let printed = text(&TABLE, &TRACE, &mut out)?;

@@ -42,7 +42,8 @@ pub fn write_event(kind: u32, first: u32, second: u32, out: &mut [u8]) -> Result
     count(direct::write_event(kind, first, second, out))
 }
 
-fn count(written: Written) -> Result<usize, Refusal> {
+/// The byte count of what was written.
+pub(crate) fn count(written: Written) -> Result<usize, Refusal> {
     accepted(written.answer)?;
     Ok(written.count as usize)
 }

@@ -3,7 +3,9 @@
 //! the same calls with errors that can be read.
 
 use crate::ffi;
-use crate::record::{Counts, Frame, Listed, Opened, Service, Step, Table, TableRead, Written};
+use crate::record::{
+    Counts, Frame, Listed, Opened, Replayed, Service, ShiftRecord, Step, Table, TableRead, Written,
+};
 use crate::Lent;
 
 // A slice's pointer and length are what each function asks for: the pointer is
@@ -66,6 +68,38 @@ pub fn replay(table: &[u8], trace: &[u8], lent: Lent) -> u32 {
     }
 }
 
+/// Plays the trace as [`replay`] does, and keeps the record of what it takes; a
+/// refused replay hands back the very record.
+#[must_use]
+pub fn replay_recorded(table: &[u8], trace: &[u8], lent: Lent, kept: ShiftRecord) -> Replayed {
+    let Lent {
+        memory,
+        counts,
+        answers,
+        given,
+        values,
+    } = lent;
+    unsafe {
+        ffi::lsq_replay_recorded(
+            table.as_ptr(),
+            table.len(),
+            trace.as_ptr(),
+            trace.len(),
+            memory.as_mut_ptr(),
+            memory.len(),
+            counts.as_mut_ptr(),
+            counts.len(),
+            answers.as_mut_ptr(),
+            answers.len(),
+            given.as_mut_ptr(),
+            given.len(),
+            values.as_mut_ptr(),
+            values.len(),
+            kept,
+        )
+    }
+}
+
 /// Thousandths of the loads that were forwarded; 0 for no loads.
 #[must_use]
 pub fn share(loads: u32, forwarded: u32) -> u64 {
@@ -110,6 +144,19 @@ pub fn write_number(value: u32, out: &mut [u8]) -> Written {
 #[must_use]
 pub fn write_event(kind: u32, first: u32, second: u32, out: &mut [u8]) -> Written {
     unsafe { ffi::lsq_write_event(kind, first, second, out.as_mut_ptr(), out.len()) }
+}
+
+/// The record once this value was taken at this port. A port above 31 changes
+/// nothing.
+#[must_use]
+pub fn recorded(kept: ShiftRecord, port: u32, value: u32) -> ShiftRecord {
+    unsafe { ffi::lsq_recorded(kept, port, value) }
+}
+
+/// Writes the page of a record: 41.
+#[must_use]
+pub fn page(kept: ShiftRecord, out: &mut [u8]) -> Written {
+    unsafe { ffi::lsq_page(kept, out.as_mut_ptr(), out.len()) }
 }
 
 /// Opens a queue on a table's bytes: 1 to 9 of the table, then 11 to 14.

@@ -1,6 +1,8 @@
 //! The declarations of `bindings/c/lsq.h`.
 
-use crate::record::{Counts, Frame, Listed, Opened, Service, Step, Table, TableRead, Written};
+use crate::record::{
+    Counts, Frame, Listed, Opened, Replayed, Service, ShiftRecord, Step, Table, TableRead, Written,
+};
 
 unsafe extern "C" {
     pub fn lsq_table_fault(table: *const u8, table_len: usize) -> u32;
@@ -38,6 +40,23 @@ unsafe extern "C" {
         values: *mut u32,
         values_len: usize,
     ) -> u32;
+    pub fn lsq_replay_recorded(
+        table: *const u8,
+        table_len: usize,
+        trace: *const u8,
+        trace_len: usize,
+        memory: *mut u32,
+        memory_len: usize,
+        counts: *mut u32,
+        counts_len: usize,
+        answers: *mut u8,
+        answers_len: usize,
+        given: *mut u8,
+        given_len: usize,
+        values: *mut u32,
+        values_len: usize,
+        kept: ShiftRecord,
+    ) -> Replayed;
     pub fn lsq_share(loads: u32, forwarded: u32) -> u64;
     pub fn lsq_text(
         table: *const u8,
@@ -57,6 +76,8 @@ unsafe extern "C" {
         out: *mut u8,
         out_len: usize,
     ) -> Written;
+    pub fn lsq_recorded(kept: ShiftRecord, port: u32, value: u32) -> ShiftRecord;
+    pub fn lsq_page(kept: ShiftRecord, out: *mut u8, out_len: usize) -> Written;
     pub fn lsq_open_in(
         table: *const u8,
         table_len: usize,

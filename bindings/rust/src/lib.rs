@@ -2,8 +2,10 @@
 //!
 //! [`Queue`] is a live queue, on which calls are made one by one. [`replay`]
 //! plays a whole trace; it and [`text`] say which of the things lent has a
-//! wrong length. [`direct`] has the library's functions as they are, with the
-//! paper's numbers for answers.
+//! wrong length. [`ShiftRecord`] keeps what was taken at each load port, by
+//! [`Queue::take_recorded`] or [`replay_recorded`], and writes its page.
+//! [`direct`] has the library's functions as they are, with the paper's numbers
+//! for answers.
 //!
 //! The library's functions are proved; what stands over them here is plain
 //! Rust and is not.
@@ -21,13 +23,15 @@ mod live;
 pub mod record;
 mod refusal;
 mod saved;
+mod shift;
 
 pub use bytes::{read_table, write_event, write_number, write_table};
 pub use direct::{event_count, memory_length, share, table_fault, trace_fault};
 pub use live::Queue;
-pub use record::Counts;
+pub use record::{Counts, ShiftRecord};
 pub use refusal::Refusal;
 pub use saved::QUEUE_BYTES;
+pub use shift::PAGE_BYTES;
 
 /// The least length of the buffer lent to [`text`]: no text is longer.
 pub const TEXT_BYTES: usize = 1_224_789;
@@ -112,6 +116,31 @@ impl From<Refusal> for Error {
 /// In this order: the table's fault; counts that are too short; the trace's
 /// fault; another memory length; the first buffer that is too short.
 pub fn replay(table: &[u8], trace: &[u8], lent: Lent) -> Result<usize, Error> {
+    let events = playable(table, trace, &lent)?;
+    accepted(direct::replay(table, trace, lent))?;
+    Ok(events)
+}
+
+/// [`replay`], and keeps the record of what it takes, going on from what it
+/// holds. A refused replay leaves the record.
+///
+/// # Errors
+/// Those of [`replay`].
+pub fn replay_recorded(
+    table: &[u8],
+    trace: &[u8],
+    lent: Lent,
+    kept: &mut ShiftRecord,
+) -> Result<usize, Error> {
+    let events = playable(table, trace, &lent)?;
+    let replayed = direct::replay_recorded(table, trace, lent, *kept);
+    accepted(replayed.answer)?;
+    *kept = replayed.kept;
+    Ok(events)
+}
+
+/// The number of events, where the trace can be played with what is lent.
+fn playable(table: &[u8], trace: &[u8], lent: &Lent) -> Result<usize, Error> {
     accepted(table_fault(table))?;
     at_least(Buffer::Counts, lent.counts.len(), 2)?;
     accepted(trace_fault(table, trace))?;
@@ -123,7 +152,6 @@ pub fn replay(table: &[u8], trace: &[u8], lent: Lent) -> Result<usize, Error> {
     at_least(Buffer::Answers, lent.answers.len(), events)?;
     at_least(Buffer::Given, lent.given.len(), events)?;
     at_least(Buffer::Values, lent.values.len(), events)?;
-    accepted(direct::replay(table, trace, lent))?;
     Ok(events)
 }
 

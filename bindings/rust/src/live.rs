@@ -3,7 +3,7 @@
 use std::mem::{offset_of, size_of};
 
 use crate::direct;
-use crate::record::{Counts, Frame, Listed, Step, ENTRIES};
+use crate::record::{Counts, Frame, Listed, ShiftRecord, Step, ENTRIES};
 use crate::refusal::{accepted, Refusal};
 
 /// A queue. It is plain data with no reference inside: it may be copied, saved
@@ -138,6 +138,17 @@ impl Queue {
     pub fn take(&mut self, port: u32) -> Result<u32, Refusal> {
         let step = direct::take_in(self.frame, &mut self.loads, &mut self.stores, port);
         self.follow(step)
+    }
+
+    /// [`Queue::take`], and keeps the record of it: an accepted take changes the
+    /// port's two numbers there, and no others.
+    ///
+    /// # Errors
+    /// 40, 22, 33, 34 as [`Queue::take`].
+    pub fn take_recorded(&mut self, kept: &mut ShiftRecord, port: u32) -> Result<u32, Refusal> {
+        let value = self.take(port)?;
+        *kept = kept.recorded(port, value);
+        Ok(value)
     }
 
     /// Puts the serials that [`Queue::serve`] would now accept, oldest first, at

@@ -11,6 +11,9 @@ pub const PLACES: usize = 32;
 /// Numbers that a side's entries are packed into, one each.
 pub const ENTRIES: usize = 64;
 
+/// Load ports, 0 to 31.
+pub const PORTS: usize = 32;
+
 /// Where a group's accesses stand in a table.
 #[derive(Clone, Copy, Debug, Default, PartialEq, Eq)]
 pub struct Span {
@@ -146,6 +149,28 @@ pub struct Counts {
     pub forwarded: u32,
 }
 
+/// What was taken at each load port. It may come from anywhere and hold
+/// anything; the default is the record of no take.
+#[repr(C)]
+#[derive(Clone, Copy, Debug, Default, PartialEq, Eq)]
+pub struct ShiftRecord {
+    /// How many takes were accepted; a count stops at 4294967295.
+    pub takes: [u32; PORTS],
+    /// The last value taken.
+    pub values: [u32; PORTS],
+}
+
+/// What a replay that keeps a record answers.
+#[repr(C)]
+#[derive(Clone, Copy, Debug, PartialEq, Eq)]
+pub struct Replayed {
+    /// 0, or the refusal number.
+    pub answer: u32,
+    /// The record that the takes leave; of a refused replay it is the one handed
+    /// in.
+    pub kept: ShiftRecord,
+}
+
 /// What opening answers.
 #[repr(C)]
 #[derive(Clone, Copy, Debug, PartialEq, Eq)]
@@ -239,4 +264,8 @@ const _: () = {
     assert!(size_of::<Service>() == 20);
     assert!(size_of::<Listed>() == 16);
     assert!(size_of::<Written>() == 16);
+    assert!(size_of::<ShiftRecord>() == 256);
+    assert!(offset_of!(ShiftRecord, values) == 128);
+    assert!(size_of::<Replayed>() == 260);
+    assert!(offset_of!(Replayed, kept) == 4);
 };

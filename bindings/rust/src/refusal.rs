@@ -61,6 +61,7 @@ refusals! {
     KIND = 35, "an event's kind is above 6";
     FILE_TOO_LONG = 36, "a file has more than 16384 bytes";
     UNSOUND = 40, "no right queue";
+    PAGE_TOO_SHORT = 41, "a page buffer has fewer than 1394 bytes";
 }
 
 impl fmt::Display for Refusal {

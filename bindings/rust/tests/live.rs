@@ -180,5 +180,7 @@ fn refusals_can_be_read() {
     let words = Refusal(28).to_string();
     assert_eq!(words, "refused with 28: an earlier store has no address");
     assert_eq!(Refusal::EARLIER_STORE_ADDRESS, Refusal(28));
-    assert_eq!(Refusal(41).meaning(), "no number of the paper's");
+    let words = Refusal::PAGE_TOO_SHORT.to_string();
+    assert!(words.ends_with("41: a page buffer has fewer than 1394 bytes"));
+    assert_eq!(Refusal(42).meaning(), "no number of the paper's");
 }

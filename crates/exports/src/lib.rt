@@ -5,12 +5,14 @@ ghost use Rattle.table.specs.TableBytes.{readTable, tableAnswer};
 ghost use Rattle.queue.specs.Counts.{share};
 ghost use Rattle.queue.specs.Ruled.{number};
 ghost use Rattle.printed.specs.Outcome.{printed};
+ghost use Rattle.paged.specs.Recorded.{keptAfter};
 ghost use Rattle.exports.specs.Text.{textLength};
 ghost use Rattle.exports.specs.Prepared.{prepared, eventCount, memoryLength};
 ghost use Rattle.exports.specs.Replay.{lent, replayLent, lentAfter};
 ghost use Rattle.exports.specs.Internal.{TellsPrepared};
 use number::BytesWritten;
 use number::refusal::TOO_SHORT;
+use paged::recording::record_replay;
 use printed::text::print;
 use queue::Counts;
 use queue::counting::share;
@@ -18,7 +20,15 @@ use replay::Prepared;
 use replay::preparing::prepare;
 use replay::preparing::unprepared;
 use replay::replaying::replay;
+use shift::ShiftRecord;
 use table::read::read_table;
+
+// What a replay that keeps the record hands back.
+#[repr(C)]
+pub struct LentRecorded {
+    pub answer: u32,
+    pub kept: ShiftRecord,
+}
 
 // Reads the table and makes the trace ready.
 fn make_ready(table: &[u8], trace: &[u8]) -> Prepared
@@ -82,7 +92,10 @@ pub extern "C" fn lsq_replay(
     given: &mut [u8],
     values: &mut [u32],
 ) -> u32
-    ensures { λ r. ⌜ record { answer = r; left = lent (now (memory .exit)) (now (counts .exit)) (now (answers .exit)) (now (given .exit)) (now (values .exit)) }
+    ensures { λ r. ⌜ record {
+      answer = r;
+      left = lent (now (memory .exit)) (now (counts .exit)) (now (answers .exit)) (now (given .exit)) (now (values .exit));
+    }
         ≡ lentAfter (lent (now (memory .entry)) (now (counts .entry)) (now (answers .entry)) (now (given .entry)) (now (values .entry)))
         (replayLent (now (table .entry)) (now (trace .entry))
         (lent (now (memory .entry)) (now (counts .entry)) (now (answers .entry)) (now (given .entry)) (now (values .entry)))) ⌝ }
@@ -104,6 +117,40 @@ pub extern "C" fn lsq_replay(
     counts[0] = after.loads;
     counts[1] = after.forwarded;
     done.answer as u32
+}
+
+// Replays the trace as `lsq_replay` does, and keeps the record of what it took. Where it answers 0 the record is that of the trace's
+// takes, from the one that was handed in; else it hands back the very record.
+#[no_mangle]
+pub extern "C" fn lsq_replay_recorded(
+    table: &[u8],
+    trace: &[u8],
+    memory: &mut [u32],
+    counts: &mut [u32],
+    answers: &mut [u8],
+    given: &mut [u8],
+    values: &mut [u32],
+    kept: ShiftRecord,
+) -> LentRecorded
+    ensures { λ r. ⌜ (record {
+      answer = r .answer;
+      left = lent (now (memory .exit)) (now (counts .exit)) (now (answers .exit)) (now (given .exit)) (now (values .exit));
+    }
+        ≡ lentAfter (lent (now (memory .entry)) (now (counts .entry)) (now (answers .entry)) (now (given .entry)) (now (values .entry)))
+        (replayLent (now (table .entry)) (now (trace .entry))
+        (lent (now (memory .entry)) (now (counts .entry)) (now (answers .entry)) (now (given .entry)) (now (values .entry)))))
+        × (r .kept ≡ keptAfter kept (now (trace .entry)) (replayLent (now (table .entry)) (now (trace .entry))
+        (lent (now (memory .entry)) (now (counts .entry)) (now (answers .entry)) (now (given .entry)) (now (values .entry))))) ⌝ }
+{
+    let answer = lsq_replay(table, trace, memory, counts, answers, given, values);
+    if answer != 0 {
+        return LentRecorded { answer, kept };
+    }
+    let after = record_replay(trace, given, values, kept);
+    LentRecorded {
+        answer,
+        kept: after,
+    }
 }
 
 // Writes the text that `play` prints of two files with these bytes at the front of a buffer, and answers how many bytes that

@@ -27,7 +27,7 @@ pub struct TableFound {
 }
 
 // The numbers of a writer's answer.
-fn live_written(written: BytesWritten) -> LiveWritten
+pub(crate) fn live_written(written: BytesWritten) -> LiveWritten
     ensures { λ r. ⌜ r ≡ liveWritten (writtenReply written) ⌝ }
 {
     match written {

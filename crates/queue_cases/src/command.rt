@@ -2,10 +2,11 @@
 use script::Numbers;
 
 // The names, in the order of the numbers below.
-const NAMES: [u8; 333] =
+const NAMES: [u8; 372] =
     *b"activate load-address store-address store-data take serve write ready-loads ready-stores \
 each open memory counts count share show sound unpack pack set-load-depth set-load-count set-load-next set-store-depth \
-set-store-count set-store-next set-words set-load set-store set-groups set-group set-load-pair set-store-pair put-table table";
+set-store-count set-store-next set-words set-load set-store set-groups set-group set-load-pair set-store-pair put-table \
+take-recorded recorded set-record page table";
 
 pub(crate) const ACTIVATE: usize = 0;
 
@@ -62,11 +63,18 @@ pub(crate) const SET_STORE_PAIR: usize = 31;
 
 pub(crate) const PUT_TABLE: usize = 32;
 
-pub(crate) const TABLE: usize = 33;
+// The first of the commands on the shift record.
+pub(crate) const TAKE_RECORDED: usize = 33;
+
+pub(crate) const RECORDED: usize = 34;
+
+pub(crate) const SET_RECORD: usize = 35;
+
+pub(crate) const TABLE: usize = 37;
 
 // The numbers that each takes before `table`, eight letters for each: `.` none, `w` any, `o` any or none, `f` to 1, `g` to 15,
 // `q` to 31, `p` to 63, `r` to 80, `b` to 255, `h` to 65535.
-const SHAPES: [u8; 264] = *b"\
+const SHAPES: [u8; 296] = *b"\
 w.......\
 ww......\
 ww......\
@@ -99,9 +107,13 @@ b.......\
 gbbbb...\
 qbb.....\
 qbb.....\
-........";
+........\
+w.......\
+ww......\
+qww.....\
+h.......";
 
-// The command of that name, or 34.
+// The command of that name, or 38.
 pub(crate) fn named(word: &[u8]) -> usize {
     script::place(&NAMES, word)
 }

@@ -1,5 +1,5 @@
-// Cases of the crate `queue`, as a script on standard input: a command to a line, echoed with what came back. The script's own
-// first lines say what each command does.
+// Cases of the crates `queue` and `shift`, as a script on standard input: a command to a line, echoed with what came back. The
+// script's own first lines say what each command does.
 
 mod calls;
 mod command;
@@ -8,6 +8,7 @@ mod ready;
 mod records;
 mod run;
 mod same;
+mod shift_record;
 mod show;
 
 use crate::run::Run;
@@ -50,7 +51,10 @@ fn obey(run: Run, command: usize, arguments: Numbers) -> Run {
     if command < command::SET_LOAD_DEPTH {
         return run::other(run, command, numbers, arguments.count);
     }
-    records::set(run, command, numbers)
+    if command < command::TAKE_RECORDED {
+        return records::set(run, command, numbers);
+    }
+    shift_record::obey(run, command, numbers)
 }
 
 // A line with a command.

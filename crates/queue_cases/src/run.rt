@@ -1,4 +1,4 @@
-// What the script works on: a queue, the table to open with, the memory and the counts that are lent.
+// What the script works on: a queue, the table to open with, the memory and the counts that are lent, the shift record.
 use crate::command;
 use crate::packing;
 use crate::show;
@@ -6,6 +6,7 @@ use queue::Counts;
 use queue::Opened;
 use queue::Queue;
 use script::Bytes;
+use shift::ShiftRecord;
 use table::Table;
 use table::TableRead;
 
@@ -16,6 +17,7 @@ pub struct Run {
     pub memory: [u32; 8],
     pub length: usize,
     pub counts: Counts,
+    pub kept: ShiftRecord,
 }
 
 // Before anything is opened the queue is the one of a refused opening.
@@ -23,6 +25,7 @@ pub(crate) fn fresh() -> Run {
     let table = table::read::no_table();
     let opened = Queue::open(table, 0, 0, 0, 0);
     let queue = opened.queue;
+    let kept = shift::recording::no_takes();
     Run {
         queue,
         table,
@@ -32,6 +35,7 @@ pub(crate) fn fresh() -> Run {
             loads: 0,
             forwarded: 0,
         },
+        kept,
     }
 }
 

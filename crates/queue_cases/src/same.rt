@@ -4,6 +4,7 @@ use queue::Entry;
 use queue::Frame;
 use queue::Queue;
 use queue::Side;
+use shift::ShiftRecord;
 use table::Table;
 
 // Groups and pairs are compared as the table holds them, packed: two numbers that differ hold groups or pairs that differ.
@@ -143,4 +144,26 @@ pub(crate) fn same_memory(a: [u32; 8], b: [u32; 8]) -> bool {
         i += 1;
     }
     true
+}
+
+fn same_ports(a: [u32; 32], b: [u32; 32]) -> bool {
+    let mut i: usize = 0;
+    while i < 32 {
+        if a[i] != b[i] {
+            return false;
+        }
+        i += 1;
+    }
+    true
+}
+
+pub(crate) fn same_record(a: ShiftRecord, b: ShiftRecord) -> bool {
+    let a_takes = a.takes;
+    let b_takes = b.takes;
+    if !same_ports(a_takes, b_takes) {
+        return false;
+    }
+    let a_values = a.values;
+    let b_values = b.values;
+    same_ports(a_values, b_values)
 }

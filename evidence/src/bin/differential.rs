@@ -1,15 +1,16 @@
 //! `differential [SEED [CALLS]]` compares the static library with the
 //! reference on the cases of a seed, one after another, until CALLS calls were
 //! made: each trace is replayed, and then its calls are made live, one by one.
+//! Then the programs `play` and `page` are run on the files of some cases.
 //! Cases of different seeds are different. `differential case NUMBER`
-//! compares one case again, without the program `play`. Exit status 1: a
-//! difference; 2: none, but something that can occur never did, or the program
-//! `play` is missing, or bad arguments.
+//! compares one case again, without the programs. Exit status 1: a difference;
+//! 2: none, but something that can occur never did, or a program is missing, or
+//! bad arguments.
 //!
 //! With LSQ_SHOW_CASES set it prints each case's number before it is played, so
 //! that a crash can be traced to one.
 
-use std::path::Path;
+use std::path::{Path, PathBuf};
 use std::process::ExitCode;
 use std::time::Instant;
 use std::{env, fs};
@@ -20,13 +21,13 @@ use evidence::live::compare::Checker;
 use evidence::live::header::Header;
 use evidence::live::tally::{LiveTally, IN_LISTS};
 use evidence::live::{lists, subject};
-use evidence::program;
+use evidence::program::{self, Program, PAGE, PLAY};
 use evidence::subject::Library;
 use evidence::tally::Tally;
 
 const SEED: u64 = 1;
 const CALLS: u64 = 1_000_000;
-/// Cases whose files the program `play` is run on, as they are and damaged.
+/// Cases whose files each program is run on, as they are and damaged.
 const PROGRAM_CASES: u64 = 1_000;
 
 fn main() -> ExitCode {
@@ -52,8 +53,8 @@ fn first_case(seed: u64) -> u64 {
 fn all(seed: u64, calls: u64) -> ExitCode {
     let start = Instant::now();
     // First of all: what is missing is told before minutes have passed.
-    let program = match program::built() {
-        Ok(program) => program,
+    let programs = match built() {
+        Ok(programs) => programs,
         Err(missing) => {
             eprintln!("nothing was compared: {missing}");
             return ExitCode::from(2);
@@ -62,13 +63,13 @@ fn all(seed: u64, calls: u64) -> ExitCode {
     let mut run = Run::new();
     let compared = run.cases(first_case(seed), calls);
     run.print();
-    let end = compared.and_then(|()| run_program(&program, first_case(seed)));
-    match end {
-        Ok(played) => println!("{played}"),
-        Err(report) => {
-            println!("{report}");
-            return ExitCode::from(1);
-        }
+    let mut programs = programs.iter();
+    let end = compared.and_then(|()| {
+        programs.try_for_each(|(program, path)| run_program(program, path, first_case(seed)))
+    });
+    if let Err(report) = end {
+        println!("{report}");
+        return ExitCode::from(1);
     }
     let seconds = start.elapsed().as_secs_f64();
     println!("seed {seed}: no difference in {seconds:.1} s");
@@ -78,6 +79,12 @@ fn all(seed: u64, calls: u64) -> ExitCode {
     }
     println!("but never tried, in so few calls: {}", missing.join("; "));
     ExitCode::from(2)
+}
+
+/// Both programs, with where they are.
+fn built() -> Result<[(Program, PathBuf); 2], String> {
+    let (play, page) = (PLAY.built()?, PAGE.built()?);
+    Ok([(PLAY, play), (PAGE, page)])
 }
 
 fn one(number: u64) -> ExitCode {
@@ -178,12 +185,13 @@ fn held(
     compared.map_err(|Difference(words)| Difference(format!("live calls of {name}: {words}")))
 }
 
-fn run_program(path: &Path, first: u64) -> Result<String, String> {
-    let path_shown = path.display();
-    match program::compare(path, first, PROGRAM_CASES) {
-        Ok(runs) => Ok(format!("{runs:>9} pairs of files played by {path_shown}")),
-        Err(Difference(words)) => Err(format!("DIFFERENCE of {path_shown} in {words}")),
-    }
+fn run_program(program: &Program, path: &Path, first: u64) -> Result<(), String> {
+    let shown = path.display();
+    let compared = program::compare(program, path, first, PROGRAM_CASES);
+    let differs = |Difference(words)| format!("DIFFERENCE of {shown} in {words}");
+    let runs = compared.map_err(differs)?;
+    println!("{runs:>9} pairs of files printed by {shown}");
+    Ok(())
 }
 
 /// Says what differs and how to see it again, and keeps the two files.

@@ -7,13 +7,16 @@ use lsq_ref::event::write_event;
 use lsq_ref::number::write_number;
 use lsq_ref::queue::Side as HeldSide;
 use lsq_ref::refusal::{KIND, UNSOUND};
-use lsq_ref::{Counts as HeldCounts, Event, Header, Queue, Table as HeldTable};
+use lsq_ref::{
+    Counts as HeldCounts, Event, Header, Queue, ShiftRecord as HeldShiftRecord, Table as HeldTable,
+};
 
 use super::record::{held_table, table_of, Record};
 use super::subject::{Live, Made, Ready};
 use super::tally::{LiveTally, Place};
 use crate::buffers::Guarded;
 use crate::compare::{same, same_run, same_shown, Difference};
+use crate::shift::{library_record, same_record};
 
 /// A record, and the queue that the reference takes it for.
 #[derive(Clone, Debug)]
@@ -80,14 +83,73 @@ impl<S: Live> Checker<'_, S> {
             self.tally
                 .left(gone(before.frame.stores, state.record.frame.stores));
         }
-        let left = || match answer {
-            0 => followed(&before, state),
-            _ => kept(&before, &state.record),
-        };
         same_made(outcome, lent.counts, &made)
             .and_then(|()| same_run("left", "memory", &lent.memory, &memory))
-            .and_then(|()| left())
+            .and_then(|()| left(answer, &before, state))
             .map_err(|Difference(words)| Difference(format!("{event:?}, {words}")))
+    }
+
+    /// Takes from a copy of the state, and keeps the record of it, which is then
+    /// what follows.
+    ///
+    /// # Errors
+    /// The first difference.
+    pub fn take_recorded(
+        &mut self,
+        state: &State,
+        record: &mut HeldShiftRecord,
+        port: u32,
+    ) -> Result<(), Difference> {
+        let (before, mut state) = (&state.record, state.clone());
+        let handed = *record;
+        let mut found = library_record(&handed);
+        let made = self
+            .subject
+            .take_recorded(&mut state.record, &mut found, port);
+        let outcome = match &mut state.queue {
+            Some(queue) => queue.take_recorded(record, port),
+            None => Err(UNSOUND),
+        };
+        let answer = outcome.err().unwrap_or(0);
+        self.tally.note(Place::TakeRecorded, answer);
+        if answer == 0 {
+            self.tally.recorded(&handed, port);
+        }
+        same_made(outcome.map(Some), HeldCounts::default(), &made)
+            .and_then(|()| left(answer, before, &state))
+            .and_then(|()| same_record("record", record, &found))
+            .map_err(|Difference(words)| Difference(format!("TakeRecorded of {port}, {words}")))
+    }
+
+    /// Compares a record once a value was taken at a port, which may be any.
+    ///
+    /// # Errors
+    /// The difference.
+    pub fn recorded(
+        &mut self,
+        record: &HeldShiftRecord,
+        port: u32,
+        value: u32,
+    ) -> Result<(), Difference> {
+        let mut expected = *record;
+        expected.recorded(port, value);
+        self.tally.note(Place::Recorded, 0);
+        self.tally.recorded(record, port);
+        let found = self.subject.recorded(library_record(record), port, value);
+        same_record(&format!("Recorded at {port}"), &expected, &found)
+    }
+
+    /// Compares the page of a record in a buffer that it may be too long for.
+    ///
+    /// # Errors
+    /// The first difference.
+    pub fn page(&mut self, record: &HeldShiftRecord, out: &Guarded<u8>) -> Result<(), Difference> {
+        let (mut expected, mut found) = (out.clone(), out.clone());
+        let outcome = record.write_page(expected.lend());
+        let written = self.subject.page(library_record(record), found.lend());
+        self.tally.paged(record, out.length());
+        self.answered(Place::Page, outcome, written.answer, written.count)?;
+        same_run("Page", "out", &expected, &found)
     }
 
     /// Compares a ready call with a run of numbers that it may be too short for.
@@ -272,6 +334,14 @@ fn same_made(
     same("given", value.is_some().into(), made.given)?;
     same("value", value.unwrap_or(0), made.value)?;
     same_shown("counts", &library_counts(counts), &made.counts)
+}
+
+/// What a call must leave of the record.
+fn left(answer: u8, before: &Record, state: &State) -> Result<(), Difference> {
+    match answer {
+        0 => followed(before, state),
+        _ => kept(before, &state.record),
+    }
 }
 
 /// "Everything handed in or lent keeps its contents."

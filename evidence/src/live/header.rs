@@ -3,7 +3,7 @@
 #![allow(unsafe_code)]
 
 use lsq::record::{Counts, Frame, Listed, Opened, Side, Table, TableRead, Written, ENTRIES};
-use lsq::{Queue, QUEUE_BYTES};
+use lsq::{Queue, ShiftRecord, QUEUE_BYTES};
 use lsq_ref::{Event, Header as Opening};
 
 use super::record::Record;
@@ -34,6 +34,14 @@ unsafe extern "C" {
     ) -> u32;
     fn header_write(queue: *mut Queue, memory: *mut u32, memory_len: usize, serial: u32) -> u32;
     fn header_take(queue: *mut Queue, port: u32, value: *mut u32) -> u32;
+    fn header_take_recorded(
+        queue: *mut Queue,
+        kept: *mut ShiftRecord,
+        port: u32,
+        value: *mut u32,
+    ) -> u32;
+    fn header_recorded(kept: ShiftRecord, port: u32, value: u32) -> ShiftRecord;
+    fn header_page(kept: ShiftRecord, out: *mut u8, out_len: usize) -> Written;
     fn header_ready_loads(
         queue: *const Queue,
         out: *mut u32,
@@ -73,7 +81,8 @@ fn filled() -> Queue {
 }
 
 // In all blocks below pointers come from references and slices that live on and
-// do not overlap, and `Queue` and `Counts` are laid out as their C types.
+// do not overlap, and `Queue`, `Counts` and `ShiftRecord` are laid out as their
+// C types.
 
 /// The queue that C saves and restores; both must be as the Rust wrapper has it.
 fn restored(queue: &Queue) -> Queue {
@@ -146,6 +155,13 @@ impl Live for Header {
         made(answer, value, counts, event)
     }
 
+    fn take_recorded(&self, record: &mut Record, kept: &mut ShiftRecord, port: u32) -> Made {
+        let (mut queue, mut value) = (whole(record), FILLER);
+        let answer = unsafe { header_take_recorded(&mut queue, kept, port, &mut value) };
+        put_back(record, &queue);
+        made(answer, value, Counts::default(), &Event::Take { port })
+    }
+
     fn ready(&self, record: &Record, ready: Ready, out: &mut [u32]) -> Listed {
         let queue = whole(record);
         let mut count = usize::MAX;
@@ -159,6 +175,14 @@ impl Live for Header {
             answer,
             count: if left { 0 } else { count as u64 },
         }
+    }
+
+    fn recorded(&self, kept: ShiftRecord, port: u32, value: u32) -> ShiftRecord {
+        unsafe { header_recorded(kept, port, value) }
+    }
+
+    fn page(&self, kept: ShiftRecord, out: &mut [u8]) -> Written {
+        unsafe { header_page(kept, out.as_mut_ptr(), out.len()) }
     }
 
     // The header adds nothing to these.

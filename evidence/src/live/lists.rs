@@ -6,7 +6,7 @@ use lsq_ref::{gen, Event, Header};
 
 use super::cases::blank;
 use super::compare::{Checker, Lent, State};
-use super::records::run_for;
+use super::records::{page_buffer, run_for};
 use super::subject::{Live, Ready};
 use crate::buffers::Guarded;
 use crate::cases::Case;
@@ -16,7 +16,8 @@ use crate::compare::Difference;
 const SELDOM: usize = 16;
 
 /// Opens the case's table with the leading numbers of its trace and makes the
-/// call of each event that can be read.
+/// call of each event that can be read. A record of the takes is kept all along,
+/// and its page is written at the end.
 ///
 /// # Errors
 /// The first difference.
@@ -32,6 +33,7 @@ pub fn compare<S: Live>(checker: &mut Checker<S>, case: &Case) -> Result<(), Dif
     record.frame = frame;
     let mut state = State::new(record);
     let mut lent = lent(&mut rng, &header);
+    let mut kept = gen::shift_record(&mut rng);
     let bytes = &case.trace;
     let mut events = EventReader { bytes, at };
     while let Step::Event(event, _) = events.step() {
@@ -39,9 +41,12 @@ pub fn compare<S: Live>(checker: &mut Checker<S>, case: &Case) -> Result<(), Dif
             look(checker, &mut state, &mut rng)?;
             elsewhere(checker, &mut state, &mut rng, &event)?;
         }
+        if let Event::Take { port } = event {
+            checker.take_recorded(&state, &mut kept, port)?;
+        }
         checker.call(&mut state, &mut lent, &event)?;
     }
-    Ok(())
+    checker.page(&kept, &page_buffer(&mut rng))
 }
 
 fn lent(rng: &mut Rng, header: &Header) -> Lent {

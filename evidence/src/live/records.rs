@@ -4,7 +4,8 @@ use lsq_ref::gen;
 use lsq_ref::number::{byte_count, write_numbers};
 use lsq_ref::queue::MAX_DEPTH;
 use lsq_ref::rng::Rng;
-use lsq_ref::{Header, Queue};
+use lsq_ref::shift::PAGE_BYTES;
+use lsq_ref::{Event, Header, Queue};
 
 use super::cases::RecordCase;
 use super::compare::{Checker, Lent, State};
@@ -30,8 +31,31 @@ pub fn compare<S: Live>(checker: &mut Checker<S>, case: &RecordCase) -> Result<(
     for kind in 0..7 {
         let event = gen::call_of_kind(&mut rng, aim, kind);
         checker.call(&mut state.clone(), &mut lent.clone(), &event)?;
+        if let Event::Take { port } = event {
+            checker.take_recorded(&state, &mut gen::shift_record(&mut rng), port)?;
+        }
     }
-    write_and_read(checker, case, &mut rng)
+    write_and_read(checker, case, &mut rng)?;
+    shift_record(checker, &mut rng)
+}
+
+/// A take that is recorded at any port of any record, and the page of it.
+fn shift_record<S: Live>(checker: &mut Checker<S>, rng: &mut Rng) -> Result<(), Difference> {
+    let record = gen::shift_record(rng);
+    let inside = rng.between(0, 31);
+    let any = any_number(rng);
+    let port = rng.pick(&[inside, inside, inside, 31, 32, any]);
+    checker.recorded(&record, port, any_number(rng))?;
+    checker.page(&record, &page_buffer(rng))
+}
+
+/// A buffer that is just long enough for a page, longer, or too short.
+#[must_use]
+pub fn page_buffer(rng: &mut Rng) -> Guarded<u8> {
+    let near = length_near(rng, PAGE_BYTES);
+    let any = rng.below(2 * PAGE_BYTES);
+    let length = rng.pick(&[near, near, near, 0, any]);
+    Guarded::new(length, || rng.word() as u8)
 }
 
 /// A memory and counts for calls on this queue.

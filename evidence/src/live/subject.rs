@@ -3,7 +3,7 @@
 use lsq::record::{
     Counts, Frame, Listed, Opened, Service, Step, Table, TableRead, Written, ENTRIES,
 };
-use lsq::{direct, Queue, Refusal};
+use lsq::{direct, Queue, Refusal, ShiftRecord};
 use lsq_ref::{Event, Header};
 
 use super::record::Record;
@@ -38,6 +38,14 @@ pub trait Live {
     fn sound(&self, record: &Record) -> u32;
     /// The call that the event stands for, whose frame is put in place.
     fn call(&self, record: &mut Record, memory: &mut [u32], counts: Counts, event: &Event) -> Made;
+    /// A take whose value is recorded, where it is accepted.
+    fn take_recorded(&self, record: &mut Record, kept: &mut ShiftRecord, port: u32) -> Made {
+        let made = self.call(record, &mut [], Counts::default(), &Event::Take { port });
+        if made.answer == 0 {
+            *kept = self.recorded(*kept, port, made.value);
+        }
+        made
+    }
     /// `lsq_ready_loads_in` and `lsq_ready_stores_in`.
     fn ready(&self, record: &Record, ready: Ready, out: &mut [u32]) -> Listed;
     /// `lsq_read_table`.
@@ -48,6 +56,10 @@ pub trait Live {
     fn write_number(&self, value: u32, out: &mut [u8]) -> Written;
     /// `lsq_write_event`.
     fn write_event(&self, kind: u32, first: u32, second: u32, out: &mut [u8]) -> Written;
+    /// `lsq_recorded`.
+    fn recorded(&self, kept: ShiftRecord, port: u32, value: u32) -> ShiftRecord;
+    /// `lsq_page`.
+    fn page(&self, kept: ShiftRecord, out: &mut [u8]) -> Written;
 }
 
 /// The static library.
@@ -131,6 +143,14 @@ impl Live for Library {
 
     fn write_event(&self, kind: u32, first: u32, second: u32, out: &mut [u8]) -> Written {
         direct::write_event(kind, first, second, out)
+    }
+
+    fn recorded(&self, kept: ShiftRecord, port: u32, value: u32) -> ShiftRecord {
+        direct::recorded(kept, port, value)
+    }
+
+    fn page(&self, kept: ShiftRecord, out: &mut [u8]) -> Written {
+        direct::page(kept, out)
     }
 }
 
@@ -249,6 +269,18 @@ impl Live for Wrapper {
         }
     }
 
+    fn take_recorded(&self, record: &mut Record, kept: &mut ShiftRecord, port: u32) -> Made {
+        let mut queue = whole(record);
+        let value = queue.take_recorded(kept, port);
+        put_back(record, &queue);
+        Made {
+            answer: number(&value),
+            given: value.is_ok().into(),
+            value: value.unwrap_or(0),
+            counts: Counts::default(),
+        }
+    }
+
     fn ready(&self, record: &Record, ready: Ready, out: &mut [u32]) -> Listed {
         let queue = whole(record);
         let front = match ready {
@@ -279,6 +311,14 @@ impl Live for Wrapper {
 
     fn write_event(&self, kind: u32, first: u32, second: u32, out: &mut [u8]) -> Written {
         written(lsq::write_event(kind, first, second, out))
+    }
+
+    fn recorded(&self, kept: ShiftRecord, port: u32, value: u32) -> ShiftRecord {
+        kept.recorded(port, value)
+    }
+
+    fn page(&self, kept: ShiftRecord, out: &mut [u8]) -> Written {
+        written(kept.page(out))
     }
 }
 

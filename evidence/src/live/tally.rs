@@ -1,13 +1,15 @@
 //! How often each live call answered each number.
 
+use std::collections::BTreeMap;
 use std::fmt;
 
-use lsq_ref::Event;
+use lsq_ref::shift::PORTS;
+use lsq_ref::{Event, ShiftRecord};
 
 use super::subject::Ready;
 
 /// The numbers that can be answered are below this.
-const NUMBERS: usize = 41;
+const NUMBERS: usize = 42;
 
 /// A function of the library.
 #[derive(Clone, Copy, Debug, PartialEq, Eq)]
@@ -28,6 +30,8 @@ pub enum Place {
     Write,
     /// `lsq_take_in`.
     Take,
+    /// The same, and `lsq_recorded` where it is accepted.
+    TakeRecorded,
     /// `lsq_ready_loads_in`.
     ReadyLoads,
     /// `lsq_ready_stores_in`.
@@ -42,11 +46,22 @@ pub enum Place {
     WriteNumber,
     /// `lsq_write_event`.
     WriteEvent,
+    /// `lsq_recorded`, which refuses nothing.
+    Recorded,
+    /// `lsq_page`.
+    Page,
 }
 
 use Place::*;
 
-const PLACES: usize = WriteEvent as usize + 1;
+const PLACES: usize = Page as usize + 1;
+
+/// What is reached with shift records.
+const PORT_31: &str = "takes recorded at port 31";
+const PORT_ABOVE: &str = "takes recorded at a port above 31";
+const STOPPED: &str = "takes recorded where the count stays at 4294967295";
+const NO_TAKE: &str = "pages of a record with a value at a port of no take";
+const NO_BYTE: &str = "page buffers of no byte";
 
 impl Place {
     /// That of the call that an event stands for.
@@ -81,6 +96,8 @@ pub struct CanOccur {
     /// Ready lists of all lengths up to this one, and as many entries that
     /// leave a side at once.
     most: usize,
+    /// What is reached with shift records.
+    states: &'static [&'static str],
 }
 
 /// In lists of calls from an opening: no such list leads to 40.
@@ -94,11 +111,14 @@ pub const IN_LISTS: CanOccur = CanOccur {
         (Serve, &[0, 25, 26, 27, 28, 29, 30]),
         (Write, &[0, 25, 26, 27, 29, 30, 31, 32]),
         (Take, &[0, 22, 33, 34]),
+        (TakeRecorded, &[0, 22, 33, 34]),
         (ReadyLoads, &[0, 10]),
         (ReadyStores, &[0, 10]),
         (Sound, &[0]),
+        (Page, &[0, 41]),
     ],
     most: 16,
+    states: &[PORT_31, STOPPED, NO_TAKE],
 };
 
 /// On records from anywhere.
@@ -112,6 +132,7 @@ pub const IN_RECORDS: CanOccur = CanOccur {
         (Serve, &[0, 25, 26, 27, 28, 29, 30, 40]),
         (Write, &[0, 25, 26, 27, 29, 30, 31, 32, 40]),
         (Take, &[0, 22, 33, 34, 40]),
+        (TakeRecorded, &[0, 22, 33, 34, 40]),
         (ReadyLoads, &[0, 10, 40]),
         (ReadyStores, &[0, 10, 40]),
         (Sound, &[0, 40]),
@@ -119,8 +140,11 @@ pub const IN_RECORDS: CanOccur = CanOccur {
         (WriteTable, &[0, 4, 5, 6, 7, 8, 10]),
         (WriteNumber, &[0, 10]),
         (WriteEvent, &[0, 10, 35]),
+        (Recorded, &[0]),
+        (Page, &[0, 41]),
     ],
     most: 64,
+    states: &[PORT_31, PORT_ABOVE, STOPPED, NO_TAKE, NO_BYTE],
 };
 
 /// Sizes are counted together up to each of these.
@@ -160,6 +184,7 @@ pub struct LiveTally {
     answers: [[u64; NUMBERS]; PLACES],
     lists: Sizes,
     leaving: Sizes,
+    states: BTreeMap<&'static str, u64>,
 }
 
 impl LiveTally {
@@ -171,6 +196,7 @@ impl LiveTally {
             answers: [[0; NUMBERS]; PLACES],
             lists: Sizes::default(),
             leaving: Sizes::default(),
+            states: BTreeMap::new(),
         }
     }
 
@@ -187,6 +213,32 @@ impl LiveTally {
     /// Counts the entries that left a side at once.
     pub fn left(&mut self, entries: usize) {
         self.leaving.note(entries);
+    }
+
+    /// Counts a value that is recorded at a port, which may be any.
+    pub fn recorded(&mut self, before: &ShiftRecord, port: u32) {
+        let takes = before.takes.get(port as usize);
+        self.reach(port as usize == PORTS - 1, PORT_31);
+        self.reach(takes.is_none(), PORT_ABOVE);
+        self.reach(takes == Some(&u32::MAX), STOPPED);
+    }
+
+    /// Counts a page in a buffer of this length.
+    pub fn paged(&mut self, record: &ShiftRecord, length: usize) {
+        let mut ports = record.takes.iter().zip(&record.values);
+        let beside = ports.any(|(&takes, &value)| takes == 0 && value != 0);
+        self.reach(beside, NO_TAKE);
+        self.reach(length == 0, NO_BYTE);
+    }
+
+    fn reach(&mut self, reached: bool, state: &'static str) {
+        *self.states.entry(state).or_default() += u64::from(reached);
+    }
+
+    fn states(&self) -> impl Iterator<Item = (&'static str, u64)> + '_ {
+        let count = |state: &&'static str| self.states.get(state).copied().unwrap_or(0);
+        let states = self.can_occur.states.iter();
+        states.map(move |state| (*state, count(state)))
     }
 
     /// Calls that were compared.
@@ -208,7 +260,9 @@ impl LiveTally {
         let lists = lists.map(|size| format!("ready lists of up to {size}"));
         let leaving = self.leaving.missing(most);
         let leaving = leaving.map(|size| format!("up to {size} that leave at once"));
-        numbers.chain(lists).chain(leaving).collect()
+        let states = self.states().filter(|&(_, count)| count == 0);
+        let states = states.map(|(state, _)| state.to_string());
+        numbers.chain(lists).chain(leaving).chain(states).collect()
     }
 }
 
@@ -234,6 +288,8 @@ impl fmt::Display for LiveTally {
             writeln!(f, "{total:>9}   {number:>2} {places}")?;
         }
         writeln!(f, "Lengths of ready lists, {}", self.lists)?;
-        writeln!(f, "Entries that left a side at once, {}", self.leaving)
+        writeln!(f, "Entries that left a side at once, {}", self.leaving)?;
+        let mut states = self.states();
+        states.try_for_each(|(state, count)| writeln!(f, "{count:>9} {state}"))
     }
 }

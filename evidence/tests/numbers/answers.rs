@@ -12,12 +12,20 @@ const HEADER: &str = "bindings/c/lsq.h";
 const DIRECT: &str = "bindings/rust/src/direct.rs";
 const LIVE: &str = "bindings/rust/src/live.rs";
 const BYTES: &str = "bindings/rust/src/bytes.rs";
-const CRATE: [&str; 2] = ["crates/live/src/calls.rt", "crates/live/src/bytes.rt"];
+const SHIFT: &str = "bindings/rust/src/shift.rs";
+const CRATE: [&str; 3] = [
+    "crates/live/src/calls.rt",
+    "crates/live/src/bytes.rt",
+    "crates/live/src/page.rt",
+];
 const TALLY: &str = "evidence/src/live/tally.rs";
 const FORMATS: &str = "docs/FORMATS.md";
-pub const PATHS: [&str; 8] = [
-    HEADER, DIRECT, LIVE, BYTES, CRATE[0], CRATE[1], TALLY, FORMATS,
+pub const PATHS: [&str; 10] = [
+    HEADER, DIRECT, LIVE, BYTES, SHIFT, CRATE[0], CRATE[1], CRATE[2], TALLY, FORMATS,
 ];
+
+/// The one says the same of 40 the other way round, the other refuses nothing.
+const NO_ORDER: [&str; 2] = ["Sound", "Recorded"];
 
 /// A function's name without `lsq_`, and a comment's part that gives answers.
 type Told = (String, Range<usize>);
@@ -27,6 +35,7 @@ pub fn read(check: &mut Check, sources: &Sources) {
     let mut tell = |path: &str, told: Vec<Told>| {
         let source = sources.get(path);
         for (name, part) in told.into_iter().filter(|(name, _)| is_call(name)) {
+            let name = without_record(&name);
             let order = order(check, source, &part);
             if order.is_empty() {
                 continue;
@@ -47,16 +56,10 @@ pub fn read(check: &mut Check, sources: &Sources) {
         first_sentences(sources.get(DIRECT), "///", "pub fn "),
     );
     for path in CRATE {
-        let told = first_sentences(sources.get(path), "//", "pub extern \"C\" fn lsq_");
-        // It says the same of 40 the other way round.
-        tell(
-            path,
-            told.into_iter()
-                .filter(|(name, _)| name != "sound_in")
-                .collect(),
-        );
+        tell(path, in_crate(sources.get(path)));
     }
     tell(BYTES, errors(sources.get(BYTES), ""));
+    tell(SHIFT, errors(sources.get(SHIFT), ""));
     tell(LIVE, errors(sources.get(LIVE), "_in"));
     tell(FORMATS, in_rows(sources.get(FORMATS)));
     come_by(check, sources.get(TALLY), &orders);
@@ -68,6 +71,12 @@ fn is_call(name: &str) -> bool {
         || name.starts_with("read_")
         || name.starts_with("write_")
         || name == "table_fault"
+        || name == "page"
+}
+
+/// A take that keeps a record answers as one without.
+fn without_record(name: &str) -> String {
+    name.replace("take_recorded", "take")
 }
 
 /// The numbers of a part, each range spelled out. A limit, "above 6", is none.
@@ -120,7 +129,16 @@ fn in_header(source: &Source) -> Vec<Told> {
     told
 }
 
-/// The rows `| load address, store address | 40, 22, 23, 24 |` of the calls on a queue.
+/// The first sentence of the comment before each function of the crate.
+fn in_crate(source: &Source) -> Vec<Told> {
+    let mut told = first_sentences(source, "//", "pub extern \"C\" fn lsq_");
+    // It says the same of 40 the other way round.
+    told.retain(|(name, _)| name != "sound_in");
+    told
+}
+
+/// The rows `| load address, store address | 40, 22, 23, 24 |` of the calls on a
+/// queue, and the row of a page.
 fn in_rows(source: &Source) -> Vec<Told> {
     let lines = source.lines();
     let rows = lines.skip_while(|(_, line)| !line.starts_with("| activate |"));
@@ -131,7 +149,11 @@ fn in_rows(source: &Source) -> Vec<Told> {
             .expect("a first cell")
             .replace("ready", "ready loads, ready stores");
         for call in calls.split(", ") {
-            told.push((call.replace(' ', "_") + "_in", range.clone()));
+            let name = match call {
+                "writing a page" => "page".into(),
+                _ => call.replace(' ', "_") + "_in",
+            };
+            told.push((name, range.clone()));
         }
     }
     told
@@ -201,10 +223,10 @@ fn come_by(check: &mut Check, source: &Source, orders: &BTreeMap<String, (String
         else {
             continue;
         };
-        if name == "Sound" {
+        if NO_ORDER.contains(&name) {
             continue;
         }
-        let name = snake(name);
+        let name = without_record(&snake(name));
         let Some((place, order)) = orders
             .get(&format!("{name}_in"))
             .or_else(|| orders.get(&name))

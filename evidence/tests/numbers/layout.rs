@@ -5,7 +5,7 @@ use crate::check::Check;
 use crate::source::{Source, Sources};
 
 /// The crates' records that go to C, and their names there.
-const RECORDS: [(&str, &str, &str); 11] = [
+const RECORDS: [(&str, &str, &str); 13] = [
     ("crates/table/src/lib.rt", "Table", "lsq_table"),
     ("crates/queue/src/lib.rt", "Side", "lsq_side"),
     ("crates/queue/src/lib.rt", "Frame", "lsq_frame"),
@@ -17,9 +17,11 @@ const RECORDS: [(&str, &str, &str); 11] = [
     ("crates/live/src/calls.rt", "LiveStep", "lsq_step"),
     ("crates/live/src/calls.rt", "LiveService", "lsq_service"),
     ("crates/live/src/calls.rt", "LiveReady", "lsq_listed"),
+    ("crates/shift/src/lib.rt", "ShiftRecord", "lsq_shift_record"),
+    ("crates/exports/src/lib.rt", "LentRecorded", "lsq_replayed"),
 ];
 
-pub const PATHS: [&str; 7] = [
+pub const PATHS: [&str; 9] = [
     "bindings/c/lsq.h",
     "bindings/rust/src/record.rs",
     "bindings/rust/src/live.rs",
@@ -27,6 +29,8 @@ pub const PATHS: [&str; 7] = [
     "crates/queue/src/lib.rt",
     "crates/live/src/bytes.rt",
     "crates/live/src/calls.rt",
+    "crates/shift/src/lib.rt",
+    "crates/exports/src/lib.rt",
 ];
 
 pub fn read(check: &mut Check, sources: &Sources) {

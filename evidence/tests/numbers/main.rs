@@ -32,7 +32,9 @@ fn whole() -> Vec<String> {
 
 /// The crates' sources, of which every constant must be.
 fn crates() -> Vec<String> {
-    let libraries = ["table", "queue", "replay", "printed", "exports", "live"];
+    let libraries = [
+        "table", "queue", "shift", "replay", "printed", "paged", "exports", "live", "program",
+    ];
     let folders = libraries.map(|name| format!("crates/{name}/src"));
     folders
         .iter()

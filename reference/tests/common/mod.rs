@@ -1,6 +1,10 @@
 //! Helpers shared by the tests.
 #![allow(dead_code)]
 
+use std::path::{Path, PathBuf};
+use std::process::Command;
+use std::{env, fs, process};
+
 use lsq_ref::table::{Access, Group};
 use lsq_ref::{Header, Queue, Table};
 
@@ -61,4 +65,30 @@ pub fn header(load_depth: u32, store_depth: u32, first_serial: u32, memory_lengt
 /// An opened queue over a table of one group.
 pub fn open(order: &[Access], header: Header) -> Queue {
     Queue::open(table_of(order), header).expect("an opening that is accepted")
+}
+
+/// An empty folder, gone again at the end of the test.
+pub struct Folder(pub PathBuf);
+
+impl Folder {
+    /// A folder named for the test.
+    pub fn new(name: &str) -> Self {
+        let folder = env::temp_dir().join(format!("lsq_ref_{}_{name}", process::id()));
+        fs::create_dir(&folder).expect("a new folder");
+        Self(folder)
+    }
+}
+
+impl Drop for Folder {
+    fn drop(&mut self) {
+        let _ = fs::remove_dir_all(&self.0);
+    }
+}
+
+/// What a program of this crate prints in a folder.
+pub fn text_in(folder: &Path, program: &str) -> String {
+    let output = Command::new(program).current_dir(folder).output();
+    let output = output.expect("a program that runs");
+    assert!(output.status.success());
+    String::from_utf8(output.stdout).expect("text")
 }

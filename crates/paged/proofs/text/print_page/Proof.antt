@@ -1,0 +1,21 @@
+use mathlib.Core.Path.{refl, ap}
+use Rattle.number.specs.Number.{accepts}
+use Rattle.printed.proofs.TextLaws.{puts-front}
+use Rattle.paged.proofs.TextLaws.{printed-short, printed-fits}
+use borrow.Author.Needs.{needs}
+use Rattle.paged.proofs.text.print_page.Statement.{statement}
+use Rattle.paged.proofs.text.print_page.Tie as tie
+
+returns : tie.Need-returns
+returns c =
+    let a = c .before .before .before .before .args in
+    rw (printed-short (a .table .now) (a .trace .now) (a .out .now) (c .if1 .taken)) (refl, refl)
+
+returns-2 : tie.Need-returns-2
+returns-2 c =
+    let a = c .before .before .before .before .before .before .before .before .args in
+    let w = puts-front (c .before .before .put-text .ensures) in
+    rw (printed-fits (a .table .now) (a .trace .now) (a .out .now) (c .before .before .before .before .if1 .left)) (ap accepts (w .0), w .1)
+
+pub print-page-spec : {M : Type 1} → statement M
+print-page-spec = tie.close (tie.spec returns (λ c κs. search needs) (λ c. search needs) returns-2)

@@ -16,6 +16,8 @@ use crate::workloads::Workload;
 pub enum Implementation {
     /// The static library's replay.
     Proved,
+    /// The same with the shift record kept.
+    Recorded,
     /// A replay on the in-place Rust queue that makes check 40 on every call.
     Checked,
     /// The same without that check.
@@ -31,6 +33,9 @@ use Implementation::*;
 
 /// Replays, in this order.
 pub const REPLAYS: [Implementation; 3] = [Proved, Checked, Unchecked];
+
+/// The library's replays, with the shift record and without.
+pub const RECORDS: [Implementation; 2] = [Recorded, Proved];
 
 /// Calls one by one, in this order.
 pub const CALLS: [Implementation; 2] = [Live, InPlace];
@@ -69,6 +74,7 @@ impl Run {
         self.counts = [0; 2];
         let answer = match implementation {
             Proved => direct::replay(table, trace, self.lend_to_library()),
+            Recorded => self.play_recorded(table, trace),
             Checked => refusal(replay::<true>(table, trace, self.lend())),
             Unchecked => refusal(replay::<false>(table, trace, self.lend())),
             Live => self.play_live(workload),
@@ -76,6 +82,13 @@ impl Run {
         };
         assert_eq!(answer, 0, "the workload was refused");
         black_box(&self.values);
+    }
+
+    fn play_recorded(&mut self, table: &[u8], trace: &[u8]) -> u32 {
+        let none = lsq::ShiftRecord::default();
+        let replayed = direct::replay_recorded(table, trace, self.lend_to_library(), none);
+        black_box(&replayed.kept);
+        replayed.answer
     }
 
     fn play_live(&mut self, workload: &Workload) -> u32 {
@@ -150,7 +163,7 @@ pub fn agree(workload: &Workload) -> bool {
         run
     };
     let proved = played(Proved);
-    let others = [Checked, Unchecked, Live, InPlace];
+    let others = [Recorded, Checked, Unchecked, Live, InPlace];
     others.into_iter().all(|other| played(other) == proved)
 }
 

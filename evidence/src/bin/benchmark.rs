@@ -2,8 +2,8 @@
 //! with and without check 40, and prints tables in Markdown.
 //! `benchmark only WORKLOAD IMPLEMENTATION SECONDS` plays one thing over and
 //! over, for a profiler; WORKLOAD is a, b, c1, c16, depthN or groupsN, and
-//! IMPLEMENTATION is proved, checked, unchecked, live or inplace. `benchmark
-//! files FOLDER` writes each workload's title, table and trace to a folder of
+//! IMPLEMENTATION is proved, recorded, checked, unchecked, live or inplace.
+//! `benchmark files FOLDER` writes each workload's title, table and trace to a folder of
 //! its name in FOLDER, for a program in another language.
 
 use std::path::Path;
@@ -12,7 +12,9 @@ use std::time::Duration;
 use std::{env, fs, io};
 
 use evidence::clock::processor_time;
-use evidence::timing::{agree, reading, rounds, Implementation, Run, Spread, CALLS, REPLAYS};
+use evidence::timing::{
+    agree, reading, rounds, Implementation, Run, Spread, CALLS, RECORDS, REPLAYS,
+};
 use evidence::workloads::{named, Workload, BY_DEPTH, BY_GROUPS, MAIN};
 
 const ROUNDS: usize = 15;
@@ -60,6 +62,7 @@ fn usage() -> ExitCode {
 fn implementation_of(name: &str) -> Option<Implementation> {
     match name {
         "proved" => Some(Implementation::Proved),
+        "recorded" => Some(Implementation::Recorded),
         "checked" => Some(Implementation::Checked),
         "unchecked" => Some(Implementation::Unchecked),
         "live" => Some(Implementation::Live),
@@ -110,6 +113,7 @@ fn all() -> ExitCode {
     print_growth(DEPTH, &depth);
     print_growth(GROUPS, &groups);
     print_reading(&workloads);
+    print_recorded(&workloads);
     println!("Live calls from Rust, one by one, of events that were read before:");
     println!();
     print_live("Workload", &workloads);
@@ -194,6 +198,23 @@ fn print_reading(workloads: &[Workload]) {
     for workload in workloads {
         let [proved, reference] = reading(workload);
         println!("| {} | {proved:.1} | {reference:.1} |", workload.title);
+    }
+    println!();
+}
+
+fn print_recorded(workloads: &[Workload]) {
+    println!("| Replay with the shift record kept | ns an event | Without, ns an event | Time to without |");
+    println!("|---|---|---|---|");
+    for workload in workloads {
+        let rounds = rounds(RECORDS, workload, GROWTH_ROUNDS, GROWTH_SAMPLE);
+        let time = |place: usize| Spread::of(rounds.iter().map(|round| round[place])).middle;
+        let ratio = Spread::of(rounds.iter().map(|round| round[0] / round[1]));
+        let [kept, without] = [0, 1].map(time);
+        println!(
+            "| {} | {kept:.0} | {without:.0} | {} |",
+            workload.title,
+            times(ratio)
+        );
     }
     println!();
 }

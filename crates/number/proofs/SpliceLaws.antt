@@ -28,7 +28,8 @@ pub length-splice : (d : List ℕ) (p : ℕ) (bs : List ℕ) → p + length bs �
 length-splice d p bs h = rw (length-append, length-append, length-take-le p d (omega arith), length-drop) (omega arith)
 
 -- bytes spliced behind bytes
-pub splice-splice : (d : List ℕ) (p : ℕ) (xs ys : List ℕ) → p + length xs ≤ length d → splice (splice d p xs) (p + length xs) ys ≡ splice d p (xs ++ ys)
+pub splice-splice : (d : List ℕ) (p : ℕ) (xs ys : List ℕ) → p + length xs ≤ length d
+    → splice (splice d p xs) (p + length xs) ys ≡ splice d p (xs ++ ys)
 splice-splice d p xs ys h =
     let n : length (take p d ++ xs) ≡ p + length xs = rw (length-append, length-take-le p d (omega arith)) in
     let t : take (p + length xs) (splice d p xs) ≡ take p d ++ xs = take-at (take p d ++ xs) (drop (p + length xs) d) (p + length xs) n in
@@ -143,7 +144,8 @@ bytes-most n = up-to 4 n
     up-to zero n = omega arith
     up-to (suc more) n = go (ltb n 128) (up-to more (n / 128))
       where
-        go : (t : Bool) → length (bytesUpTo more (n / 128)) ≤ suc more → length (pick t (n ∷ []) ((128 + n % 128) ∷ bytesUpTo more (n / 128))) ≤ suc (suc more)
+        go : (t : Bool) → length (bytesUpTo more (n / 128)) ≤ suc more
+            → length (pick t (n ∷ []) ((128 + n % 128) ∷ bytesUpTo more (n / 128))) ≤ suc (suc more)
         go true h = omega arith
         go false h = omega arith
 
@@ -204,9 +206,11 @@ bytes-room ns count i h k =
     f
 
 -- two numbers put one after the other
-pub put-two : {d : List ℕ} {place : ℕ} {ns out : List ℕ} {end : ℕ} {out₁ out₂ : List ℕ} {end₁ end₂ : ℕ} → NumbersPut d place ns out end → (x y : ℕ)
-    → place + length (bytesOf ns) + length (numberBytes x) ≤ length d → out₁ ≡ splice out end (numberBytes x) → end₁ ≡ end + length (numberBytes x)
-    → out₂ ≡ splice out₁ end₁ (numberBytes y) → end₂ ≡ end₁ + length (numberBytes y) → NumbersPut d place (ns ++ x ∷ y ∷ []) out₂ end₂
+pub put-two : {d : List ℕ} {place : ℕ} {ns out : List ℕ} {end : ℕ} {out₁ out₂ : List ℕ} {end₁ end₂ : ℕ}
+    → NumbersPut d place ns out end → (x y : ℕ) → place + length (bytesOf ns) + length (numberBytes x) ≤ length d
+    → out₁ ≡ splice out end (numberBytes x) → end₁ ≡ end + length (numberBytes x)
+    → out₂ ≡ splice out₁ end₁ (numberBytes y) → end₂ ≡ end₁ + length (numberBytes y)
+    → NumbersPut d place (ns ++ x ∷ y ∷ []) out₂ end₂
 put-two {d} {place} {ns} w x y h e f e₂ f₂ =
     let k : place + length (bytesOf (ns ++ x ∷ [])) ≤ length d = rw (bytes-append ns (x ∷ []), length-append, append-nil) (omega arith) in
     rw append-assoc at (put-one (put-one w x (omega arith) e f) y k e₂ f₂)

@@ -1,10 +1,8 @@
-// What the programs share: the files of the current folder, and standard output.
+// What the programs share: how the files of the current folder are read.
 ghost use mathlib.Core.Path.{_≡_};
 ghost use Prim.Native.Nat.{_+_, _≤_};
 ghost use lib.ListN.{length, replicate};
 ghost use Rattle.printed.specs.Files.{mostBytes};
-use libc::STDERR_FILENO;
-use libc::STDOUT_FILENO;
 use printed::files::MOST_BYTES;
 
 // One byte more than a file may have, so that a longer file is seen to be too long.
@@ -25,15 +23,4 @@ pub fn read_file(name: &[u8], into: &mut [u8]) -> usize
     let n = io::read_full(fd, into);
     libc::close(fd);
     n
-}
-
-// Writes all of the text to standard output; where that fails, says so on standard error, since part of the text may be lost.
-pub fn write_out(text: &[u8], program: &[u8]) {
-    if !io::write_all(STDOUT_FILENO, text) {
-        io::write_all(STDERR_FILENO, program);
-        io::write_all(
-            STDERR_FILENO,
-            b": standard output took only part of the text\n",
-        );
-    }
 }

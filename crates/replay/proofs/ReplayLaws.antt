@@ -94,11 +94,14 @@ pub record Next (s : List ℕ) (next : ℕ) (left : List Event) (e : Event) : Ty
   pub is : left ≡ e ∷ rest
   pub reads : eventsFrom s next ≡ got rest []
 
-pub next-left : {s : List ℕ} {place next : ℕ} {e : Event} (left : List Event) → eventsFrom s place ≡ got left [] → EventGot s place e next → Next s next left e
+pub next-left : {s : List ℕ} {place next : ℕ} {e : Event} (left : List Event) → eventsFrom s place ≡ got left []
+    → EventGot s place e next → Next s next left e
 next-left {s} {place} {next} {e} left reads g = go (eventsFrom s next) refl
   where
     go : (h : Got (List Event)) → eventsFrom s next ≡ h → Next s next left e
-    go (bad n) d = let f : before e (bad n) ≡ got left [] = ap (before e) (sym d) ∙ sym (g .is) ∙ reads in let z : _≡_ {A = ℕ} 0 1 = cc in absurd (omega arith)
+    go (bad n) d =
+        let f : before e (bad n) ≡ got left [] = ap (before e) (sym d) ∙ sym (g .is) ∙ reads in
+        let z : _≡_ {A = ℕ} 0 1 = cc in absurd (omega arith)
     go (got es rest) d =
         let f : before e (got es rest) ≡ got left [] = ap (before e) (sym d) ∙ sym (g .is) ∙ reads in
         let x : left ≡ e ∷ es = cc in
@@ -108,8 +111,10 @@ next-left {s} {place} {next} {e} left reads g = go (eventsFrom s next) refl
 abbrev asLogged : ℕ → Option ℕ → Logged
 asLogged n v = record { number = n; value = v }
 
-module _ {s : List ℕ} {start : ℕ} {p₀ : Playing} {b₀ : Buffers} {place i : ℕ} {p : Playing} {b : Buffers} (w : Walk s start p₀ b₀ place i p b) where
-  pub walk-lengths : (length (b .answers) ≡ length (b₀ .answers)) × (length (b .given) ≡ length (b₀ .given)) × (length (b .values) ≡ length (b₀ .values))
+module _ {s : List ℕ} {start : ℕ} {p₀ : Playing} {b₀ : Buffers} {place i : ℕ} {p : Playing} {b : Buffers}
+    (w : Walk s start p₀ b₀ place i p b) where
+  pub walk-lengths : (length (b .answers) ≡ length (b₀ .answers)) × (length (b .given) ≡ length (b₀ .given))
+      × (length (b .values) ≡ length (b₀ .values))
   walk-lengths = (
     rw (w .are) (over-length answerOf (w .done) (b₀ .answers) (omega (arith, w .many, w .answers))),
     rw (w .are) (over-length givenOf (w .done) (b₀ .given) (omega (arith, w .many, w .given))),
@@ -133,7 +138,8 @@ same-buffers : {a a₂ g g₂ w w₂ : List ℕ} → a ≡ a₂ → g ≡ g₂ �
 same-buffers e f h = cc
 
 -- one event more
-pub walk-more : {s : List ℕ} {start : ℕ} {p₀ : Playing} {b₀ b b₂ : Buffers} {place i next : ℕ} {q : Queue} {c : Counts} {m left : List ℕ} {e : Event}
+pub walk-more : {s : List ℕ} {start : ℕ} {p₀ : Playing} {b₀ b b₂ : Buffers} {place i next : ℕ} {q : Queue} {c : Counts}
+    {m left : List ℕ} {e : Event}
     (r : Counted) → Walk s start p₀ b₀ place i (playing (contentsOf q) m c) b → EventGot s place e next → Plays q c m e r left
     → PutAnswer (r .answer) (r .value) i b b₂ → Walk s start p₀ b₀ next (i + 1) (playing (contentsOf (r .queue)) left (r .counts)) b₂
 walk-more {s} {start} {p₀} {b₀} {b} {b₂} {place} {i} {next} {q} {c} {m} {left} {e} r k ev pl put =
@@ -143,7 +149,8 @@ walk-more {s} {start} {p₀} {b₀} {b} {b₂} {place} {i} {next} {q} {c} {m} {l
     let after = playing (contentsOf (r .queue)) left (r .counts) in
     let new = asLogged (r .answer) (valueIn (r .value)) in
     let same : logged (stepOf p e) ≡ new = ap₂ asLogged (pl .answer) (pl .value) in
-    let tail : log p (k .left) ≡ new ∷ log after (n .rest) = ap (log p) (n .is) ∙ ap₂ (λ (h : Logged) (z : Playing). h ∷ log z (n .rest)) same (pl .next) in
+    let tail : log p (k .left) ≡ new ∷ log after (n .rest) =
+    ap (log p) (n .is) ∙ ap₂ (λ (h : Logged) (z : Playing). h ∷ log z (n .rest)) same (pl .next) in
     record {
       done = k .done ++ new ∷ [];
       left = n .rest;

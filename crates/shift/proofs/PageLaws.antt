@@ -17,7 +17,8 @@ use Rattle.number.proofs.PutLaws.{puts-as, puts-length, puts-puts}
 use Rattle.number.specs.Refusal.{pageTooShort}
 use Rattle.shift.specs.declared.ShiftRecord.{ShiftRecord}
 use Rattle.shift.specs.Record.{takesOf}
-use Rattle.shift.specs.Page.{blanks, padLeft, header, footer, portLine, portLines, upFrom, withLineFeed, valueOrZero, valueShown, page, pageBytes, pageWritten}
+use Rattle.shift.specs.Page.{blanks, padLeft, header, footer, portLine, portLines, upFrom, withLineFeed}
+use Rattle.shift.specs.Page.{valueOrZero, valueShown, page, pageBytes, pageWritten}
 use Rattle.shift.proofs.DigitLaws.{right-wide}
 
 -- ---- how wide the fields are
@@ -80,14 +81,17 @@ module _ {d : List ℕ} {p : ℕ} {xs : List ℕ} {many e : ℕ} {out : List ℕ
 abbrev pub linesTo : (ℕ → ℕ) → (ℕ → ℕ) → ℕ → List ℕ
 linesTo takes values k = flatMap withLineFeed (map (λ (port : ℕ). portLine port (takes port) (values port)) (upFrom 0 k))
 
-flat-from : (f : ℕ → List ℕ) (n k : ℕ) → flatMap withLineFeed (map f (upFrom n (suc k))) ≡ flatMap withLineFeed (map f (upFrom n k)) ++ withLineFeed (f (n + k))
+flat-from : (f : ℕ → List ℕ) (n k : ℕ)
+    → flatMap withLineFeed (map f (upFrom n (suc k))) ≡ flatMap withLineFeed (map f (upFrom n k)) ++ withLineFeed (f (n + k))
 flat-from f n zero = append-nil (withLineFeed (f n)) ∙ ap (λ (i : ℕ). withLineFeed (f i)) (sym (add-zero n))
 flat-from f n (suc k) =
     let e : suc n + k ≡ n + suc k = omega arith in
-    ap (λ (l : List ℕ). withLineFeed (f n) ++ l) (flat-from f (suc n) k ∙ ap (λ (i : ℕ). flatMap withLineFeed (map f (upFrom (suc n) k)) ++ withLineFeed (f i)) e)
+    ap (λ (l : List ℕ). withLineFeed (f n) ++ l)
+    (flat-from f (suc n) k ∙ ap (λ (i : ℕ). flatMap withLineFeed (map f (upFrom (suc n) k)) ++ withLineFeed (f i)) e)
     ∙ sym (append-assoc (withLineFeed (f n)) (flatMap withLineFeed (map f (upFrom (suc n) k))) (withLineFeed (f (n + suc k))))
 
-pub lines-next : (takes values : ℕ → ℕ) (k : ℕ) → linesTo takes values (k + 1) ≡ linesTo takes values k ++ withLineFeed (portLine k (takes k) (values k))
+pub lines-next : (takes values : ℕ → ℕ) (k : ℕ)
+    → linesTo takes values (k + 1) ≡ linesTo takes values k ++ withLineFeed (portLine k (takes k) (values k))
 lines-next takes values k =
     ap (linesTo takes values) (add-one k) ∙ flat-from (λ (port : ℕ). portLine port (takes port) (values port)) 0 k
     ∙ ap (λ (i : ℕ). linesTo takes values k ++ withLineFeed (portLine i (takes i) (values i))) (zero-add k)

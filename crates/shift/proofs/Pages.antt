@@ -142,10 +142,12 @@ text-long (line ∷ lines) h =
     omega (arith, length-append (withLineFeed line) (flatMap withLineFeed lines), line-feed-wide line, one, rest)
 
 -- each line is found by its number
-line-at : (lines : List (List ℕ)) → allOf isLine lines ≡ true → (i : ℕ) → i < length lines → lineAt i (flatMap withLineFeed lines) ≡ getD lines i []
+line-at : (lines : List (List ℕ)) → allOf isLine lines ≡ true → (i : ℕ) → i < length lines
+    → lineAt i (flatMap withLineFeed lines) ≡ getD lines i []
 line-at [] h i k = absurd (omega arith)
 line-at (line ∷ lines) h zero k =
-    stands (flatMap withLineFeed (line ∷ lines)) [] line (bytes "\n" ++ flatMap withLineFeed lines) 0 40 (append-assoc line (bytes "\n") (flatMap withLineFeed lines)) refl
+    stands (flatMap withLineFeed (line ∷ lines)) [] line (bytes "\n" ++ flatMap withLineFeed lines) 0 40
+    (append-assoc line (bytes "\n") (flatMap withLineFeed lines)) refl
     (line-long line (and-left (isLine line) (allOf isLine lines) h))
 line-at (line ∷ lines) h (suc i) k =
     let one = line-long line (and-left (isLine line) (allOf isLine lines) h) in
@@ -155,10 +157,12 @@ line-at (line ∷ lines) h (suc i) k =
     ∙ line-at lines (and-right (isLine line) (allOf isLine lines) h) i (omega arith)
 
 -- and so is the line feed behind it
-feed-at : (lines : List (List ℕ)) → allOf isLine lines ≡ true → (i : ℕ) → i < length lines → behindLine i (flatMap withLineFeed lines) ≡ bytes "\n"
+feed-at : (lines : List (List ℕ)) → allOf isLine lines ≡ true → (i : ℕ) → i < length lines
+    → behindLine i (flatMap withLineFeed lines) ≡ bytes "\n"
 feed-at [] h i k = absurd (omega arith)
 feed-at (line ∷ lines) h zero k =
-    stands (flatMap withLineFeed (line ∷ lines)) line (bytes "\n") (flatMap withLineFeed lines) 40 1 (append-assoc line (bytes "\n") (flatMap withLineFeed lines))
+    stands (flatMap withLineFeed (line ∷ lines)) line (bytes "\n") (flatMap withLineFeed lines) 40 1
+    (append-assoc line (bytes "\n") (flatMap withLineFeed lines))
     (line-long line (and-left (isLine line) (allOf isLine lines) h)) refl
 feed-at (line ∷ lines) h (suc i) k =
     let one = line-long line (and-left (isLine line) (allOf isLine lines) h) in

@@ -233,13 +233,15 @@ impl Broken {
     /// The queue of a record, where its lengths are right.
     fn held(&self, record: &Record) -> Option<Queue> {
         let long = record.loads.length() > 64 && record.stores.length() == 64;
-        if !self.does(LongRuns, long) {
+        if !long {
             return record.held();
         }
-        let mut numbers = record.loads.run().iter().copied();
         let mut cut = record.clone();
-        cut.loads = Guarded::new(64, || numbers.next().unwrap_or(0));
-        cut.held()
+        cut.loads = Guarded::new(64, || 0);
+        cut.loads.lend().copy_from_slice(&record.loads.run()[..64]);
+        // Where it is unsound too, the answer is 40 either way.
+        let queue = cut.held().filter(Queue::sound);
+        queue.filter(|_| self.does(LongRuns, true))
     }
 
     fn written(&self, outcome: Result<usize, u8>, out: &mut [u8], when_short: Fault) -> Written {

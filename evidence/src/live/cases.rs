@@ -220,10 +220,16 @@ fn other_lengths(rng: &mut Rng, record: &mut Record) {
     }
 }
 
+/// A run of another length that begins as this one does: but for its length the
+/// record may be sound.
 fn cut(rng: &mut Rng, run: &Guarded<u64>) -> Guarded<u64> {
     let length = rng.pick(&[0, 1, ENTRIES - 1, ENTRIES + 1, 2 * ENTRIES]);
-    let mut numbers = run.run().iter().copied().cycle();
-    Guarded::new(length, || numbers.next().unwrap_or(0))
+    let mut cut = Guarded::new(length, || rng.bits());
+    let numbers = run.run().iter().cycle();
+    for (place, number) in cut.lend().iter_mut().zip(numbers) {
+        *place = *number;
+    }
+    cut
 }
 
 fn noise(rng: &mut Rng) -> Frame {

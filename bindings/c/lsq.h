@@ -51,7 +51,7 @@ enum lsq_answer {
     LSQ_FIFTH_BYTE = 2,             /* a fifth byte above 0F */
     LSQ_FIELDS = 3,                 /* fields per access not 2 */
     LSQ_GROUP_COUNT = 4,            /* number of groups not 1 to 16 */
-    LSQ_ACCESS_COUNTS = 5,          /* a group's counts not 0 to 16, or both 0 */
+    LSQ_ACCESS_COUNTS = 5,          /* a group's loads or stores above 16 */
     LSQ_PORT_RANGE = 6,             /* port above 31 */
     LSQ_PORT_SEEN = 7,              /* port seen before */
     LSQ_OFFSET = 8,                 /* offset out of order or disagreeing */
@@ -294,7 +294,8 @@ lsq_opened lsq_open_in(const uint8_t *table, size_t table_len, uint32_t load_dep
 uint32_t lsq_sound_in(lsq_frame frame, const uint64_t *loads, size_t loads_len,
                       const uint64_t *stores, size_t stores_len);
 
-/* Queues a group's accesses: 40, 20, 21. */
+/* Queues a group's accesses: 40, 20, 21. An empty group, with no load
+ * and no store, takes no place: a full queue accepts it. */
 lsq_step lsq_activate_in(lsq_frame frame, uint64_t *loads, size_t loads_len,
                          uint64_t *stores, size_t stores_len, uint32_t group);
 

@@ -208,12 +208,21 @@ fn leaning(
     }
 }
 
+/// So many groups alike; one table in three has empty ones among them.
+fn groups_alike(rng: &mut Rng, groups: usize, loads: usize, stores: usize) -> Table {
+    let mut table = gen::table_of(rng, groups, loads, stores);
+    if rng.chance(1, 3) {
+        gen::add_empty_groups(rng, &mut table);
+    }
+    table
+}
+
 fn full(rng: &mut Rng) -> Scenario {
     let groups = rng.between(1, 4) as usize;
     let even = rng.pick(&[1, 2, 4, 8]);
     let (loads, stores) = (rng.between(1, 8) as usize, rng.between(1, 8) as usize);
     let (loads, stores) = rng.pick(&[(even, even), (even, even), (loads, stores)]);
-    let table = gen::table_of(rng, groups, loads, stores);
+    let table = groups_alike(rng, groups, loads, stores);
     let header = Header {
         load_depth: 64,
         store_depth: 64,
@@ -225,7 +234,7 @@ fn full(rng: &mut Rng) -> Scenario {
 fn forwarded(rng: &mut Rng) -> Scenario {
     let loads = rng.between(1, 16) as usize;
     let stores = rng.between(1, 16) as usize;
-    let table = gen::table_of(rng, 1, loads, stores);
+    let table = groups_alike(rng, 1, loads, stores);
     let header = Header {
         load_depth: rng.between(16, 64),
         store_depth: rng.between(16, 64),
@@ -238,7 +247,7 @@ fn forwarded(rng: &mut Rng) -> Scenario {
 fn shallow(rng: &mut Rng) -> Scenario {
     let groups = rng.pick(&[1, 1, 2, 16]);
     let (loads, stores) = rng.pick(&[(1, 1), (1, 1), (1, 0), (0, 1)]);
-    let table = gen::table_of(rng, groups, loads, stores);
+    let table = groups_alike(rng, groups, loads, stores);
     let header = Header {
         load_depth: 1,
         store_depth: 1,
@@ -250,7 +259,7 @@ fn shallow(rng: &mut Rng) -> Scenario {
 
 fn wide(rng: &mut Rng) -> Scenario {
     let (loads, stores) = rng.pick(&[(2, 2), (2, 2), (2, 1), (1, 2), (2, 0)]);
-    let table = gen::table_of(rng, 16, loads, stores);
+    let table = groups_alike(rng, 16, loads, stores);
     let header = gen::header(rng, &table);
     let lean = rng.pick(&[Lean::MIXED, Lean::FULL, Lean::NEIGHBOURS]);
     leaning(rng, table, header, (50, 400), &lean)
@@ -269,7 +278,7 @@ fn stores(rng: &mut Rng) -> Scenario {
     let groups = rng.between(1, 2) as usize;
     let loads = rng.between(0, 1) as usize;
     let stores = rng.between(2, 8) as usize;
-    let table = gen::table_of(rng, groups, loads, stores);
+    let table = groups_alike(rng, groups, loads, stores);
     let header = gen::header(rng, &table);
     leaning(rng, table, header, (50, 400), &Lean::STORES)
 }

@@ -7,6 +7,7 @@ use lsq_ref::event::{read_header, Event};
 use lsq_ref::queue::MAX_DEPTH;
 use lsq_ref::replay::{event_count, trace_fault};
 use lsq_ref::shift::PORTS;
+use lsq_ref::table::Group;
 use lsq_ref::{Queue, Table};
 
 use crate::buffers::Buffers;
@@ -61,6 +62,7 @@ const LONG: &str = "traces of 10,000 events and more";
 const HUGE: &str = "traces of more than 65,535 events";
 const EMPTY: &str = "traces of no event";
 const GROUPS_16: &str = "tables of 16 groups";
+const NO_ACCESS: &str = "tables of empty groups alone";
 const LOADS_1: &str = "load depth 1";
 const STORES_1: &str = "store depth 1";
 const LOADS_64: &str = "load depth 64";
@@ -70,6 +72,9 @@ const STOPPED: &str = "traces whose counts stop at 4294967295";
 const FULL_LOADS: &str = "calls that leave the load side full";
 const FULL_STORES: &str = "calls that leave the store side full";
 const FULL_64: &str = "calls that leave 64 entries on both sides";
+/// Live calls reach these too.
+pub(crate) const EMPTY_GROUP: &str = "empty groups activated";
+pub(crate) const EMPTY_WHEN_FULL: &str = "empty groups activated with a side full";
 const FORWARDED: &str = "loads that were counted as forwarded";
 const FROM_MEMORY: &str = "loads that were counted and came from memory";
 const TEXT_PLAYED: &str = "texts of a played trace";
@@ -79,11 +84,12 @@ const RECORDED: &str = "replays that changed a record";
 const RECORDED_31: &str = "replays that took at port 31";
 const TAKES_STOPPED: &str = "replays whose takes of a port stop at 4294967295";
 
-const STATES: [&str; 21] = [
+const STATES: [&str; 24] = [
     LONG,
     HUGE,
     EMPTY,
     GROUPS_16,
+    NO_ACCESS,
     LOADS_1,
     STORES_1,
     LOADS_64,
@@ -93,6 +99,8 @@ const STATES: [&str; 21] = [
     FULL_LOADS,
     FULL_STORES,
     FULL_64,
+    EMPTY_GROUP,
+    EMPTY_WHEN_FULL,
     FORWARDED,
     FROM_MEMORY,
     TEXT_PLAYED,
@@ -153,6 +161,20 @@ fn place_of(event: &Event) -> &'static str {
     }
 }
 
+/// Whether an accepted event activates an empty group, and whether it does so
+/// with a side full: the queue that follows is the one before.
+#[must_use]
+pub fn activates_empty(queue: &Queue, event: &Event) -> (bool, bool) {
+    let Event::Activate { group } = event else {
+        return (false, false);
+    };
+    let group = queue.table.groups.get(*group as usize);
+    let empty = group.is_some_and(Group::is_empty);
+    let full = queue.loads.entries.len() == queue.load_depth as usize
+        || queue.stores.entries.len() == queue.store_depth as usize;
+    (empty, empty && full)
+}
+
 /// Counting.
 impl Tally {
     /// Counts a case, and gives what looks at each of its calls.
@@ -182,10 +204,13 @@ impl Tally {
         let loads = queue.loads.entries.len();
         let stores = queue.stores.entries.len();
         let deep = MAX_DEPTH as usize;
+        let (empty, when_full) = activates_empty(queue, event);
         self.reach(&[
             (loads == queue.load_depth as usize, FULL_LOADS),
             (stores == queue.store_depth as usize, FULL_STORES),
             (loads == deep && stores == deep, FULL_64),
+            (answer == 0 && empty, EMPTY_GROUP),
+            (answer == 0 && when_full, EMPTY_WHEN_FULL),
         ]);
     }
 
@@ -204,7 +229,7 @@ impl Tally {
     }
 
     fn played(&mut self, case: &Case, left: &Buffers) {
-        let groups = Table::read(&case.table).map_or(0, |table| table.groups.len());
+        let groups = Table::read(&case.table).map_or(Vec::new(), |table| table.groups);
         let (loads, stores) = read_header(&case.trace).map_or((0, 0), |(header, _)| {
             (header.load_depth, header.store_depth)
         });
@@ -214,7 +239,8 @@ impl Tally {
             (events >= 10_000, LONG),
             (events > 65_535, HUGE),
             (events == 0, EMPTY),
-            (groups == 16, GROUPS_16),
+            (groups.len() == 16, GROUPS_16),
+            (groups.iter().all(Group::is_empty), NO_ACCESS),
             (loads == 1, LOADS_1),
             (stores == 1, STORES_1),
             (loads == 64, LOADS_64),

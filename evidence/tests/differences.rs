@@ -12,13 +12,15 @@ use lsq::record::{Replayed, ShiftRecord};
 use lsq::TEXT_BYTES;
 use lsq_ref::play::play;
 use lsq_ref::replay::{self, Lent};
-use lsq_ref::Counts;
+use lsq_ref::table::Group;
+use lsq_ref::{Counts, Table};
 
 /// What a subject does wrong.
 #[derive(Clone, Copy, Debug, PartialEq, Eq)]
 enum Fault {
     Right,
     WrongTable,
+    EmptyGroup,
     WrongTrace,
     EventCount,
     MemoryLength,
@@ -49,8 +51,9 @@ enum Fault {
 
 use Fault::*;
 
-const FAULTS: [Fault; 27] = [
+const FAULTS: [Fault; 28] = [
     WrongTable,
+    EmptyGroup,
     WrongTrace,
     EventCount,
     MemoryLength,
@@ -159,6 +162,11 @@ impl Broken {
 impl Subject for Broken {
     fn table_fault(&self, table: &[u8]) -> u32 {
         let fault = u32::from(replay::table_fault(table));
+        let read = Table::read(table);
+        let empty = read.is_ok_and(|table| table.groups.iter().any(Group::is_empty));
+        if self.does(EmptyGroup, empty) {
+            return 5;
+        }
         fault + u32::from(self.does(WrongTable, fault == 7))
     }
 

@@ -13,6 +13,7 @@ use evidence::live::subject::{Live, Made, Ready};
 use evidence::live::tally::{LiveTally, IN_LISTS, IN_RECORDS};
 use evidence::live::{lists, records};
 use evidence::shift::{held_record, library_record};
+use evidence::tally::activates_empty;
 use lsq::record::{Counts, Frame, Listed, Opened, ShiftRecord, Table, TableRead, Written};
 use lsq_ref::number::{write_number, write_numbers};
 use lsq_ref::rng::Rng;
@@ -35,6 +36,7 @@ enum Fault {
     Remembered,
     Count,
     NextSerial,
+    EmptyWhenFull,
     Depth,
     TableLost,
     LoadsWhenRefused,
@@ -80,7 +82,7 @@ enum Fault {
 
 use Fault::*;
 
-const OF_CALLS: [Fault; 17] = [
+const OF_CALLS: [Fault; 18] = [
     Answer,
     Given,
     Value,
@@ -93,6 +95,7 @@ const OF_CALLS: [Fault; 17] = [
     Remembered,
     Count,
     NextSerial,
+    EmptyWhenFull,
     Depth,
     TableLost,
     LoadsWhenRefused,
@@ -290,7 +293,11 @@ impl Live for Broken {
                 if outcome.is_ok() {
                     record.hold_calls(&queue);
                 }
-                outcome
+                let (_, when_full) = activates_empty(&queue, event);
+                match self.does(EmptyWhenFull, outcome.is_ok() && when_full) {
+                    true => Err(21),
+                    false => outcome,
+                }
             }
         };
         let answer = u32::from(outcome.err().unwrap_or(0));

@@ -11,7 +11,7 @@ use crate::play::MAX_FILE;
 use crate::queue::{LoadEntry, Queue, Side, StoreEntry, TrustingQueue, MAX_DEPTH, MAX_MEMORY};
 use crate::rng::Rng;
 use crate::shift::ShiftRecord;
-use crate::table::{Access, Group, Pair, Table, MAX_PORT};
+use crate::table::{Access, Group, Pair, Table, MAX_ACCESSES, MAX_GROUPS, MAX_PORT};
 
 /// Longest encodings: of one number, and of a whole valid table.
 const NUMBER_BYTES: usize = 5;
@@ -113,7 +113,7 @@ pub fn event_bytes(event: &Event) -> Vec<u8> {
 
 // Tables and headers.
 
-/// A valid table.
+/// A valid table. One in three has empty groups, one in about fifty no others.
 pub fn table(rng: &mut Rng) -> Table {
     let shapes = [(1, 1), (1, 3), (2, 2), (3, 2), (4, 4), (16, 3), (2, 16)];
     let (groups, most) = rng.pick(&shapes);
@@ -128,15 +128,30 @@ pub fn table(rng: &mut Rng) -> Table {
             table.groups.push(Group::from_order(&order));
         }
     }
-    if table.groups.is_empty() {
+    if table.groups.is_empty() && rng.chance(2, 3) {
         let order = [Access::Load(load_ports[0]), Access::Store(store_ports[0])];
         table.groups.push(Group::from_order(&order));
+    }
+    if table.groups.is_empty() || rng.chance(1, 3) {
+        add_empty_groups(rng, &mut table);
     }
     table
 }
 
+/// Puts one or more empty groups at any places of a table. Once it has 16
+/// groups, others lose their accesses instead.
+pub fn add_empty_groups(rng: &mut Rng, table: &mut Table) {
+    for _ in 0..rng.pick(&[1, 1, 2, 3, MAX_GROUPS]) {
+        match table.groups.len() {
+            MAX_GROUPS => table.groups[rng.below(MAX_GROUPS)] = Group::default(),
+            count => table.groups.insert(rng.below(count + 1), Group::default()),
+        }
+    }
+}
+
 /// A valid table of `groups` groups, each of `loads` loads and `stores` stores
-/// in random order. Each kind's accesses are at most 32 in all, as its ports.
+/// in random order, both of which may be 0. Each kind's accesses are at most 32
+/// in all, as its ports.
 ///
 /// # Panics
 /// When there are too few ports.
@@ -483,12 +498,19 @@ impl Driver {
         }
     }
 
+    /// Mostly a group of the table. Empty ones come less often than others: a
+    /// full queue accepts them too, and they would fill the trace.
     fn group(&self, rng: &mut Rng) -> u32 {
-        let groups = self.queue.table.groups.len() as u32;
+        let groups = &self.queue.table.groups;
+        let count = groups.len() as u32;
         if rng.chance(1, 16) {
-            return rng.pick(&[groups, groups + 1, u32::MAX]);
+            return rng.pick(&[count, count + 1, u32::MAX]);
         }
-        rng.between(0, groups - 1)
+        let group = rng.between(0, count - 1);
+        if groups[group as usize].is_empty() && rng.chance(3, 4) {
+            return rng.between(0, count - 1);
+        }
+        group
     }
 
     /// Mostly the port of a queued load that passes `test`.
@@ -687,7 +709,8 @@ pub fn stretch(rng: &mut Rng, trace: &mut Vec<u8>) {
 // Records.
 
 /// A queue's record as no opening need lead to: "wherever it came from, the
-/// rules go by what it holds". One in four is unsound and meets 40.
+/// rules go by what it holds". One in eight is full on both sides; one in four
+/// is unsound and meets 40.
 pub fn record(rng: &mut Rng) -> Queue {
     let table = table(rng);
     let header = header(rng, &table);
@@ -703,8 +726,12 @@ pub fn record(rng: &mut Rng) -> Queue {
 
 fn fill_record(rng: &mut Rng, queue: &mut Queue) {
     let most = rng.pick(&[2, 6, MAX_DEPTH]);
-    let loads = rng.between(0, queue.load_depth.min(most)) as usize;
-    let stores = rng.between(0, queue.store_depth.min(most)) as usize;
+    let some = |rng: &mut Rng, depth: u32| rng.between(0, depth.min(most));
+    let (loads, stores) = match rng.chance(1, 8) {
+        true => (queue.load_depth, queue.store_depth),
+        false => (some(rng, queue.load_depth), some(rng, queue.store_depth)),
+    };
+    let (loads, stores) = (loads as usize, stores as usize);
     let hot = hot_addresses(rng, queue.memory_length, 3);
     let gaps = rng.pick(&[2, 10, 100]);
     for _ in 0..loads {
@@ -757,18 +784,30 @@ fn spoil_record(rng: &mut Rng, queue: &mut Queue) {
     }
 }
 
-/// Makes a table meet one of 4 to 8.
+/// Makes a table meet one of 4 to 8. For an empty group only 4 and 5 are left:
+/// it has no pair that could be wrong, and may stand twice.
 pub fn spoil_table(rng: &mut Rng, table: &mut Table) {
-    let group = rng.below(table.groups.len());
-    let pairs = &mut table.groups[group];
-    let pair = pairs.loads.iter_mut().chain(&mut pairs.stores).next();
-    match (rng.below(5), pair) {
+    let place = rng.below(table.groups.len());
+    let group = &mut table.groups[place];
+    let pair = group.loads.iter_mut().chain(&mut group.stores).next();
+    let faults = if pair.is_some() { 5 } else { 2 };
+    match (rng.below(faults), pair) {
         (0, _) => table.groups.clear(),
-        (1, _) => table.groups.push(Group::default()),
         (2, Some(pair)) => pair.offset = rng.pick(&[17, u32::MAX]),
         (3, Some(pair)) => pair.port = rng.pick(&[32, u32::MAX]),
-        _ => table.groups.push(table.groups[group].clone()),
+        (4, _) => table.groups.push(table.groups[place].clone()),
+        _ => lengthen(rng, &mut table.groups[place]),
     }
+}
+
+/// Gives a group more loads or more stores than it may have.
+fn lengthen(rng: &mut Rng, group: &mut Group) {
+    let pairs = match rng.chance(1, 2) {
+        true => &mut group.loads,
+        false => &mut group.stores,
+    };
+    let count = MAX_ACCESSES + rng.pick(&[1, 1, 2, 16]);
+    pairs.resize(count, Pair { offset: 0, port: 0 });
 }
 
 /// Changes one pair of a table a little: its offset by one, or its port to

@@ -1,8 +1,9 @@
 //! Reference model of the group-allocated load-store queue of the tally board.
 //!
 //! It is written from the papers alone: document 01, "The group-allocated
-//! load-store queue of the tally board", and S-1 of document 02, the shift
-//! page. Quoted sentences in the comments are theirs.
+//! load-store queue of the tally board", and of document 02 S-1, the shift page,
+//! and S-2, groups with no load and no store. Quoted sentences in the comments
+//! are theirs.
 //! Everything works in place and refusals are plain numbers, so that another
 //! implementation can be compared with this one answer by answer.
 //!

@@ -102,7 +102,8 @@ pub fn activations(calls: &[Call]) -> impl Iterator<Item = u32> + '_ {
 }
 
 /// Goes "through the accepted activations in list order, and through each
-/// group's accesses in program order".
+/// group's accesses in program order". An empty group has none: the run "passes
+/// over it" (S-2).
 ///
 /// # Panics
 /// When an accepted call names a group that the table lacks or an address that

@@ -185,7 +185,9 @@ impl<const CHECKED: bool> LoadStoreQueue<CHECKED> {
     }
 
     /// Queues a group: it "gives the group's loads the next load serials and
-    /// its stores the next store serials".
+    /// its stores the next store serials". An empty group (S-2) "takes no place
+    /// and is always accepted unless 40 or 20 applies": no side of a record that
+    /// is past 40 holds more than its depth, so 21 is not met.
     ///
     /// # Errors
     /// 40; "20 no such group; 21 too few free places on either side."

@@ -11,7 +11,7 @@ pub const FIFTH_BYTE: u8 = 2;
 pub const FIELDS: u8 = 3;
 /// The number of groups is not 1 to 16.
 pub const GROUP_COUNT: u8 = 4;
-/// A group's counts are not 0 to 16 each, or are both 0.
+/// A group's counts are not 0 to 16 each; both may be 0.
 pub const ACCESS_COUNTS: u8 = 5;
 /// "Port above 31."
 pub const PORT_RANGE: u8 = 6;

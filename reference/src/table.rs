@@ -23,7 +23,8 @@ pub struct Pair {
     pub port: u32,
 }
 
-/// A group's accesses, loads and stores apart.
+/// A group's accesses, loads and stores apart. It may have "no load and no
+/// store" (S-2); such a group is called empty.
 #[derive(Clone, Debug, Default, PartialEq, Eq)]
 pub struct Group {
     /// The loads in program order.
@@ -86,6 +87,12 @@ impl Group {
         group
     }
 
+    /// Whether the group has no access.
+    #[must_use]
+    pub fn is_empty(&self) -> bool {
+        self.loads.is_empty() && self.stores.is_empty()
+    }
+
     /// The loads before store `j`, by the load offsets, which never fall.
     fn loads_before(&self, j: usize) -> usize {
         self.loads.partition_point(|load| load.offset as usize <= j)
@@ -99,9 +106,9 @@ struct SeenPorts {
     stores: u32,
 }
 
-/// "Each 0 to 16, not both 0."
+/// "Each 0 to 16"; both may be 0 since S-2, "5 being left for a count above 16".
 fn check_counts(loads: usize, stores: usize) -> Result<(), u8> {
-    let fits = loads <= MAX_ACCESSES && stores <= MAX_ACCESSES && loads + stores > 0;
+    let fits = loads <= MAX_ACCESSES && stores <= MAX_ACCESSES;
     fits.then_some(()).ok_or(refusal::ACCESS_COUNTS)
 }
 

@@ -100,9 +100,9 @@ fn table_refusals() {
         (&[0, 0], 3),
         (&[2, 0], 4),
         (&[2, 17], 4),
-        (&[2, 1, 0, 0], 5),
         (&[2, 1, 17, 0], 5),
         (&[2, 1, 0, 17], 5),
+        (&[2, 2, 0, 0, 17, 0], 5),            // behind an empty group
         (&[2, 1, 17], 1),                     // 5 waits for both counts
         (&[2, 1, 1, 1, 2], 1),                // 8 waits for the whole pair
         (&[2, 1, 1, 1, 2, 32], 8),            // above the store count
@@ -178,18 +178,20 @@ fn wrong_tables_are_named_in_the_order_of_reading() {
     let seen = good.clone();
     let empty = group(&[], &[]);
     let long = group(&[pair(9, 99); 17], &[]);
+    let long_stores = group(&[], &[pair(9, 99); 17]);
     let range = group(&[pair(0, 32)], &[]);
     let offset = group(&[pair(1, 32)], &[]);
     let cases = [
         (vec![], 4),
+        (vec![long.clone(); 17], 4),
         (vec![empty.clone(); 17], 4),
-        (vec![good.clone(), empty.clone()], 5),
-        (vec![good.clone(), long], 5),
-        (vec![offset.clone(), empty.clone()], 8),
+        (vec![good.clone(), long.clone()], 5),
+        (vec![empty.clone(), long_stores], 5),
+        (vec![offset.clone(), long.clone()], 8),
         (vec![range.clone(), offset], 6),
-        (vec![good.clone(), seen, empty], 7),
-        (vec![good.clone(), range], 6),
-        (vec![good], 0),
+        (vec![good.clone(), seen, long], 7),
+        (vec![good.clone(), empty.clone(), range], 6),
+        (vec![good, empty], 0),
     ];
     for (groups, answer) in cases {
         let table = Table { groups };

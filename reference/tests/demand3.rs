@@ -30,6 +30,7 @@ struct List {
     opening_memory: Vec<u32>,
     calls: Vec<Call>,
     taken: BTreeMap<u32, Vec<u32>>,
+    opened: Queue,
     queue: Queue,
     memory: Vec<u32>,
 }
@@ -44,6 +45,7 @@ impl List {
             opening_memory: memory.clone(),
             calls: Vec::new(),
             taken: BTreeMap::new(),
+            opened: queue.clone(),
             queue,
             memory,
         }
@@ -160,6 +162,11 @@ impl List {
             assert!(self.could_go_on());
             assert!(!self.ready_loads().is_empty() || !self.ready_stores().is_empty());
         }
+        // "A queue with only empty groups activated since opening holds no
+        // entry", and nothing else of it has changed.
+        if self.groups().all(Group::is_empty) {
+            assert_eq!(self.queue, self.opened);
+        }
     }
 
     /// Brings all missing arguments, then serves, writes and takes in random
@@ -227,6 +234,55 @@ fn random_lists_meet_demand_3() {
     }
     assert!(taken > 20_000, "only {taken} values taken");
     assert!(forwarded > 2_000, "only {forwarded} forwarded");
+}
+
+/// "The one-after-another run passes over" an empty group, and so does the
+/// queue: without these activations all other calls are answered alike.
+#[test]
+fn lists_end_alike_without_their_empty_groups() {
+    let (mut left_out, mut full) = (0, 0);
+    for seed in 0..2000 {
+        let mut rng = Rng::new(seed);
+        let scenario = Scenario::of_length(&mut rng, 100);
+        let open = || List::open(scenario.table.clone(), scenario.header, &mut Rng::new(seed));
+        let (mut list, mut without) = (open(), open());
+        for &event in &scenario.events {
+            let answer = list.call(event, &mut rng);
+            if activates_empty(&scenario.table, &event) {
+                assert_eq!(answer, 0);
+                left_out += 1;
+                full += u32::from(is_full(&list.queue));
+            } else {
+                assert_eq!(without.call(event, &mut rng), answer);
+            }
+            assert_eq!(list.queue, without.queue);
+        }
+        assert_eq!(
+            (&list.taken, &list.memory),
+            (&without.taken, &without.memory)
+        );
+        let filled = |list: &List| {
+            let mut fill = RandomFill(Rng::new(seed));
+            plain::run(&list.table, &list.opening_memory, &list.calls, &mut fill)
+        };
+        assert_eq!(filled(&list), filled(&without));
+    }
+    assert!(left_out > 1_000, "only {left_out} activations left out");
+    assert!(full > 300, "only {full} of them in full queues");
+}
+
+fn activates_empty(table: &Table, event: &Event) -> bool {
+    let Event::Activate { group } = event else {
+        return false;
+    };
+    let group = table.groups.get(*group as usize);
+    group.is_some_and(Group::is_empty)
+}
+
+/// Whether no place is free on either side.
+fn is_full(queue: &Queue) -> bool {
+    queue.loads.entries.len() == queue.load_depth as usize
+        && queue.stores.entries.len() == queue.store_depth as usize
 }
 
 /// "Two lists alike in table, opening memory, accepted activations and each

@@ -1,13 +1,14 @@
 //! The generator: equal seeds give equal bytes, whole scenarios are accepted,
-//! shift records reach every edge, and together the pairs reach every answer
-//! that `play` can print.
+//! tables have empty groups, shift records reach every edge, and together the
+//! pairs reach every answer that `play` can print.
 
 use std::collections::BTreeSet;
 
 use lsq_ref::event::{read_header, EventReader};
-use lsq_ref::gen::{self, Scenario};
+use lsq_ref::gen::{self, Lean, Scenario};
 use lsq_ref::play::play;
 use lsq_ref::rng::Rng;
+use lsq_ref::table::Group;
 use lsq_ref::{Queue, ShiftRecord, Table};
 
 #[test]
@@ -43,6 +44,55 @@ fn spoiled_tables_are_wrong() {
         met.insert(table.check());
     }
     assert_eq!(met, BTreeSet::from([4, 5, 6, 7, 8]));
+}
+
+#[test]
+fn tables_have_empty_groups() {
+    let tables: Vec<Table> = (0..3000)
+        .map(|seed| gen::table(&mut Rng::new(seed)))
+        .collect();
+    assert!(tables.iter().all(|table| table.check() == 0));
+    let count = |test: fn(&Table) -> bool| tables.iter().filter(|table| test(table)).count();
+    let some = count(|table| table.groups.iter().any(Group::is_empty));
+    assert!((900..1200).contains(&some), "{some} with empty groups");
+    let alone = count(|table| table.groups.iter().all(Group::is_empty));
+    assert!((30..120).contains(&alone), "{alone} with no others");
+    let sixteen = count(|table| table.groups == vec![Group::default(); 16]);
+    assert!(sixteen > 0);
+}
+
+/// Nothing that is made from a table needs a port of it.
+#[test]
+fn tables_without_a_port_are_enough() {
+    let leans = [
+        Lean::MIXED,
+        Lean::FULL,
+        Lean::FORWARDED,
+        Lean::CONFLICTS,
+        Lean::STORES,
+        Lean::NEIGHBOURS,
+    ];
+    for (groups, seed) in (1..=16).flat_map(|groups| (0..20).map(move |seed| (groups, seed))) {
+        let mut rng = Rng::new(seed);
+        let table = gen::table_of(&mut rng, groups, 0, 0);
+        assert_eq!(table.groups, vec![Group::default(); groups]);
+        let header = gen::header(&mut rng, &table);
+        for lean in &leans {
+            let events = gen::events_leaning(&mut rng, &table, header, 50, lean);
+            assert_eq!(events.len(), 50);
+        }
+        let opened = Queue::open(table.clone(), header).expect("a header that opens");
+        for kind in 0..7 {
+            gen::call_of_kind(&mut rng, &opened, kind);
+        }
+        let mut other = table.clone();
+        gen::nudge_table(&mut rng, &mut other);
+        assert_eq!(other, table); // there is no pair to change
+        gen::add_empty_groups(&mut rng, &mut other);
+        assert_eq!(other.check(), 0);
+        gen::spoil_table(&mut rng, &mut other);
+        assert!([4, 5].contains(&other.check()));
+    }
 }
 
 /// The numbers of digits, and which of 0, 1, 4294967294 and 4294967295 occur.

@@ -74,6 +74,25 @@ fn no_events_print_the_counts_alone() {
 }
 
 #[test]
+fn empty_groups_alone_print_their_activations() {
+    let trace = [
+        1, 1, 0, 1, //
+        0, 0, // accepted, and again
+        0, 0, //
+        0, 1, // no such group
+        1, 0, 0, // no port is in the table
+        2, 0, 0, //
+        3, 0, 0, //
+        4, 0, // no serial is in the queue
+        5, 0, //
+        6, 0, //
+    ];
+    let text = "1 0 -\n2 0 -\n3 20 -\n4 22 -\n5 22 -\n6 22 -\n7 25 -\n8 25 -\n9 22 -\n\
+                loads 0 forwarded 0 share 0\n";
+    assert_eq!(play(Some(&[2, 1, 0, 0]), Some(&trace)), text);
+}
+
+#[test]
 fn words_are_printed_by_address() {
     let table = [2, 1, 0, 2, 0, 0, 0, 1];
     let trace = [

@@ -73,6 +73,20 @@ fn nearest(q: &Queue, load: &LoadEntry) -> Option<usize> {
     earlier.filter(matches).max()
 }
 
+fn activate_answer(q: &Queue, group: usize) -> u8 {
+    let Some(group) = q.table.groups.get(group) else {
+        return 20;
+    };
+    // S-2: "always accepted unless 40 or 20 applies", whatever places are free.
+    if group.loads.is_empty() && group.stores.is_empty() {
+        return 0;
+    }
+    let free_loads = q.load_depth as usize - q.loads.entries.len();
+    let free_stores = q.store_depth as usize - q.stores.entries.len();
+    let short = group.loads.len() > free_loads || group.stores.len() > free_stores;
+    first(&[(short, 21)])
+}
+
 fn serve_answer(q: &Queue, serial: u32, length: usize) -> u8 {
     if length as u64 != u64::from(q.memory_length) {
         return 30;
@@ -143,15 +157,7 @@ fn answer(q: &Queue, event: &Event, length: usize) -> u8 {
     let loads = &q.loads.entries;
     let stores = &q.stores.entries;
     match *event {
-        Event::Activate { group } => {
-            let Some(group) = q.table.groups.get(group as usize) else {
-                return 20;
-            };
-            let free_loads = q.load_depth as usize - loads.len();
-            let free_stores = q.store_depth as usize - stores.len();
-            let short = group.loads.len() > free_loads || group.stores.len() > free_stores;
-            first(&[(short, 21)])
-        }
+        Event::Activate { group } => activate_answer(q, group as usize),
         Event::LoadAddress { port, address } => first(&[
             (!has_port(q, port, true), 22),
             (address >= q.memory_length, 23),
@@ -312,6 +318,7 @@ fn compare_ready(rng: &mut Rng, q: &Queue) {
 #[test]
 fn every_call_follows_what_the_record_holds() {
     let mut seen = [0u32; 41];
+    let mut empty_when_full = 0;
     for seed in 0..6000 {
         let mut rng = Rng::new(seed);
         let mut q = gen::record(&mut rng);
@@ -321,6 +328,7 @@ fn every_call_follows_what_the_record_holds() {
         for _ in 0..24 {
             let event = gen::call_on(&mut rng, &q);
             let (answer, after, words, tally) = compare_call(&q, &event, &memory, counts);
+            empty_when_full += u32::from(is_full(&q) && activates_empty(&q, &event));
             seen[usize::from(answer.err().unwrap_or(0))] += 1;
             (q, memory, counts) = (after, words, tally);
             if q.sound() {
@@ -334,6 +342,21 @@ fn every_call_follows_what_the_record_holds() {
     for number in met {
         assert!(seen[number] > 100, "answer {number}: {}", seen[number]);
     }
+    assert!(empty_when_full > 100, "only {empty_when_full}");
+}
+
+/// Whether the record is sound and no place is free on either side.
+fn is_full(q: &Queue) -> bool {
+    let (loads, stores) = (q.loads.entries.len(), q.stores.entries.len());
+    q.sound() && (loads, stores) == (q.load_depth as usize, q.store_depth as usize)
+}
+
+fn activates_empty(q: &Queue, event: &Event) -> bool {
+    let Event::Activate { group } = event else {
+        return false;
+    };
+    let group = q.table.groups.get(*group as usize);
+    group.is_some_and(|group| group.loads.is_empty() && group.stores.is_empty())
 }
 
 #[test]

@@ -59,7 +59,8 @@ impl Queue {
         direct::sound_in(self.frame, &self.loads, &self.stores) == 1
     }
 
-    /// Queues a group's accesses.
+    /// Queues a group's accesses. An empty group, with no load and no store,
+    /// takes no place: a full queue accepts it.
     ///
     /// # Errors
     /// 40; 20 no such group; 21 too few free places on either side.

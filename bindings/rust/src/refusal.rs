@@ -33,7 +33,7 @@ refusals! {
     FIFTH_BYTE = 2, "a fifth byte above 0F";
     FIELDS = 3, "fields per access not 2";
     GROUP_COUNT = 4, "number of groups not 1 to 16";
-    ACCESS_COUNTS = 5, "a group's counts not 0 to 16, or both 0";
+    ACCESS_COUNTS = 5, "a group's loads or stores above 16";
     PORT_RANGE = 6, "port above 31";
     PORT_SEEN = 7, "port seen before";
     OFFSET = 8, "offset out of order or disagreeing";

@@ -18,7 +18,7 @@ badFields = 3
 abbrev pub badGroupCount : ℕ
 badGroupCount = 4
 
--- a group's counts: one is above 16, or both are 0
+-- a group's counts: one is above 16
 abbrev pub badCounts : ℕ
 badCounts = 5
 

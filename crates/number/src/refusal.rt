@@ -9,7 +9,7 @@ pub const TOO_LARGE: u8 = 2;
 pub const BAD_FIELDS: u8 = 3;
 // the number of groups is not 1 to 16
 pub const BAD_GROUP_COUNT: u8 = 4;
-// a group's counts: one is above 16, or both are 0
+// a group's counts: one is above 16
 pub const BAD_COUNTS: u8 = 5;
 // a port is above 31
 pub const BAD_PORT: u8 = 6;

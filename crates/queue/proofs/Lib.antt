@@ -16,6 +16,7 @@ pub mod PartsLaws
 pub mod GroupLaws
 pub mod AppendLaws
 pub mod ActivateLaws
+pub mod EmptyGroups
 pub mod ArgumentLaws
 pub mod SourceLaws
 pub mod RetireLaws

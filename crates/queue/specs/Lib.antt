@@ -13,5 +13,6 @@ pub mod Retire
 pub mod Ready
 pub mod Counts
 pub mod Outcome
+pub mod EmptyGroups
 pub mod Parts
 pub mod Internal

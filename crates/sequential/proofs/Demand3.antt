@@ -1,7 +1,7 @@
 -- Demand 3, proved: the invariant that every call keeps (Run.antt) gives the three claims, and two alike lists follow.
 use Prim.Native.Nat.{ℕ, suc, _≤_, _<_}
 use native.Mathlib.Omega.{arith}
-use mathlib.Core.Path.{_≡_, refl, sym, ap, _∙_, fun-ext}
+use mathlib.Core.Path.{_≡_, refl, sym, ap, ap₂, _∙_, fun-ext}
 use mathlib.Core.Bool.{Bool, true, false, _&&_}
 use mathlib.Core.List.{List, [], _∷_, map}
 use mathlib.Core.Option.{some}
@@ -9,13 +9,16 @@ use lib.Dec.{leb}
 use lib.ListN.{length, getElem?}
 use borrow.Author.Tests.{leb-true}
 use Rattle.number.specs.Basics.{pick, allOf, countWhere}
-use Rattle.table.specs.Group.{GroupPairs}
+use Rattle.table.specs.Group.{GroupPairs, Access}
 use Rattle.queue.specs.Retire.{storeFinished}
+use Rattle.queue.specs.declared.arguments.Argument.{Argument}
 use Rattle.number.proofs.Both.{and-left}
 use Rattle.queue.proofs.Lists.{and-both}
+use Rattle.sequential.specs.Calls.{Call}
 use Rattle.sequential.specs.Answers.{Machine, Answered, answers, machineAfter}
-use Rattle.sequential.specs.Plain.{Told, Rows, Filling, rowsOf, inOrder, accesses, valuesFrom, valuesAt, plainLoads, plainMemory}
-use Rattle.sequential.specs.Demand3.{told, takenAt, isStore, Sequential, Demand3, Alike, AlikeLists}
+use Rattle.sequential.specs.Plain.{Told, Rows, rowsOf, inOrder, accesses, Filling, PlainState, plainStart}
+use Rattle.sequential.specs.Plain.{valuesFrom, memoryFrom, valuesAt, plainLoads, plainMemory}
+use Rattle.sequential.specs.Demand3.{told, takenAt, isStore, Sequential, Opening, Demand3, AlikeLists}
 use Rattle.sequential.proofs.Log.{LogEntry, ofLoad, ofStore, stores, ownIn}
 use Rattle.sequential.proofs.PlainRun.{accessOf, taken-is-loaded, written-is-plain}
 use Rattle.sequential.proofs.Invariant.{Invariant, isWritten}
@@ -48,8 +51,8 @@ all-written (ofStore s ∷ es) h = go (s .written) refl h (written-stores es) (�
 
 -- ---- the three claims
 
-sequential : (groups : List GroupPairs) (memory : List ℕ) (answered : List Answered) (left : Machine) → Invariant groups memory answered left → (fill : Filling)
-    → Sequential groups memory answered left fill
+sequential : (groups : List GroupPairs) (memory : List ℕ) (answered : List Answered) (left : Machine) → Invariant groups memory answered left
+    → (fill : Filling) → Sequential groups memory answered left fill
 unfolding plainLoads plainMemory
 sequential groups memory answered left st fill = record {
   takes = λ port n v h.
@@ -70,22 +73,37 @@ demand3 groups memory m o calls fill low = sequential groups memory (answers m c
 
 -- ---- two lists alike
 
--- the plain run's values depend on the accepted activations and the rows alone
-alike-loads : (groups : List GroupPairs) (memory : List ℕ) (a b : List Told) → Alike a b → (fill : Filling) (port : ℕ)
-    → plainLoads groups memory a fill port ≡ plainLoads groups memory b fill port
-unfolding plainLoads
-alike-loads groups memory a b h fill port =
-    let rows : rowsOf a ≡ rowsOf b = fun-ext (λ kind. fun-ext (λ p. h .arguments kind p)) in
-    ap (λ (r : Rows). valuesAt port (valuesFrom fill 0 (record { memory = memory; rows = r }) (accesses groups a))) rows
-    ∙ ap (λ (gs : List ℕ). valuesAt port (valuesFrom fill 0 (record { memory = memory; rows = rowsOf b }) (inOrder groups gs))) (h .activations)
+-- the same accesses in the same order, and the same rows
+pub record AlikeInOrder (groups : List GroupPairs) (a b : List Told) : Type 0 where
+  pub order : accesses groups a ≡ accesses groups b
+  pub arguments : (kind : Argument) (port : ℕ) → rowsOf a kind port ≡ rowsOf b kind port
+
+-- the plain run depends on them alone
+module _ (groups : List GroupPairs) (memory : List ℕ) (a b : List Told) (h : AlikeInOrder groups a b) (fill : Filling) where
+  alike-runs : {A : Type 0} (f : PlainState → List Access → A)
+      → f (plainStart memory a) (accesses groups a) ≡ f (plainStart memory b) (accesses groups b)
+  alike-runs f =
+      let rows : rowsOf a ≡ rowsOf b = fun-ext (λ kind. fun-ext (λ p. h .arguments kind p)) in
+      ap₂ (λ (r : Rows) (order : List Access). f (record { memory = memory; rows = r }) order) rows (h .order)
+
+  pub alike-loads : (port : ℕ) → plainLoads groups memory a fill port ≡ plainLoads groups memory b fill port
+  unfolding plainLoads
+  alike-loads port = alike-runs (λ s order. valuesAt port (valuesFrom fill 0 s order))
+
+  pub alike-memories : plainMemory groups memory a fill ≡ plainMemory groups memory b fill
+  unfolding plainMemory
+  alike-memories = alike-runs (λ s order. memoryFrom fill 0 s order)
 
 -- any filling serves; the memory has a word 0
 zeros : Filling
 zeros = record { address = λ k. 0; word = λ k. 0 }
 
-pub alike : AlikeLists
+pub alike-in-order : (groups : List GroupPairs) (memory : List ℕ) (m₁ m₂ : Machine) → Opening groups memory m₁ → Opening groups memory m₂
+    → (calls₁ calls₂ : List Call) → AlikeInOrder groups (told (answers m₁ calls₁)) (told (answers m₂ calls₂))
+    → (port n v w : ℕ) → getElem? (takenAt port (answers m₁ calls₁)) n ≡ some v
+    → getElem? (takenAt port (answers m₂ calls₂)) n ≡ some w → v ≡ w
 unfolding zeros
-alike groups memory m₁ m₂ o₁ o₂ calls₁ calls₂ same port n v w h₁ h₂ =
+alike-in-order groups memory m₁ m₂ o₁ o₂ calls₁ calls₂ same port n v w h₁ h₂ =
     let low : 0 < length memory = leb-true 1 (length memory) (and-left (leb 1 (length memory)) _ (opening-limits o₁ .wordsRight)) in
     let e₁ : getElem? (plainLoads groups memory (told (answers m₁ calls₁)) zeros port) n ≡ some v =
     demand3 groups memory m₁ o₁ calls₁ zeros (λ k. low) .takes port n v h₁ in
@@ -95,3 +113,9 @@ alike groups memory m₁ m₂ o₁ o₂ calls₁ calls₂ same port n v w h₁ h
     = alike-loads groups memory (told (answers m₁ calls₁)) (told (answers m₂ calls₂)) same zeros port in
     let both : some v ≡ some w = sym e₁ ∙ ap (λ (l : List ℕ). getElem? l n) e ∙ e₂ in
     cc
+
+-- the same activations have the same accesses
+pub alike : AlikeLists
+alike groups memory m₁ m₂ o₁ o₂ calls₁ calls₂ same =
+    alike-in-order groups memory m₁ m₂ o₁ o₂ calls₁ calls₂
+    (record { order = ap (inOrder groups) (same .activations); arguments = same .arguments })

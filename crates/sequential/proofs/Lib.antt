@@ -9,6 +9,7 @@ pub mod Anew
 pub mod Slots
 pub mod Steps
 pub mod Run
+pub mod Serials
 pub mod ReachedSound
 pub mod Progress
 pub mod Demand3
@@ -19,3 +20,5 @@ pub mod Fits
 pub mod RunsExist
 -- lists of calls on parts
 pub mod RunsOnParts
+-- empty groups
+pub mod EmptyGroups

@@ -6,3 +6,4 @@ pub mod Demand3
 pub mod Records
 pub mod RunsExist
 pub mod RunsOnParts
+pub mod EmptyGroups

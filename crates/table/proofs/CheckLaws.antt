@@ -1,7 +1,7 @@
 -- Laws of checking tables.
 use Prim.Native.Nat.{ℕ, zero, suc, _+_, _-_, _≤_, _<_}
 use mathlib.Core.Path.{_≡_, refl, sym, ap, _∙_}
-use mathlib.Core.Bool.{Bool, true, false, not, _&&_}
+use mathlib.Core.Bool.{Bool, true, false, not}
 use mathlib.Core.List.{List, [], _∷_, map, append-nil}
 use native.Mathlib.Omega.{arith}
 use native.Mathlib.Nat.{le-trans}
@@ -217,9 +217,7 @@ rising-checked stores low i seen (p ∷ ps) e = go (pairFault (loadRule stores l
 
 -- ---- checking a group
 pub counts-few : (a b : ℕ) → countsRight a b ≡ true → (a ≤ 16) × (b ≤ 16)
-counts-few a b e =
-    let f = and-left (leb a 16 && leb b 16) _ e in
-    (leb-true a 16 (and-left (leb a 16) _ f), leb-true b 16 (and-right (leb a 16) _ f))
+counts-few a b e = (leb-true a 16 (and-left (leb a 16) _ e), leb-true b 16 (and-right (leb a 16) _ e))
 
 module _ (ls ss : List ℕ) (g : Group) (seen : Seen) where
   pub group-counts : countsRight (g .loads .count) (g .stores .count) ≡ false → badCounts ≡ groupFault seen (pairsOf ls ss g)

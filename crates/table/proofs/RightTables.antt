@@ -4,12 +4,12 @@ use native.Mathlib.Nat.{add-zero, add-suc, suc-add, zero-add, le-trans}
 use native.Mathlib.Omega.{arith}
 use mathlib.Core.Path.{_≡_, refl, sym, _∙_}
 use mathlib.Core.Logic.{_≢_}
-use mathlib.Core.Bool.{Bool, true, false, _&&_, _||_}
+use mathlib.Core.Bool.{Bool, true, false, _||_}
 use mathlib.Core.List.{List, [], _∷_, _++_, map, map-append}
 use lib.Dec.{eqb, leb}
 use lib.ListN.{length, getD, set, length-set, getD-replicate}
 use lib.Seq.{getD-set-same, getD-set-other}
-use borrow.Author.Tests.{leb-true, le-leb, eqb-true, eqb-false, eq-eqb, ne-eqb, not-true}
+use borrow.Author.Tests.{leb-true, le-leb, eqb-true, eqb-false, eq-eqb, ne-eqb}
 use Rattle.table.specs.declared.Pair.{Pair}
 use Rattle.number.specs.Refusal.{badGroupCount}
 use Rattle.number.specs.Basics.{anyOf, countWhere, within}
@@ -183,14 +183,8 @@ stores-agree loads low i (s ∷ ss) a =
     (eq-eqb (s .offset) _ h, stores-agree loads (s .offset) (suc i) ss (λ j k. rw (add-suc, ← suc-add) at (a (suc j) (omega arith))))
 
 -- ---- a group
-counts-right : (a b : ℕ) → countsRight a b ≡ true → (a ≤ 16) × (b ≤ 16) × (0 < a + b)
-counts-right a b e =
-    let few = counts-few a b e in
-    let some = eqb-false (a + b) 0 (not-true (eqb (a + b) 0) (and-right (leb a 16 && leb b 16) _ e)) in
-    (few .0, few .1, omega arith)
-
-right-counts : (a b : ℕ) → (a ≤ 16) × (b ≤ 16) × (0 < a + b) → countsRight a b ≡ true
-right-counts a b h = rw (le-leb a 16 (h .0), le-leb b 16 (h .1), ne-eqb (a + b) 0 (λ e. omega arith))
+right-counts : (a b : ℕ) → (a ≤ 16) × (b ≤ 16) → countsRight a b ≡ true
+right-counts a b h = rw (le-leb a 16 (h .0), le-leb b 16 (h .1))
 
 -- all of a right group but its ports
 record Shape (g : GroupPairs) : Type 0 where
@@ -211,7 +205,7 @@ module _ (seen : Seen) (g : GroupPairs) {loads stores : List ℕ} (w : Done seen
       let s = pairs-fresh (storeRule (g .loads)) 0 0 (seen .stores) stores (g .stores) (w .stores-marked) ss in
       let (above, fall, below) = loads-rise (length (g .stores)) 0 0 (g .loads) (l .0) in (
         record {
-          counts = counts-right (length (g .loads)) (length (g .stores)) counts;
+          counts = counts-few (length (g .loads)) (length (g .stores)) counts;
           never-fall = fall;
           load-offsets = below;
           store-offsets = λ j h. rw zero-add at (stores-count (g .loads) 0 0 (g .stores) (s .0) j h);

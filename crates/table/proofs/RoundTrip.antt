@@ -8,13 +8,13 @@ use lib.Dec.{leb, eqb}
 use lib.ListN.{length, set}
 use borrow.Author.Tests.{ne-eqb, leb-true, eqb-true}
 use Rattle.table.specs.declared.Pair.{Pair}
-use Rattle.number.specs.Basics.{countWhere, flatMap, within}
+use Rattle.number.specs.Basics.{countWhere, flatMap, within, check, firstFault}
 use Rattle.number.specs.Refusal.{badFields, badGroupCount, badCounts, leftOver}
 use Rattle.number.specs.Number.{Got, got, bad, thenRead, require, readNumber, before, Spelled, spells-none, Fit, fit-none, fit-one}
 use Rattle.table.specs.Group.{GroupPairs, beforeStore}
 use Rattle.table.specs.Table.{loadRule, storeRule, pairFault, pairsFault, countsRight, Seen, noneSeen, seenAfter, groupFault, groupsFault, tableFault}
 use Rattle.table.specs.TableBytes.{unless, pair, readPairs, readGroup, readGroups, readTable, pairNumbers, groupNumbers, tableNumbers, tableBytes}
-use Rattle.table.specs.RoundTrip.{TablesAreSpelled, OnlyRightTables, TablesReadBack, RecordsHoldGroups}
+use Rattle.table.specs.RoundTrip.{FaultsAreRead, TablesAreSpelled, OnlyRightTables, TablesReadBack, RecordsHoldGroups}
 use Rattle.number.proofs.Both.{and-right}
 use Rattle.table.proofs.CheckLaws.{fault-none, counts-few, count-most}
 use Rattle.table.proofs.PackLaws.{group-fault, groups-packed}
@@ -28,28 +28,36 @@ regrouped a b c w = rw (append-assoc a b c) at w
 with-none : {s : List ℕ} (a : List ℕ) → Spelled s a → Spelled s (a ++ [])
 with-none a w = rw append-nil w
 
+-- ---- what is spelled is read, or its first fault is told
+both-before : {A : Type 0} (f g : ℕ) (a : A) (l : List A) (r : List ℕ) →
+    unless f (before a (unless g (got l r))) ≡ unless (firstFault f g) (got (a ∷ l) r)
+both-before zero zero a l r = refl
+both-before zero (suc g) a l r = rw (ne-eqb (suc g) 0 (λ z. omega arith))
+both-before (suc f) g a l r = rw (ne-eqb (suc f) 0 (λ z. omega arith), ne-eqb (suc f) 0 (λ z. omega arith))
+
 -- ---- pairs
-pub record PairsTaken (rule : ℕ → ℕ → ℕ → Bool) (low i : ℕ) (seen : List Bool) (s : List ℕ) (ps : List Pair) (ns : List ℕ) : Type 0 where
+record PairsTold (rule : ℕ → ℕ → ℕ → Bool) (low i : ℕ) (seen : List Bool) (s : List ℕ) (ps : List Pair) (ns : List ℕ) : Type 0 where
   pub rest : List ℕ
-  pub is : readPairs rule (length ps) low i seen s ≡ got ps rest
+  pub is : readPairs rule (length ps) low i seen s ≡ unless (pairsFault rule low i seen ps) (got ps rest)
   pub others : Spelled rest ns
 
-pub take-pairs : (rule : ℕ → ℕ → ℕ → Bool) (low i : ℕ) (seen : List Bool) (ps : List Pair) (s ns : List ℕ) → pairsFault rule low i seen ps ≡ 0
-    → Spelled s (flatMap pairNumbers ps ++ ns) → PairsTaken rule low i seen s ps ns
+pairs-told : (rule : ℕ → ℕ → ℕ → Bool) (low i : ℕ) (seen : List Bool) (ps : List Pair) (s ns : List ℕ)
+    → Spelled s (flatMap pairNumbers ps ++ ns) → PairsTold rule low i seen s ps ns
 unfolding readPairs pairsFault
-take-pairs rule low i seen [] s ns e w = record { rest = s; is = refl; others = w }
-take-pairs rule low i seen (p ∷ ps) s ns e w =
-    let f = or-else-both (pairFault (rule low i (p .offset)) seen (p .port)) _ e in
+pairs-told rule low i seen [] s ns w = record { rest = s; is = refl; others = w }
+pairs-told rule low i seen (p ∷ ps) s ns w =
     let x = take-one w in
     let y = take-one (x .others) in
-    let z = take-pairs rule (p .offset) (suc i) (set seen (p .port) true) ps (y .rest) ns (f .1) (y .others) in
-    record { rest = z .rest; is = one-more (x .rest) (y .rest) (z .rest) (x .is) (y .is) (f .0) (z .is); others = z .others }
+    let z = pairs-told rule (p .offset) (suc i) (set seen (p .port) true) ps (y .rest) ns (y .others) in
+    record { rest = z .rest; is = one-more (x .rest) (y .rest) (z .rest) (x .is) (y .is) (z .is); others = z .others }
   where
     one-more : (s₁ s₂ r : List ℕ) → readNumber s ≡ got (p .offset) s₁ → readNumber s₁ ≡ got (p .port) s₂
-        → pairFault (rule low i (p .offset)) seen (p .port) ≡ 0
-        → readPairs rule (length ps) (p .offset) (suc i) (set seen (p .port) true) s₂ ≡ got ps r
-        → readPairs rule (suc (length ps)) low i seen s ≡ got (p ∷ ps) r
-    one-more s₁ s₂ r a b c d = rw (a, b, c, d)
+        → readPairs rule (length ps) (p .offset) (suc i) (set seen (p .port) true) s₂
+        ≡ unless (pairsFault rule (p .offset) (suc i) (set seen (p .port) true) ps) (got ps r)
+        → readPairs rule (suc (length ps)) low i seen s ≡ unless (pairsFault rule low i seen (p ∷ ps)) (got (p ∷ ps) r)
+    one-more s₁ s₂ r a b d = rw (a, b, d)
+        (both-before (pairFault (rule low i (p .offset)) seen (p .port))
+        (pairsFault rule (p .offset) (suc i) (set seen (p .port) true) ps) p ps r)
 
 pub put-pairs : (rule : ℕ → ℕ → ℕ → Bool) (n low i : ℕ) (seen : List Bool) (s : List ℕ) (ps : List Pair) (rest ns : List ℕ)
     → readPairs rule n low i seen s ≡ got ps rest → Spelled rest ns → Spelled s (flatMap pairNumbers ps ++ ns)
@@ -99,33 +107,50 @@ put-pairs rule (suc n) low i seen s ps rest ns e w = first (readNumber s) refl (
     first (bad k) f ih d = let z : _≡_ {A = ℕ} 0 1 = cc in absurd (omega arith)
 
 -- ---- a group
-pub record GroupTaken (seen : Seen) (s : List ℕ) (g : GroupPairs) (ns : List ℕ) : Type 0 where
+record GroupTold (seen : Seen) (s : List ℕ) (g : GroupPairs) (ns : List ℕ) : Type 0 where
   pub rest : List ℕ
-  pub is : readGroup seen s ≡ got g rest
+  pub is : readGroup seen s ≡ unless (groupFault seen g) (got g rest)
   pub others : Spelled rest ns
+
+-- a group's loads and stores, each told
+group-of : (seen : Seen) (g : GroupPairs) (s₃ r : List ℕ) (b : ℕ)
+    → readPairs (storeRule (g .loads)) (length (g .stores)) 0 0 (seen .stores) s₃ ≡ unless b (got (g .stores) r) → (t : Bool) (a : ℕ)
+    → require t badCounts (thenRead (unless a (got (g .loads) s₃)) λ ls s₅.
+    thenRead (readPairs (storeRule ls) (length (g .stores)) 0 0 (seen .stores) s₅) λ ss s₄. got (groupOf ls ss) s₄)
+    ≡ unless (check t badCounts (firstFault a b)) (got g r)
+group-of seen g s₃ r b d false a = refl
+group-of seen g s₃ r b d true zero = rw d (go b)
+  where
+    go : (h : ℕ) → (thenRead (unless h (got (g .stores) r)) λ ss s₄. got (groupOf (g .loads) ss) s₄) ≡ unless h (got g r)
+    go zero = refl
+    go (suc h) = rw (ne-eqb (suc h) 0 (λ z. omega arith))
+group-of seen g s₃ r b d true (suc a) = rw (ne-eqb (suc a) 0 (λ z. omega arith), ne-eqb (suc a) 0 (λ z. omega arith))
+
+group-told : (seen : Seen) (g : GroupPairs) (s ns : List ℕ) → Spelled s (groupNumbers g ++ ns) → GroupTold seen s g ns
+unfolding readGroup groupFault
+group-told seen g s ns w =
+    let x = take-one w in
+    let y = take-one (x .others) in
+    let l = pairs-told (loadRule (length (g .stores))) 0 0 (seen .loads) (g .loads) (y .rest) (flatMap pairNumbers (g .stores) ++ ns)
+    (regrouped (flatMap pairNumbers (g .loads)) (flatMap pairNumbers (g .stores)) ns (y .others)) in
+    let t = pairs-told (storeRule (g .loads)) 0 0 (seen .stores) (g .stores) (l .rest) ns (l .others) in
+    record { rest = t .rest; is = whole (x .rest) (y .rest) (l .rest) (t .rest) (x .is) (y .is) (l .is) (t .is); others = t .others }
+  where
+    whole : (s₁ s₂ s₃ r : List ℕ) → readNumber s ≡ got (length (g .loads)) s₁ → readNumber s₁ ≡ got (length (g .stores)) s₂
+        → readPairs (loadRule (length (g .stores))) (length (g .loads)) 0 0 (seen .loads) s₂
+        ≡ unless (pairsFault (loadRule (length (g .stores))) 0 0 (seen .loads) (g .loads)) (got (g .loads) s₃)
+        → readPairs (storeRule (g .loads)) (length (g .stores)) 0 0 (seen .stores) s₃
+        ≡ unless (pairsFault (storeRule (g .loads)) 0 0 (seen .stores) (g .stores)) (got (g .stores) r)
+        → readGroup seen s ≡ unless (groupFault seen g) (got g r)
+    whole s₁ s₂ s₃ r a b c d = rw (a, b, c)
+        (group-of seen g s₃ r (pairsFault (storeRule (g .loads)) 0 0 (seen .stores) (g .stores)) d
+        (countsRight (length (g .loads)) (length (g .stores))) (pairsFault (loadRule (length (g .stores))) 0 0 (seen .loads) (g .loads)))
 
 group-right-of : (seen : Seen) (g : GroupPairs) → countsRight (length (g .loads)) (length (g .stores)) ≡ true
     → pairsFault (loadRule (length (g .stores))) 0 0 (seen .loads) (g .loads) ≡ 0
     → pairsFault (storeRule (g .loads)) 0 0 (seen .stores) (g .stores) ≡ 0 → groupFault seen g ≡ 0
 unfolding groupFault
 group-right-of seen g a b c = rw (a, b, c)
-
-pub take-group : (seen : Seen) (g : GroupPairs) (s ns : List ℕ) → groupFault seen g ≡ 0 → Spelled s (groupNumbers g ++ ns) → GroupTaken seen s g ns
-unfolding readGroup
-take-group seen g s ns e w =
-    let (right, ls, ss) = group-fault seen g e in
-    let x = take-one w in
-    let y = take-one (x .others) in
-    let l = take-pairs (loadRule (length (g .stores))) 0 0 (seen .loads) (g .loads) (y .rest) (flatMap pairNumbers (g .stores) ++ ns) ls
-    (regrouped (flatMap pairNumbers (g .loads)) (flatMap pairNumbers (g .stores)) ns (y .others)) in
-    let t = take-pairs (storeRule (g .loads)) 0 0 (seen .stores) (g .stores) (l .rest) ns ss (l .others) in
-    record { rest = t .rest; is = whole (x .rest) (y .rest) (l .rest) (t .rest) (x .is) (y .is) right (l .is) (t .is); others = t .others }
-  where
-    whole : (s₁ s₂ s₃ r : List ℕ) → readNumber s ≡ got (length (g .loads)) s₁ → readNumber s₁ ≡ got (length (g .stores)) s₂
-        → countsRight (length (g .loads)) (length (g .stores)) ≡ true
-        → readPairs (loadRule (length (g .stores))) (length (g .loads)) 0 0 (seen .loads) s₂ ≡ got (g .loads) s₃
-        → readPairs (storeRule (g .loads)) (length (g .stores)) 0 0 (seen .stores) s₃ ≡ got (g .stores) r → readGroup seen s ≡ got g r
-    whole s₁ s₂ s₃ r a b c d f = rw (a, b, c, d, f)
 
 -- what a group that was read says
 pub record GroupPut (seen : Seen) (s : List ℕ) (g : GroupPairs) (rest : List ℕ) : Type 0 where
@@ -197,24 +222,28 @@ put-group seen s g rest e = first (readNumber s) refl e
     first (bad n) a k = let z : _≡_ {A = ℕ} 0 1 = cc in absurd (omega arith)
 
 -- ---- groups
-pub record GroupsTaken (seen : Seen) (s : List ℕ) (gs : List GroupPairs) (ns : List ℕ) : Type 0 where
+record GroupsTold (seen : Seen) (s : List ℕ) (gs : List GroupPairs) (ns : List ℕ) : Type 0 where
   pub rest : List ℕ
-  pub is : readGroups (length gs) seen s ≡ got gs rest
+  pub is : readGroups (length gs) seen s ≡ unless (groupsFault seen gs) (got gs rest)
   pub others : Spelled rest ns
 
-pub take-groups : (seen : Seen) (gs : List GroupPairs) (s ns : List ℕ) → groupsFault seen gs ≡ 0 → Spelled s (flatMap groupNumbers gs ++ ns)
-    → GroupsTaken seen s gs ns
+groups-told : (seen : Seen) (gs : List GroupPairs) (s ns : List ℕ) → Spelled s (flatMap groupNumbers gs ++ ns) → GroupsTold seen s gs ns
 unfolding readGroups groupsFault
-take-groups seen [] s ns e w = record { rest = s; is = refl; others = w }
-take-groups seen (g ∷ gs) s ns e w =
-    let f = or-else-both (groupFault seen g) _ e in
-    let x = take-group seen g s (flatMap groupNumbers gs ++ ns) (f .0) (regrouped (groupNumbers g) (flatMap groupNumbers gs) ns w) in
-    let y = take-groups (seenAfter g seen) gs (x .rest) ns (f .1) (x .others) in
+groups-told seen [] s ns w = record { rest = s; is = refl; others = w }
+groups-told seen (g ∷ gs) s ns w =
+    let x = group-told seen g s (flatMap groupNumbers gs ++ ns) (regrouped (groupNumbers g) (flatMap groupNumbers gs) ns w) in
+    let y = groups-told (seenAfter g seen) gs (x .rest) ns (x .others) in
     record { rest = y .rest; is = one-more (x .rest) (y .rest) (x .is) (y .is); others = y .others }
   where
-    one-more : (s₁ r : List ℕ) → readGroup seen s ≡ got g s₁ → readGroups (length gs) (seenAfter g seen) s₁ ≡ got gs r
-        → readGroups (suc (length gs)) seen s ≡ got (g ∷ gs) r
-    one-more s₁ r a b = rw (a, b)
+    one-more : (s₁ r : List ℕ) → readGroup seen s ≡ unless (groupFault seen g) (got g s₁)
+        → readGroups (length gs) (seenAfter g seen) s₁ ≡ unless (groupsFault (seenAfter g seen) gs) (got gs r)
+        → readGroups (suc (length gs)) seen s ≡ unless (groupsFault seen (g ∷ gs)) (got (g ∷ gs) r)
+    one-more s₁ r a b = rw a (go (groupFault seen g))
+      where
+        go : (f : ℕ) → (thenRead (unless f (got g s₁)) λ h s₂. before h (readGroups (length gs) (seenAfter h seen) s₂))
+            ≡ unless (firstFault f (groupsFault (seenAfter g seen) gs)) (got (g ∷ gs) r)
+        go zero = rw b (both-before 0 (groupsFault (seenAfter g seen) gs) g gs r)
+        go (suc f) = rw (ne-eqb (suc f) 0 (λ z. omega arith), ne-eqb (suc f) 0 (λ z. omega arith))
 
 pub record GroupsPut (seen : Seen) (n : ℕ) (s : List ℕ) (gs : List GroupPairs) (rest : List ℕ) : Type 0 where
   pub right : groupsFault seen gs ≡ 0
@@ -265,18 +294,28 @@ table-right-of : (gs : List GroupPairs) → within 1 16 (length gs) ≡ true →
 unfolding tableFault
 table-right-of gs a b = rw (a, b)
 
-pub tables-are-spelled : TablesAreSpelled
-unfolding readTable
-tables-are-spelled gs bytes e w =
-    let (few, right) = table-fault gs e in
+pub faults-are-read : FaultsAreRead
+unfolding readTable tableFault
+faults-are-read gs bytes w =
     let x = take-one w in
     let y = take-one (x .others) in
-    let g = take-groups noneSeen gs (y .rest) [] right (with-none (flatMap groupNumbers gs) (y .others)) in
-    whole (x .rest) (y .rest) (g .rest) (x .is) (y .is) few (g .is) (spelled-none (g .others))
+    let g = groups-told noneSeen gs (y .rest) [] (with-none (flatMap groupNumbers gs) (y .others)) in
+    whole (x .rest) (y .rest) (g .rest) (x .is) (y .is) (g .is) (spelled-none (g .others))
   where
-    whole : (s₁ s₂ s₃ : List ℕ) → readNumber bytes ≡ got 2 s₁ → readNumber s₁ ≡ got (length gs) s₂ → within 1 16 (length gs) ≡ true
-        → readGroups (length gs) noneSeen s₂ ≡ got gs s₃ → s₃ ≡ [] → readTable bytes ≡ got gs []
-    whole s₁ s₂ s₃ a b c d f = rw (a, b, c, d, f)
+    whole : (s₁ s₂ s₃ : List ℕ) → readNumber bytes ≡ got 2 s₁ → readNumber s₁ ≡ got (length gs) s₂
+        → readGroups (length gs) noneSeen s₂ ≡ unless (groupsFault noneSeen gs) (got gs s₃) → s₃ ≡ []
+        → readTable bytes ≡ unless (tableFault gs) (got gs [])
+    whole s₁ s₂ s₃ a b d f = rw (a, b, d, f) (go (within 1 16 (length gs)) (groupsFault noneSeen gs))
+      where
+        go : (t : Bool) (k : ℕ)
+            → require t badGroupCount (thenRead (unless k (got gs [])) λ hs s₄. require (eqb (length s₄) 0) leftOver (got hs s₄))
+            ≡ unless (check t badGroupCount k) (got gs [])
+        go false k = refl
+        go true zero = refl
+        go true (suc k) = rw (ne-eqb (suc k) 0 (λ z. omega arith))
+
+pub tables-are-spelled : TablesAreSpelled
+tables-are-spelled gs bytes e w = faults-are-read gs bytes w ∙ rw e
 
 pub only-right-tables : OnlyRightTables
 unfolding readTable

@@ -15,6 +15,10 @@ pub record GroupPairs : Type 0 where
   pub loads : List Pair
   pub stores : List Pair
 
+-- S-2, "groups with no load and no store"
+abbrev pub emptyGroup : GroupPairs
+emptyGroup = record { loads = []; stores = [] }
+
 abbrev pub blankPair : Pair
 blankPair = record { offset = 0; port = 0 }
 

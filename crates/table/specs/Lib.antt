@@ -5,4 +5,5 @@ pub mod Table
 pub mod TableBytes
 pub mod RightTables
 pub mod RoundTrip
+pub mod EmptyGroups
 pub mod Internal

@@ -1,6 +1,6 @@
--- When a table is right, in the paper's words and with nothing of the checking: no marks, no order of faults. The proof is
--- proofs/RightTables.antt.
-use Prim.Native.Nat.{ℕ, _+_, _≤_, _<_}
+-- When a table is right, in the words of document 01 as S-2 leaves them, and with nothing of the checking: no marks, no order of
+-- faults. The proof is proofs/RightTables.antt.
+use Prim.Native.Nat.{ℕ, _≤_, _<_}
 use mathlib.Core.Path.{_≡_}
 use mathlib.Core.Logic.{_↔_, _≢_}
 use mathlib.Core.List.{List, [], _∷_, map}
@@ -29,9 +29,9 @@ NeverFall (n ∷ ns) = Each (λ (m : ℕ). n ≤ m) ns × NeverFall ns
 abbrev pub offsetOf : Pair → ℕ
 offsetOf p = p .offset
 
--- each count is 0 to 16, and not both are 0
+-- each count is 0 to 16
 abbrev pub CountsWithin : GroupPairs → Type 0
-CountsWithin g = (length (g .loads) ≤ 16) × (length (g .stores) ≤ 16) × (0 < length (g .loads) + length (g .stores))
+CountsWithin g = (length (g .loads) ≤ 16) × (length (g .stores) ≤ 16)
 
 -- the load offsets never fall
 abbrev pub LoadsNeverFall : GroupPairs → Type 0
@@ -52,7 +52,7 @@ PortsWithin ps = Each (λ (port : ℕ). port ≤ 31) (map portOf ps)
 pub record RightTable (gs : List GroupPairs) : Type 0 where
   -- "number of groups (1 to 16)"
   pub group-count : (1 ≤ length gs) × (length gs ≤ 16)
-  -- "its number of loads, its number of stores (each 0 to 16, not both 0)"
+  -- "its number of loads, its number of stores (each 0 to 16 ..)"; with S-2 both may be 0
   pub counts : Each CountsWithin gs
   -- "Load offsets never fall."
   pub never-fall : Each LoadsNeverFall gs

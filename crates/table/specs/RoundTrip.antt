@@ -7,7 +7,12 @@ use lib.ListN.{length}
 use Rattle.number.specs.Number.{got, Spelled}
 use Rattle.table.specs.Group.{GroupPairs}
 use Rattle.table.specs.Table.{groupsOf, tableFault}
-use Rattle.table.specs.TableBytes.{readTable, pack, loadsIn, storesIn, tableNumbers, tableBytes}
+use Rattle.table.specs.TableBytes.{unless, readTable, pack, loadsIn, storesIn, tableNumbers, tableBytes}
+
+-- Reading finds the fault that checking finds: of bytes that spell the numbers of groups, right or wrong, it tells the first of 4, 5,
+-- 8, 6, 7 that they meet, and where they meet none it gives them.
+abbrev pub FaultsAreRead : Type 0
+FaultsAreRead = (gs : List GroupPairs) (bytes : List ℕ) → Spelled bytes (tableNumbers gs) → readTable bytes ≡ unless (tableFault gs) (got gs [])
 
 -- Reading a table accepts just the bytes that spell the numbers of a right table, and gives that table.
 abbrev pub TablesAreSpelled : Type 0

@@ -66,9 +66,10 @@ unfoldable pub seeing : List Pair → List Bool → List Bool
 seeing [] seen = seen
 seeing (p ∷ ps) seen = seeing ps (set seen (p .port) true)
 
--- A group's counts are each 0 to 16, and not both 0.
+-- A group's counts are each 0 to 16. S-2: a group "with no load and no store .. is valid from now on, 5 being left for a count
+-- above 16".
 abbrev pub countsRight : ℕ → ℕ → Bool
-countsRight loads stores = leb loads 16 && leb stores 16 && not (eqb (loads + stores) 0)
+countsRight loads stores = leb loads 16 && leb stores 16
 
 -- Load ports and store ports are "two separate series".
 pub record Seen : Type 0 where

@@ -109,17 +109,14 @@ fn check_pairs<'a>(
     0
 }
 
-// A group's counts are each 0 to 16, and not both 0.
+// A group's counts are each 0 to 16; an empty group has none of either.
 pub(crate) fn counts_right(loads: u32, stores: u32) -> bool
     ensures { λ r. ⌜ r ≡ countsRight loads stores ⌝ }
 {
     if 16 < loads {
         return false;
     }
-    if 16 < stores {
-        return false;
-    }
-    0 < loads + stores
+    stores <= 16
 }
 
 // A group's first fault, or 0: 5 counts, then its loads, then its stores. The marks of the ports seen are lent.

@@ -77,6 +77,9 @@ impl<S: Live> Checker<'_, S> {
         };
         let answer = outcome.err().unwrap_or(0);
         self.tally.note(Place::of(event), answer);
+        if let (0, Some(queue)) = (answer, &state.queue) {
+            self.tally.accepted(queue, event);
+        }
         if answer == 0 && matches!(event, Event::Write { .. } | Event::Take { .. }) {
             self.tally
                 .left(gone(before.frame.loads, state.record.frame.loads));

@@ -4,9 +4,10 @@ use std::collections::BTreeMap;
 use std::fmt;
 
 use lsq_ref::shift::PORTS;
-use lsq_ref::{Event, ShiftRecord};
+use lsq_ref::{Event, Queue, ShiftRecord};
 
 use super::subject::Ready;
+use crate::tally::{activates_empty, EMPTY_GROUP, EMPTY_WHEN_FULL};
 
 /// The numbers that can be answered are below this.
 const NUMBERS: usize = 42;
@@ -96,7 +97,7 @@ pub struct CanOccur {
     /// Ready lists of all lengths up to this one, and as many entries that
     /// leave a side at once.
     most: usize,
-    /// What is reached with shift records.
+    /// What is reached besides.
     states: &'static [&'static str],
 }
 
@@ -118,7 +119,7 @@ pub const IN_LISTS: CanOccur = CanOccur {
         (Page, &[0, 41]),
     ],
     most: 16,
-    states: &[PORT_31, STOPPED, NO_TAKE],
+    states: &[EMPTY_GROUP, EMPTY_WHEN_FULL, PORT_31, STOPPED, NO_TAKE],
 };
 
 /// On records from anywhere.
@@ -144,7 +145,15 @@ pub const IN_RECORDS: CanOccur = CanOccur {
         (Page, &[0, 41]),
     ],
     most: 64,
-    states: &[PORT_31, PORT_ABOVE, STOPPED, NO_TAKE, NO_BYTE],
+    states: &[
+        EMPTY_GROUP,
+        EMPTY_WHEN_FULL,
+        PORT_31,
+        PORT_ABOVE,
+        STOPPED,
+        NO_TAKE,
+        NO_BYTE,
+    ],
 };
 
 /// Sizes are counted together up to each of these.
@@ -203,6 +212,13 @@ impl LiveTally {
     /// Counts an answer.
     pub fn note(&mut self, place: Place, answer: u8) {
         self.answers[place as usize][usize::from(answer)] += 1;
+    }
+
+    /// Counts an accepted call by the queue that follows.
+    pub fn accepted(&mut self, queue: &Queue, event: &Event) {
+        let (empty, when_full) = activates_empty(queue, event);
+        self.reach(empty, EMPTY_GROUP);
+        self.reach(when_full, EMPTY_WHEN_FULL);
     }
 
     /// Counts the length of a ready list.

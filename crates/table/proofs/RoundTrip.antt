@@ -66,7 +66,8 @@ put-pairs rule zero low i seen s ps rest ns e w =
     let p : [] ≡ ps = cc in
     let q : s ≡ rest = cc in
     rw (← p, q) w
-put-pairs rule (suc n) low i seen s ps rest ns e w = first (readNumber s) refl (λ x y s₂ l d. put-pairs rule n x (suc i) (set seen y true) s₂ l rest ns d w) e
+put-pairs rule (suc n) low i seen s ps rest ns e w =
+    first (readNumber s) refl (λ x y s₂ l d. put-pairs rule n x (suc i) (set seen y true) s₂ l rest ns d w) e
   where
     put : (x y : ℕ) (s₁ s₂ : List ℕ) (l : List Pair) → readNumber s ≡ got x s₁ → readNumber s₁ ≡ got y s₂ → pair x y ∷ l ≡ ps
         → Spelled s₂ (flatMap pairNumbers l ++ ns) → Spelled s (flatMap pairNumbers ps ++ ns)
@@ -95,7 +96,8 @@ put-pairs rule (suc n) low i seen s ps rest ns e w = first (readNumber s) refl (
         → Spelled s₂ (flatMap pairNumbers l ++ ns))
         → (thenRead g λ y s₂. unless (pairFault (rule low i x) seen y) (before (pair x y) (readPairs rule n x (suc i) (set seen y true) s₂))) ≡ got ps
         rest → Spelled s (flatMap pairNumbers ps ++ ns)
-    second x s₁ f (got y s₂) h ih d = fault x y s₁ s₂ f h (pairFault (rule low i x) seen y) (readPairs rule n x (suc i) (set seen y true) s₂) (ih x y s₂) d
+    second x s₁ f (got y s₂) h ih d =
+        fault x y s₁ s₂ f h (pairFault (rule low i x) seen y) (readPairs rule n x (suc i) (set seen y true) s₂) (ih x y s₂) d
     second x s₁ f (bad k) h ih d = let z : _≡_ {A = ℕ} 0 1 = cc in absurd (omega arith)
 
     first : (g : Got ℕ) → readNumber s ≡ g
@@ -161,7 +163,8 @@ pub put-group : (seen : Seen) (s : List ℕ) (g : GroupPairs) (rest : List ℕ) 
 unfolding readGroup
 put-group seen s g rest e = first (readNumber s) refl e
   where
-    made : (x y : ℕ) (s₁ s₂ s₃ : List ℕ) (ls ss : List Pair) → readNumber s ≡ got x s₁ → readNumber s₁ ≡ got y s₂ → countsRight x y ≡ true
+    made : (x y : ℕ) (s₁ s₂ s₃ : List ℕ) (ls ss : List Pair) → readNumber s ≡ got x s₁ → readNumber s₁ ≡ got y s₂
+        → countsRight x y ≡ true
         → readPairs (loadRule y) x 0 0 (seen .loads) s₂ ≡ got ls s₃ → readPairs (storeRule ls) y 0 0 (seen .stores) s₃ ≡ got ss rest
         → record { loads = ls; stores = ss } ≡ g → GroupPut seen s g rest
     made x y s₁ s₂ s₃ ls ss a b c d f q = rw (← q) (record {
@@ -184,8 +187,9 @@ put-group seen s g rest e = first (readNumber s) refl e
         m : length ss ≡ y
         m = t .1
 
-    stores : (x y : ℕ) (s₁ s₂ s₃ : List ℕ) (ls : List Pair) → readNumber s ≡ got x s₁ → readNumber s₁ ≡ got y s₂ → countsRight x y ≡ true
-        → readPairs (loadRule y) x 0 0 (seen .loads) s₂ ≡ got ls s₃ → (h : Got (List Pair)) → readPairs (storeRule ls) y 0 0 (seen .stores) s₃ ≡ h
+    stores : (x y : ℕ) (s₁ s₂ s₃ : List ℕ) (ls : List Pair) → readNumber s ≡ got x s₁ → readNumber s₁ ≡ got y s₂
+        → countsRight x y ≡ true → readPairs (loadRule y) x 0 0 (seen .loads) s₂ ≡ got ls s₃ → (h : Got (List Pair))
+        → readPairs (storeRule ls) y 0 0 (seen .stores) s₃ ≡ h
         → (thenRead h λ ss s₄. got (groupOf ls ss) s₄) ≡ got g rest → GroupPut seen s g rest
     stores x y s₁ s₂ s₃ ls a b c d (got ss s₄) f k =
         let q : groupOf ls ss ≡ g = cc in
@@ -193,7 +197,8 @@ put-group seen s g rest e = first (readNumber s) refl e
         made x y s₁ s₂ s₃ ls ss a b c d (f ∙ rw r) q
     stores x y s₁ s₂ s₃ ls a b c d (bad n) f k = let z : _≡_ {A = ℕ} 0 1 = cc in absurd (omega arith)
 
-    loads : (x y : ℕ) (s₁ s₂ : List ℕ) → readNumber s ≡ got x s₁ → readNumber s₁ ≡ got y s₂ → countsRight x y ≡ true → (h : Got (List Pair))
+    loads : (x y : ℕ) (s₁ s₂ : List ℕ) → readNumber s ≡ got x s₁ → readNumber s₁ ≡ got y s₂
+        → countsRight x y ≡ true → (h : Got (List Pair))
         → readPairs (loadRule y) x 0 0 (seen .loads) s₂ ≡ h
         → (thenRead h λ ls s₃. thenRead (readPairs (storeRule ls) y 0 0 (seen .stores) s₃) λ ss s₄. got (groupOf ls ss) s₄) ≡ got g rest
         → GroupPut seen s g rest
@@ -250,7 +255,8 @@ pub record GroupsPut (seen : Seen) (n : ℕ) (s : List ℕ) (gs : List GroupPair
   pub many : length gs ≡ n
   pub spelled : (ns : List ℕ) → Spelled rest ns → Spelled s (flatMap groupNumbers gs ++ ns)
 
-pub put-groups : (n : ℕ) (seen : Seen) (s : List ℕ) (gs : List GroupPairs) (rest : List ℕ) → readGroups n seen s ≡ got gs rest → GroupsPut seen n s gs rest
+pub put-groups : (n : ℕ) (seen : Seen) (s : List ℕ) (gs : List GroupPairs) (rest : List ℕ) → readGroups n seen s ≡ got gs rest
+    → GroupsPut seen n s gs rest
 unfolding readGroups groupsFault
 put-groups zero seen s gs rest e =
     let p : [] ≡ gs = cc in
@@ -321,7 +327,8 @@ pub only-right-tables : OnlyRightTables
 unfolding readTable
 only-right-tables s rest gs e = first (readNumber s) refl e
   where
-    made : (n : ℕ) (s₁ s₂ : List ℕ) → readNumber s ≡ got 2 s₁ → readNumber s₁ ≡ got n s₂ → within 1 16 n ≡ true → GroupsPut noneSeen n s₂ gs rest
+    made : (n : ℕ) (s₁ s₂ : List ℕ) → readNumber s ≡ got 2 s₁ → readNumber s₁ ≡ got n s₂ → within 1 16 n ≡ true
+        → GroupsPut noneSeen n s₂ gs rest
         → rest ≡ [] → (tableFault gs ≡ 0) × (rest ≡ []) × Spelled s (tableNumbers gs)
     made n s₁ s₂ a b c w z = (
       right,
@@ -333,7 +340,8 @@ only-right-tables s rest gs e = first (readNumber s) refl e
         right : tableFault gs ≡ 0
         right = table-right-of gs (rw (w .many) c) (w .right)
 
-    end : (n : ℕ) (s₁ s₂ : List ℕ) → readNumber s ≡ got 2 s₁ → readNumber s₁ ≡ got n s₂ → within 1 16 n ≡ true → (h : List GroupPairs) (s₃ : List ℕ)
+    end : (n : ℕ) (s₁ s₂ : List ℕ) → readNumber s ≡ got 2 s₁ → readNumber s₁ ≡ got n s₂ → within 1 16 n ≡ true
+        → (h : List GroupPairs) (s₃ : List ℕ)
         → readGroups n noneSeen s₂ ≡ got h s₃ → (t : Bool) → eqb (length s₃) 0 ≡ t → require t leftOver (got h s₃) ≡ got gs rest
         → (tableFault gs ≡ 0) × (rest ≡ []) × Spelled s (tableNumbers gs)
     end n s₁ s₂ a b c h s₃ d true k f =
@@ -346,7 +354,8 @@ only-right-tables s rest gs e = first (readNumber s) refl e
         empty (x ∷ l) z = absurd (omega arith)
     end n s₁ s₂ a b c h s₃ d false k f = let z : _≡_ {A = ℕ} 0 1 = cc in absurd (omega arith)
 
-    groups : (n : ℕ) (s₁ s₂ : List ℕ) → readNumber s ≡ got 2 s₁ → readNumber s₁ ≡ got n s₂ → within 1 16 n ≡ true → (h : Got (List GroupPairs))
+    groups : (n : ℕ) (s₁ s₂ : List ℕ) → readNumber s ≡ got 2 s₁ → readNumber s₁ ≡ got n s₂ → within 1 16 n ≡ true
+        → (h : Got (List GroupPairs))
         → readGroups n noneSeen s₂ ≡ h → (thenRead h λ l s₃. require (eqb (length s₃) 0) leftOver (got l s₃)) ≡ got gs rest
         → (tableFault gs ≡ 0) × (rest ≡ []) × Spelled s (tableNumbers gs)
     groups n s₁ s₂ a b c (got l s₃) d f = end n s₁ s₂ a b c l s₃ d (eqb (length s₃) 0) refl f
@@ -383,7 +392,8 @@ only-right-tables s rest gs e = first (readNumber s) refl e
 
 -- a right table's numbers are all small
 fit-pairs : (rule : ℕ → ℕ → ℕ → Bool) → ((low i offset : ℕ) → rule low i offset ≡ true → offset ≤ 16)
-    → (low i : ℕ) (seen : List Bool) (ps : List Pair) {ns : List ℕ} → pairsFault rule low i seen ps ≡ 0 → Fit ns → Fit (flatMap pairNumbers ps ++ ns)
+    → (low i : ℕ) (seen : List Bool) (ps : List Pair) {ns : List ℕ} → pairsFault rule low i seen ps ≡ 0 → Fit ns
+    → Fit (flatMap pairNumbers ps ++ ns)
 unfolding pairsFault
 fit-pairs rule small low i seen [] e w = w
 fit-pairs rule small low i seen (p ∷ ps) e w =

@@ -9,7 +9,7 @@ use Rattle.number.specs.Refusal.{tooShort}
 use Rattle.number.specs.Number.{got, bad}
 use Rattle.table.specs.Group.{GroupPairs}
 use Rattle.table.specs.TableBytes.{readTable}
-use Rattle.queue.specs.declared.Counts.{Counts}
+use Rattle.counts.specs.declared.Counts.{Counts}
 use Rattle.queue.specs.Ruled.{Ruled, refuse, accept}
 use Rattle.replay.specs.declared.Replayed.{Replayed}
 use Rattle.replay.specs.Replay.{Replay, Buffers, replay}

@@ -4,7 +4,7 @@ use mathlib.Core.List.{List, [], _∷_}
 use lib.Dec.{leb}
 use lib.ListN.{length, getD}
 use Rattle.number.specs.Refusal.{tooShort}
-use Rattle.queue.specs.declared.Counts.{Counts}
+use Rattle.counts.specs.declared.Counts.{Counts}
 use Rattle.queue.specs.Ruled.{Ruled, refuse, accept, need, andThen}
 use Rattle.replay.specs.Replay.{Replay, Buffers, tableIn, replay}
 use Rattle.replay.specs.Outcome.{atFront, logIn}

@@ -2,7 +2,7 @@
 // program's, as in C, so each begins with `lsq_`. Whatever is handed in, each answers as its contract says.
 ghost use mathlib.Core.Path.{_≡_};
 ghost use Rattle.table.specs.TableBytes.{readTable, tableAnswer};
-ghost use Rattle.queue.specs.Counts.{share};
+ghost use Rattle.counts.specs.Counts.{share};
 ghost use Rattle.queue.specs.Ruled.{number};
 ghost use Rattle.printed.specs.Outcome.{printed};
 ghost use Rattle.paged.specs.Recorded.{keptAfter};
@@ -10,12 +10,12 @@ ghost use Rattle.exports.specs.Text.{textLength};
 ghost use Rattle.exports.specs.Prepared.{prepared, eventCount, memoryLength};
 ghost use Rattle.exports.specs.Replay.{lent, replayLent, lentAfter};
 ghost use Rattle.exports.specs.Internal.{TellsPrepared};
+use counts::Counts;
+use counts::share;
 use number::BytesWritten;
 use number::refusal::TOO_SHORT;
 use paged::recording::record_replay;
 use printed::text::print;
-use queue::Counts;
-use queue::counting::share;
 use replay::Prepared;
 use replay::preparing::prepare;
 use replay::preparing::unprepared;

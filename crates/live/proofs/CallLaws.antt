@@ -7,12 +7,12 @@ use Rattle.table.specs.declared.Table.{Table}
 use Rattle.number.specs.Refusal.{badGroupCount}
 use Rattle.table.specs.Table.{groupsOf, tableFault}
 use Rattle.table.specs.TableBytes.{pack}
+use Rattle.counts.specs.declared.Counts.{Counts}
 use Rattle.queue.specs.declared.opening.OpenedFrame.{OpenedFrame}
 use Rattle.queue.specs.Open.{noFrame, openQueue}
 use Rattle.queue.specs.Parts.{OpensFrame}
 use Rattle.queue.specs.declared.Queue.{Queue}
 use Rattle.queue.specs.declared.Frame.{Frame}
-use Rattle.queue.specs.declared.Counts.{Counts}
 use Rattle.queue.specs.declared.Outcome.{Outcome}
 use Rattle.queue.specs.declared.Counted.{Counted}
 use Rattle.queue.specs.Ruled.{Ruled, refuse, accept, andThen}

@@ -6,9 +6,9 @@ use mathlib.Core.Option.{Option, none, some}
 use Rattle.table.specs.declared.Table.{Table}
 use Rattle.table.specs.Group.{GroupPairs}
 use Rattle.table.specs.TableBytes.{pack}
+use Rattle.counts.specs.declared.Counts.{Counts}
 use Rattle.queue.specs.declared.Queue.{Queue}
 use Rattle.queue.specs.declared.Frame.{Frame}
-use Rattle.queue.specs.declared.Counts.{Counts}
 use Rattle.queue.specs.declared.Readied.{Readied}
 use Rattle.queue.specs.Ruled.{Ruled, refuse, accept, andThen}
 use Rattle.queue.specs.Contents.{Contents, contentsOf}

@@ -19,7 +19,7 @@ ghost use Rattle.queue.specs.Ruled.{andThen};
 ghost use Rattle.replay.specs.Playing.{afterServe};
 ghost use Rattle.live.specs.Calls.{LiveOpens, toldStep, toldService, LiveTells, moveGives, takeGives, serveGives, writeGives, memoryAfter, liveReadied};
 ghost use Rattle.live.specs.Internal.{liveStep, liveService};
-use queue::Counts;
+use counts::Counts;
 use queue::Frame;
 use queue::Kind;
 use queue::Side;

@@ -18,7 +18,7 @@ use Rattle.trace.specs.declared.Header.{Header}
 use Rattle.trace.specs.Event.{readHeader}
 use Rattle.trace.specs.Trace.{readEvents}
 use Rattle.trace.proofs.TraceSteps.{EventGot, header-place}
-use Rattle.queue.specs.declared.Counts.{Counts}
+use Rattle.counts.specs.declared.Counts.{Counts}
 use Rattle.queue.specs.Ruled.{Ruled, refuse, accept, need, andThen}
 use Rattle.queue.proofs.Lists.{false-true}
 use Rattle.queue.specs.Contents.{Contents}

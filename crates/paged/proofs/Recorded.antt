@@ -8,7 +8,7 @@ use lib.Dec.{eqb}
 use Rattle.number.specs.Basics.{pick}
 use Rattle.trace.specs.declared.Event.{Event}
 use Rattle.trace.specs.declared.Event.the-variants.{Activate, LoadAddress, StoreAddress, StoreData, Serve, Write, Take}
-use Rattle.queue.specs.declared.Counts.{Counts}
+use Rattle.counts.specs.declared.Counts.{Counts}
 use Rattle.queue.specs.Ruled.{Ruled, refuse, accept}
 use Rattle.queue.specs.Take.{Taken, takeRule}
 use Rattle.sequential.specs.Calls as Calls

@@ -19,7 +19,7 @@ use Rattle.trace.specs.declared.Event.{Event}
 use Rattle.trace.specs.declared.Header.{Header}
 use Rattle.trace.specs.Event.{readHeader}
 use Rattle.trace.proofs.RoundTrip.{only-spelled-headers}
-use Rattle.queue.specs.declared.Counts.{Counts}
+use Rattle.counts.specs.declared.Counts.{Counts}
 use Rattle.queue.specs.Ruled.{Ruled, refuse, accept}
 use Rattle.queue.specs.Contents.{Contents}
 use Rattle.queue.specs.Open.{openQueue}

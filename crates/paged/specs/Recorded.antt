@@ -11,7 +11,7 @@ use Rattle.number.specs.Number.{Got, got, bad, isByte}
 use Rattle.table.specs.Group.{GroupPairs}
 use Rattle.trace.specs.declared.Event.{Event}
 use Rattle.trace.specs.Event.{readHeader}
-use Rattle.queue.specs.declared.Counts.{Counts}
+use Rattle.counts.specs.declared.Counts.{Counts}
 use Rattle.queue.specs.Ruled.{Ruled, refuse, accept}
 use Rattle.sequential.specs.Calls.{Call}
 use Rattle.sequential.specs.Answers.{Answered, machine, answers}

@@ -1,5 +1,5 @@
 // The shift page of a trace: the record of what a replay took, and the text that the program `page` prints.
-use queue::Counts;
+use counts::Counts;
 use shift::ShiftRecord;
 
 pub mod recording;

@@ -7,7 +7,7 @@ ghost use Rattle.shift.specs.Record.{afterTake};
 ghost use Rattle.paged.specs.Recorded.{afterEvent, valueGiven, recordBuffered, eventsRead, traceEvents, RecordsReplay};
 ghost use Rattle.paged.specs.Internal.{AllReadable};
 use crate::ReplayRecorded;
-use queue::Counts;
+use counts::Counts;
 use replay::EventCount;
 use replay::counting::count_events;
 use replay::replaying::replay;

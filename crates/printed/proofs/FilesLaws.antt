@@ -16,7 +16,7 @@ use Rattle.table.specs.Group.{GroupPairs}
 use Rattle.table.specs.TableBytes.{readTable}
 use Rattle.trace.specs.declared.Event.{Event}
 use Rattle.trace.specs.declared.Header.{Header}
-use Rattle.queue.specs.declared.Counts.{Counts}
+use Rattle.counts.specs.declared.Counts.{Counts}
 use Rattle.queue.specs.Ruled.{accept}
 use Rattle.queue.specs.Contents.{Contents}
 use Rattle.sequential.proofs.Run.{limits-opened}

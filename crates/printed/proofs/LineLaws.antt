@@ -15,8 +15,8 @@ use Rattle.number.specs.Texts.{bytes, digitsUpTo, decimal}
 use Rattle.number.specs.Basics.{pick}
 use Rattle.number.specs.Number.{Puts, PutIfFits}
 use Rattle.number.proofs.SpliceLaws.{splice-front}
-use Rattle.queue.specs.declared.Counts.{Counts}
-use Rattle.queue.specs.Counts.{share}
+use Rattle.counts.specs.declared.Counts.{Counts}
+use Rattle.counts.specs.Counts.{share}
 use Rattle.replay.specs.Playing.{Logged, answerOf, givenOf, wordOf, givenIn, wordIn}
 use Rattle.printed.specs.Words.{line}
 use Rattle.printed.specs.Text.{shown, eventLine, eventLines, wordLine, wordLines, countsLine}

@@ -14,8 +14,8 @@ use Rattle.table.specs.Group.{GroupPairs}
 use Rattle.table.specs.TableBytes.{readTable}
 use Rattle.trace.specs.declared.Event.{Event}
 use Rattle.trace.specs.Event.{readHeader}
-use Rattle.queue.specs.declared.Counts.{Counts}
-use Rattle.queue.specs.Counts.{share}
+use Rattle.counts.specs.declared.Counts.{Counts}
+use Rattle.counts.specs.Counts.{share}
 use Rattle.queue.specs.Ruled.{Ruled, refuse, accept}
 use Rattle.queue.specs.Contents.{Contents}
 use Rattle.queue.proofs.Refusals.{andThen-accepts}

@@ -10,7 +10,7 @@ use borrow.Author.Tests.{lt-leb, le-leb}
 use Rattle.number.specs.Refusal.{tooShort}
 use Rattle.number.specs.Number.{accepts, unwritten, Puts}
 use Rattle.number.proofs.SpliceLaws.{splice-front}
-use Rattle.queue.specs.declared.Counts.{Counts}
+use Rattle.counts.specs.declared.Counts.{Counts}
 use Rattle.replay.specs.Playing.{Logged, answerOf, givenOf, wordOf}
 use Rattle.replay.specs.Replay.{Buffers}
 use Rattle.replay.specs.Outcome.{atFront}

@@ -6,9 +6,9 @@ use Rattle.number.specs.Number.{Got, got, bad, readNumber, numberBytes}
 use Rattle.table.specs.Group.{GroupPairs, Access, load, store, order}
 use Rattle.table.specs.Table.{noneSeen}
 use Rattle.table.specs.TableBytes.{readGroup, readTable}
+use Rattle.counts.specs.Counts.{share}
 use Rattle.queue.specs.Ruled.{number}
 use Rattle.queue.specs.Open.{openQueue}
-use Rattle.queue.specs.Counts.{share}
 use Rattle.number.specs.Texts.{bytes}
 use Rattle.printed.specs.Text.{text}
 

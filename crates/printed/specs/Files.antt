@@ -10,7 +10,7 @@ use Rattle.number.specs.Number.{Got, got, bad}
 use Rattle.number.specs.Texts.{bytes, decimal}
 use Rattle.table.specs.Group.{GroupPairs}
 use Rattle.table.specs.TableBytes.{readTable}
-use Rattle.queue.specs.declared.Counts.{Counts}
+use Rattle.counts.specs.declared.Counts.{Counts}
 use Rattle.queue.specs.Ruled.{Ruled, refuse, accept}
 use Rattle.replay.specs.Replay.{Start, prepare, Replay, replayed}
 use Rattle.printed.specs.Words.{line}

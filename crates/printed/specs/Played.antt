@@ -7,7 +7,7 @@ use lib.Dec.{leb}
 use lib.ListN.{length, replicate}
 use Rattle.number.specs.Basics.{pick}
 use Rattle.number.specs.Refusal.{tooShort}
-use Rattle.queue.specs.declared.Counts.{Counts}
+use Rattle.counts.specs.declared.Counts.{Counts}
 use Rattle.replay.specs.Replay.{Buffers, fits}
 use Rattle.replay.specs.Outcome.{atFront, logIn}
 use Rattle.printed.specs.declared.files.FilesPlayed.{FilesPlayed}

@@ -5,8 +5,8 @@ use mathlib.Core.Option.{Option, none, some}
 use lib.Dec.{eqb}
 use Rattle.number.specs.Basics.{pick}
 use Rattle.number.specs.Texts.{bytes, decimal}
-use Rattle.queue.specs.declared.Counts.{Counts}
-use Rattle.queue.specs.Counts.{share}
+use Rattle.counts.specs.declared.Counts.{Counts}
+use Rattle.counts.specs.Counts.{share}
 use Rattle.replay.specs.Playing.{Logged}
 use Rattle.replay.specs.Replay.{Replay}
 use Rattle.printed.specs.Words.{line}

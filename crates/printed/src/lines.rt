@@ -6,9 +6,9 @@ ghost use Rattle.number.specs.Number.{Puts, PutIfFits};
 ghost use Rattle.printed.specs.Files.{faultText};
 ghost use Rattle.printed.specs.Internal.{item, loggedAs, rows, RunFits};
 use crate::put::put_item;
+use counts::Counts;
+use counts::share;
 use number::texts::put_bytes;
-use queue::Counts;
-use queue::counting::share;
 
 // Puts an event's line: its number, its answer, and the value or `-`.
 fn put_event(out: &mut [u8], at: usize, number: u64, answer: u8, given: u8, word: u32) -> usize

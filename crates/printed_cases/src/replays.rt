@@ -1,7 +1,7 @@
 // A replay of the trace on the table, with all that was lent as it is left.
 ghost use Prim.Native.Nat.{_≤_};
 use crate::show;
-use queue::Counts;
+use counts::Counts;
 use replay::Replayed;
 use table::Table;
 use table::read::read_table;

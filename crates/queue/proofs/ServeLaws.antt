@@ -7,9 +7,9 @@ use mathlib.Core.Option.{Option, some}
 use lib.Dec.{eqb}
 use lib.ListN.{length, getD, take, getElem?}
 use borrow.Author.Tests.{eq-eqb, ne-eqb}
+use Rattle.counts.specs.declared.Counts.{Counts}
 use Rattle.queue.specs.declared.Entry.{Entry}
 use Rattle.queue.specs.declared.Queue.{Queue}
-use Rattle.queue.specs.declared.Counts.{Counts}
 use Rattle.queue.specs.declared.serving.Service.{Service}
 use Rattle.number.specs.Refusal.{unsound, wrongMemory, noSerial, alreadyDone, noAddress}
 use Rattle.queue.specs.Ruled.{refuse, accept, have, andThen, isSome}

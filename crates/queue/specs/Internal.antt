@@ -6,6 +6,8 @@ use mathlib.Core.List.{List, map, _++_, [], _∷_}
 use lib.Dec.{eqb, leb, ltb}
 use lib.ListN.{length, getD, set, drop, take}
 use Rattle.number.specs.Basics.{pick, held}
+use Rattle.counts.specs.declared.Counts.{Counts}
+use Rattle.counts.specs.Counts.{counted}
 use Rattle.queue.specs.declared.Entry.{Entry}
 use Rattle.table.specs.declared.Table.{Table}
 use Rattle.queue.specs.declared.Frame.{Frame}
@@ -30,9 +32,7 @@ use mathlib.Core.Option.{none, some}
 use Rattle.queue.specs.declared.serving.Source as coded
 use Rattle.queue.specs.declared.serving.Source.the-variants.{Unknown, NoData, Forwarded, Memory}
 use Rattle.queue.specs.declared.serving.Service.{Service}
-use Rattle.queue.specs.declared.Counts.{Counts}
 use Rattle.queue.specs.Serve.{Source, unknown, fromStore, fromMemory, Loaded, mayServe, loadWithValue}
-use Rattle.queue.specs.Counts.{counted}
 use Rattle.queue.specs.Ruled.{Ruled, accepted}
 use Rattle.queue.specs.Write.{WordPut, mayWrite}
 use Rattle.queue.specs.declared.answering.Sides.{Sides}

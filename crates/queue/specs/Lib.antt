@@ -11,7 +11,6 @@ pub mod Write
 pub mod Take
 pub mod Retire
 pub mod Ready
-pub mod Counts
 pub mod Outcome
 pub mod EmptyGroups
 pub mod Parts

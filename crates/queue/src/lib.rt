@@ -1,12 +1,12 @@
 // The group-allocated load-store queue: its record, and every call on it.
 // A call is handed the queue by value and gives back the queue that follows. The calls named `.._in` do the work: they are handed
 // an outline, and the table's arrays and both sides' entries are lent to them, so that nothing of these is copied.
+use counts::Counts;
 use table::Table;
 
 pub mod activation;
 pub mod answering;
 pub mod arguments;
-pub mod counting;
 pub mod entries;
 pub mod opening;
 pub mod ports;
@@ -69,13 +69,6 @@ pub struct Queue {
     pub frame: Frame,
     pub load_entries: [u64; 64],
     pub store_entries: [u64; 64],
-}
-
-// Loads served, and loads forwarded.
-#[repr(C)]
-pub struct Counts {
-    pub loads: u32,
-    pub forwarded: u32,
 }
 
 // The value that a call gives; "no value" is not the value 0.

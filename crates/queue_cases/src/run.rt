@@ -2,7 +2,7 @@
 use crate::command;
 use crate::packing;
 use crate::show;
-use queue::Counts;
+use counts::Counts;
 use queue::Opened;
 use queue::Queue;
 use script::Bytes;
@@ -101,7 +101,7 @@ fn set_counts(mut run: Run, loads: u32, forwarded: u32) -> Run {
 // One more load is counted.
 fn count_one(mut run: Run, forwarded: bool) -> Run {
     let held = run.counts;
-    let counts = queue::counting::counted(held, forwarded);
+    let counts = counts::counted(held, forwarded);
     show::number(b": ", counts.loads as u64);
     show::number(b" ", counts.forwarded as u64);
     run.counts = counts;
@@ -138,7 +138,7 @@ fn show_all(run: Run) -> Run {
 
 fn share(run: Run) -> Run {
     let counts = run.counts;
-    show::number(b": ", queue::counting::share(counts));
+    show::number(b": ", counts::share(counts));
     run
 }
 

@@ -1,5 +1,5 @@
 // Are two records the same, field by field? Every place is compared, beyond the counts too.
-use queue::Counts;
+use counts::Counts;
 use queue::Entry;
 use queue::Frame;
 use queue::Queue;

@@ -13,7 +13,7 @@ use Rattle.number.specs.Number.{Got, got, bad, before}
 use Rattle.number.specs.Refusal.{tooShort, wrongMemory}
 use Rattle.table.specs.Group.{GroupPairs}
 use Rattle.trace.specs.declared.Event.{Event}
-use Rattle.queue.specs.declared.Counts.{Counts}
+use Rattle.counts.specs.declared.Counts.{Counts}
 use Rattle.queue.specs.declared.Counted.{Counted}
 use Rattle.queue.specs.declared.Queue.{Queue}
 use Rattle.queue.specs.Ruled.{Ruled, accept, andThen}

@@ -6,10 +6,10 @@ use mathlib.Core.List.{List, []}
 use lib.ListN.{length, set}
 use Rattle.number.specs.Number.{Got, got, bad}
 use Rattle.trace.specs.declared.Event.{Event}
+use Rattle.counts.specs.declared.Counts.{Counts}
 use Rattle.queue.specs.declared.Value.{Value}
 use Rattle.queue.specs.declared.Queue.{Queue}
 use Rattle.queue.specs.declared.Frame.{Frame}
-use Rattle.queue.specs.declared.Counts.{Counts}
 use Rattle.queue.specs.declared.Counted.{Counted}
 use Rattle.queue.specs.Contents.{contentsOf}
 use Rattle.queue.specs.Outcome.{valueIn}

@@ -8,7 +8,7 @@ use Rattle.number.specs.Refusal.{tooShort, wrongMemory}
 use Rattle.number.specs.Number.{got, Fit}
 use Rattle.table.specs.Group.{GroupPairs}
 use Rattle.trace.specs.Trace.{Trace, readTrace, traceNumbers, traceBytes}
-use Rattle.queue.specs.declared.Counts.{Counts}
+use Rattle.counts.specs.declared.Counts.{Counts}
 use Rattle.queue.specs.Ruled.{Ruled, accept, need, andThen}
 use Rattle.queue.specs.Contents.{Contents}
 use Rattle.queue.specs.Open.{openQueue}

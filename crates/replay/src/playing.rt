@@ -7,7 +7,7 @@ ghost use Rattle.queue.specs.Parts.{frameOf, queueOf, whole};
 ghost use mathlib.Core.Bool.{true};
 ghost use Rattle.replay.specs.Playing.{givenIn, wordIn};
 ghost use Rattle.replay.specs.Internal.{Plays, playedOf, PutAnswer};
-use queue::Counts;
+use counts::Counts;
 use queue::Outline;
 use queue::Side;
 use queue::Value;

@@ -11,9 +11,10 @@ use Rattle.table.specs.declared.Table.{Table}
 use Rattle.number.specs.Basics.{allOf}
 use Rattle.table.specs.Group.{GroupPairs}
 use Rattle.table.specs.Table.{groupsOf, tableFault}
+use Rattle.counts.specs.declared.Counts.{Counts}
+use Rattle.counts.specs.Counts.{counted}
 use Rattle.queue.specs.declared.Value.the-variants.{Word, Nothing}
 use Rattle.queue.specs.declared.Queue.{Queue}
-use Rattle.queue.specs.declared.Counts.{Counts}
 use Rattle.queue.specs.declared.Outcome.{Outcome}
 use Rattle.queue.specs.declared.Opened.{Opened}
 use Rattle.queue.specs.Ruled.{Ruled, refuse, accept, number}
@@ -26,7 +27,6 @@ use Rattle.queue.specs.Serve.{Served, serve}
 use Rattle.queue.specs.Write.{Written, write}
 use Rattle.queue.specs.Take.{Taken, takeRule}
 use Rattle.queue.specs.Ready.{ready}
-use Rattle.queue.specs.Counts.{counted}
 use Rattle.queue.specs.Outcome.{Moves, Takes, Serves, Writes, Opens, withCounts}
 use Rattle.queue.specs.Parts.{queueOf, answered}
 use Rattle.number.proofs.Both.{and-left, and-right}

@@ -1,7 +1,7 @@
 -- The calls that a list may hold. The plain run is fed these, and knows nothing of how the queue answers them.
 use Prim.Native.Nat.{ℕ}
 use mathlib.Core.List.{List}
-use Rattle.queue.specs.declared.Counts.{Counts}
+use Rattle.counts.specs.declared.Counts.{Counts}
 use Rattle.queue.specs.declared.Kind.{Kind}
 use Rattle.queue.specs.declared.arguments.Argument.{Argument}
 

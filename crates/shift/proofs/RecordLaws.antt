@@ -9,11 +9,11 @@ use lib.Seq.{set-out, getD-set-same, getD-set-other}
 use borrow.Author.Tests.{ltb-true, lt-ltb, eqb-false}
 use Rattle.number.specs.Basics.{pick, allOf}
 use Rattle.number.proofs.Both.{and-left, and-right}
+use Rattle.counts.specs.Counts.{full}
 use Rattle.queue.specs.declared.Queue.{Queue}
 use Rattle.queue.specs.Ruled.{Ruled, refuse, accept}
 use Rattle.queue.specs.Take.{Taken}
 use Rattle.queue.specs.Outcome.{Handed, valueIn, Takes}
-use Rattle.queue.specs.Counts.{full}
 use Rattle.queue.specs.Contents.{updateAt}
 use Rattle.queue.proofs.ContentsLaws.{update-set}
 use Rattle.queue.proofs.Lists.{and-both, length-updateAt}

@@ -5,7 +5,7 @@ use mathlib.Core.Path.{_≡_}
 use mathlib.Core.Bool.{true}
 use mathlib.Core.Option.{Option, none, some}
 use Rattle.number.specs.Basics.{pick, allOf}
-use Rattle.queue.specs.Counts.{full}
+use Rattle.counts.specs.Counts.{full}
 use Rattle.queue.specs.Contents.{updateAt}
 use Rattle.sequential.specs.RunsExist.{bitsFit}
 use Rattle.shift.specs.declared.ShiftRecord.{ShiftRecord}

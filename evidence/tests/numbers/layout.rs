@@ -9,7 +9,7 @@ const RECORDS: [(&str, &str, &str); 13] = [
     ("crates/table/src/lib.rt", "Table", "lsq_table"),
     ("crates/queue/src/lib.rt", "Side", "lsq_side"),
     ("crates/queue/src/lib.rt", "Frame", "lsq_frame"),
-    ("crates/queue/src/lib.rt", "Counts", "lsq_counts"),
+    ("crates/counts/src/lib.rt", "Counts", "lsq_counts"),
     ("crates/queue/src/lib.rt", "Queue", "lsq_queue"),
     ("crates/live/src/bytes.rt", "TableFound", "lsq_table_read"),
     ("crates/live/src/bytes.rt", "LiveWritten", "lsq_written"),
@@ -21,11 +21,12 @@ const RECORDS: [(&str, &str, &str); 13] = [
     ("crates/exports/src/lib.rt", "LentRecorded", "lsq_replayed"),
 ];
 
-pub const PATHS: [&str; 9] = [
+pub const PATHS: [&str; 10] = [
     "bindings/c/lsq.h",
     "bindings/rust/src/record.rs",
     "bindings/rust/src/live.rs",
     "crates/table/src/lib.rt",
+    "crates/counts/src/lib.rt",
     "crates/queue/src/lib.rt",
     "crates/live/src/bytes.rt",
     "crates/live/src/calls.rt",

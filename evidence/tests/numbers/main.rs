@@ -33,7 +33,8 @@ fn whole() -> Vec<String> {
 /// The crates' sources, of which every constant must be.
 fn crates() -> Vec<String> {
     let libraries = [
-        "table", "queue", "shift", "replay", "printed", "paged", "exports", "live", "program",
+        "counts", "table", "queue", "shift", "replay", "printed", "paged", "exports", "live",
+        "program",
     ];
     let folders = libraries.map(|name| format!("crates/{name}/src"));
     folders

@@ -8,11 +8,11 @@ use lib.ListN.{length, take, getD, getElem?}
 use borrow.Author.Tests.{ltb-true}
 use Rattle.number.specs.Basics.{allOf}
 use Rattle.table.specs.Group.{GroupPairs}
+use Rattle.counts.specs.declared.Counts.{Counts}
 use Rattle.queue.specs.Ruled.{accept, isSome}
 use Rattle.queue.specs.Contents.{Load, Store, Contents, loadPlace}
 use Rattle.queue.specs.Sound.{addressRight}
 use Rattle.queue.specs.Serve.{Served, fromMemory, hasAddress, source, loadWithValue, serve}
-use Rattle.queue.specs.declared.Counts.{Counts}
 use Rattle.number.proofs.Both.{and-left}
 use Rattle.queue.proofs.Lists.{is-none, and-both, or-right, implied, all-left, all-middle}
 use Rattle.queue.proofs.SourceLaws.{wordFrom, loaded-word, source-alike, source-written}

@@ -1,6 +1,6 @@
 use native.Mathlib.Omega.{arith}
 use lib.ListN.{length-append}
-use Rattle.queue.specs.Counts.{share}
+use Rattle.counts.specs.Counts.{share}
 use Rattle.printed.specs.Internal.{item}
 use Rattle.number.proofs.PutLaws.{puts-as, puts-length, both, both-end, both-long}
 use Rattle.printed.proofs.LineLaws.{item-few, loadsSpace, forwardedSpace, shareSpace, counts-line}

@@ -45,17 +45,17 @@ use denote.Triple.Table.{entered, cited}
 use denote.Triple.Walked.{says, Stays, stay-none, stay-none-slice, stay-ref, walkOf, goes-none, goes-none-slice, goes-ref, Walks, ends-at, walked, walk-meets}
 use denote.Exit.{yes}
 use denote.Triple.Clauses.{ensured, lasts}
+use Rattle.counts.specs.declared.Counts.{Counts}
+use Rattle.counts.proofs.Counts as N
+use Rattle.counts.proofs.Counts.Laws as N′
 use Rattle.queue.proofs.Leave.{leaves}
 use Rattle.queue.specs.Contents.{contentsOf}
 use Rattle.queue.specs.Serve as rule
 use Rattle.queue.specs.Outcome.{Serves, withoutCounts}
 use Rattle.queue.specs.declared.Queue.{Queue}
-use Rattle.queue.specs.declared.Counts.{Counts}
 use Rattle.queue.specs.declared.Counted.{Counted}
 use Rattle.queue.proofs.Queue as Q
 use Rattle.queue.proofs.Queue.Laws as Q′
-use Rattle.queue.proofs.Counts as N
-use Rattle.queue.proofs.Counts.Laws as N′
 use Rattle.queue.proofs.Counted as K
 use Rattle.queue.proofs.Counted.Laws as K′
 use Rattle.queue.proofs.Outcome as O

@@ -2,7 +2,7 @@ use native.Mathlib.Omega.{arith}
 use mathlib.Core.Path.{_≡_, refl, ap, _∙_}
 use lib.ListN.{getD}
 use borrow.Author.Needs.{needs}
-use Rattle.queue.specs.declared.Counts.{Counts}
+use Rattle.counts.specs.declared.Counts.{Counts}
 use Rattle.queue.specs.declared.Value.the-variants as Value
 use Rattle.queue.specs.declared.Entry.{Entry}
 use Rattle.queue.specs.Entry.{entryOf, numberOf, Small}

@@ -1,7 +1,13 @@
-// The counts: loads served, and loads forwarded.
+// The counts that a serve moves, loads served and loads forwarded, and the share of the one in the other.
 ghost use mathlib.Core.Path.{_≡_};
-ghost use Rattle.queue.specs.Counts.{counted, share};
-use crate::Counts;
+ghost use Rattle.counts.specs.Counts.{counted, share};
+
+// Loads served, and loads forwarded.
+#[repr(C)]
+pub struct Counts {
+    pub loads: u32,
+    pub forwarded: u32,
+}
 
 // One more load is served. "When either stands at 4294967295 both stop."
 pub fn counted(counts: Counts, forwarded: bool) -> Counts

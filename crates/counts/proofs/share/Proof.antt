@@ -1,7 +1,7 @@
 use borrow.Author.Tests.{eq-eqb, ne-eqb}
 use borrow.Author.Needs.{needs}
-use Rattle.queue.proofs.counting.share.Statement.{statement}
-use Rattle.queue.proofs.counting.share.Tie as tie
+use Rattle.counts.proofs.share.Statement.{statement}
+use Rattle.counts.proofs.share.Tie as tie
 
 returns : tie.Need-returns
 returns c = rw (eq-eqb _ 0 (c .if1 .taken))

@@ -1,0 +1,2 @@
+-- What the counts mean, as document 01 has them.
+pub mod Counts

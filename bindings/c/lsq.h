@@ -145,8 +145,8 @@ lsq_replayed lsq_replay_recorded(const uint8_t *table, size_t table_len,
                                  uint32_t *values, size_t values_len,
                                  lsq_shift_record kept);
 
-/* Thousandths of the loads that were forwarded, to the nearest, half going up;
- * 0 for no loads. */
+/* Thousandths of the loads that were forwarded, to the nearest, an exact half
+ * to the even neighbour; 0 for no loads. */
 uint64_t lsq_share(uint32_t loads, uint32_t forwarded);
 
 /* Writes the text that `play` prints for these two files at the front of out

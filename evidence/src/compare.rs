@@ -52,7 +52,7 @@ impl<'a, S: Subject> Comparer<'a, S> {
         self.damaged(case, tally)?;
         let played = self.replay(case, tally)?;
         self.replay_recorded(case, tally)?;
-        self.shares(case, &played)?;
+        self.shares(case, &played, tally)?;
         self.text(case, tally)
     }
 
@@ -129,18 +129,28 @@ impl<'a, S: Subject> Comparer<'a, S> {
         same_record("lsq_replay_recorded", &kept, &found.kept)
     }
 
-    fn shares(&self, case: &Case, played: &Buffers) -> Result<(), Difference> {
+    /// Compares the share of what the replay counted, of few and of many loads,
+    /// of an exact half, and of the counts next to that.
+    fn shares(&self, case: &Case, played: &Buffers, tally: &mut Tally) -> Result<(), Difference> {
         let mut rng = Rng::new(case.seed);
         let counts = played.counts.run();
         let ended = counts.iter().zip(counts.iter().skip(1)).next();
         let (loads, forwarded) = ended.unwrap_or((&0, &0));
-        self.share(*loads, *forwarded)?;
-        self.share(rng.between(0, 40), rng.between(0, 40))?;
-        self.share(rng.word(), rng.word())
+        self.share(*loads, *forwarded, tally)?;
+        self.share(rng.between(0, 40), rng.between(0, 40), tally)?;
+        self.share(rng.word(), rng.word(), tally)?;
+        let (loads, forwarded) = exact_half(&mut rng);
+        self.share(loads, forwarded, tally)?;
+        self.share(loads - 1, forwarded, tally)?;
+        self.share(loads.saturating_add(1), forwarded, tally)?;
+        self.share(loads, forwarded - 1, tally)?;
+        self.share(loads, forwarded.saturating_add(1), tally)
     }
 
-    fn share(&self, loads: u32, forwarded: u32) -> Result<(), Difference> {
-        let expected = Counts { loads, forwarded }.share();
+    fn share(&self, loads: u32, forwarded: u32, tally: &mut Tally) -> Result<(), Difference> {
+        let counts = Counts { loads, forwarded };
+        let expected = counts.share();
+        tally.shared(&counts, expected);
         let found = self.subject.share(loads, forwarded);
         same(
             &format!("lsq_share of {loads} and {forwarded}"),
@@ -170,6 +180,18 @@ impl<'a, S: Subject> Comparer<'a, S> {
         same("lsq_text into a short buffer", 0, found)?;
         untouched("lsq_text's short buffer", &self.short_out)
     }
+}
+
+/// Loads and forwarded whose share lies halfway between two numbers: in
+/// thousandths 1 in 16, 80, 400 or 2,000 is 62.5, 12.5, 2.5 or 0.5, and an odd
+/// number of these ends in a half too.
+fn exact_half(rng: &mut Rng) -> (u32, u32) {
+    let unit = rng.pick(&[16, 80, 400, 2_000]);
+    let most = rng.pick(&[1, 40, u32::MAX / unit]);
+    let times = rng.between(1, most);
+    let fits = (u32::MAX / times - 1) / 2;
+    let most = rng.pick(&[unit / 2 - 1, fits]).min(fits);
+    (unit * times, (2 * rng.between(0, most) + 1) * times)
 }
 
 /// Compares what the Rust wrapper gives, on copies of the buffers.

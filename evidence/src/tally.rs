@@ -8,7 +8,7 @@ use lsq_ref::queue::MAX_DEPTH;
 use lsq_ref::replay::{event_count, trace_fault};
 use lsq_ref::shift::PORTS;
 use lsq_ref::table::Group;
-use lsq_ref::{Queue, Table};
+use lsq_ref::{Counts, Queue, Table};
 
 use crate::buffers::Buffers;
 use crate::cases::Case;
@@ -77,6 +77,9 @@ pub(crate) const EMPTY_GROUP: &str = "empty groups activated";
 pub(crate) const EMPTY_WHEN_FULL: &str = "empty groups activated with a side full";
 const FORWARDED: &str = "loads that were counted as forwarded";
 const FROM_MEMORY: &str = "loads that were counted and came from memory";
+const HALF_DOWN: &str = "shares of an exact half that goes down";
+const HALF_UP: &str = "shares of an exact half that goes up";
+const HALF_WIDE: &str = "shares of an exact half beyond 32 bits";
 const TEXT_PLAYED: &str = "texts of a played trace";
 const TEXT_SHORT: &str = "text buffers one byte short";
 const RECORD_KEPT: &str = "refused replays that hand back the record";
@@ -84,7 +87,7 @@ const RECORDED: &str = "replays that changed a record";
 const RECORDED_31: &str = "replays that took at port 31";
 const TAKES_STOPPED: &str = "replays whose takes of a port stop at 4294967295";
 
-const STATES: [&str; 24] = [
+const STATES: [&str; 27] = [
     LONG,
     HUGE,
     EMPTY,
@@ -103,6 +106,9 @@ const STATES: [&str; 24] = [
     EMPTY_WHEN_FULL,
     FORWARDED,
     FROM_MEMORY,
+    HALF_DOWN,
+    HALF_UP,
+    HALF_WIDE,
     TEXT_PLAYED,
     TEXT_SHORT,
     RECORD_KEPT,
@@ -173,6 +179,15 @@ pub fn activates_empty(queue: &Queue, event: &Event) -> (bool, bool) {
     let full = queue.loads.entries.len() == queue.load_depth as usize
         || queue.stores.entries.len() == queue.store_depth as usize;
     (empty, empty && full)
+}
+
+/// Whether a share is rounded down from an exact half, and whether up from one.
+#[must_use]
+pub fn from_half(counts: &Counts, share: u64) -> (bool, bool) {
+    let loads = u64::from(counts.loads);
+    let (exact, rounded) = (2_000 * u64::from(counts.forwarded), 2 * share * loads);
+    let half = loads > 0 && exact.abs_diff(rounded) == loads;
+    (half && rounded < exact, half && rounded > exact)
 }
 
 /// Counting.
@@ -270,6 +285,17 @@ impl Tally {
             (takes.iter().any(|&more| more > 0), RECORDED),
             (takes.last().is_some_and(|&more| more > 0), RECORDED_31),
             (stopped, TAKES_STOPPED),
+        ]);
+    }
+
+    /// Counts a share, if it is rounded from an exact half.
+    pub fn shared(&mut self, counts: &Counts, share: u64) {
+        let (down, up) = from_half(counts, share);
+        let wide = share > u64::from(u32::MAX);
+        self.reach(&[
+            (down, HALF_DOWN),
+            (up, HALF_UP),
+            ((down || up) && wide, HALF_WIDE),
         ]);
     }
 

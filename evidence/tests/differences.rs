@@ -7,7 +7,7 @@ use evidence::cases::Case;
 use evidence::compare::{Comparer, Difference};
 use evidence::shift::{held_record, library_record};
 use evidence::subject::Subject;
-use evidence::tally::Tally;
+use evidence::tally::{from_half, Tally};
 use lsq::record::{Replayed, ShiftRecord};
 use lsq::TEXT_BYTES;
 use lsq_ref::play::play;
@@ -43,6 +43,8 @@ enum Fault {
     RecordFromZero,
     RecordWhenRefused,
     Share,
+    ShareHalfUp,
+    ShareHalfDown,
     TextLength,
     TextLastByte,
     TextBehind,
@@ -51,7 +53,7 @@ enum Fault {
 
 use Fault::*;
 
-const FAULTS: [Fault; 28] = [
+const FAULTS: [Fault; 30] = [
     WrongTable,
     EmptyGroup,
     WrongTrace,
@@ -76,6 +78,8 @@ const FAULTS: [Fault; 28] = [
     RecordFromZero,
     RecordWhenRefused,
     Share,
+    ShareHalfUp,
+    ShareHalfDown,
     TextLength,
     TextLastByte,
     TextBehind,
@@ -258,8 +262,13 @@ impl Subject for Broken {
     }
 
     fn share(&self, loads: u32, forwarded: u32) -> u64 {
-        let share = Counts { loads, forwarded }.share();
-        share + u64::from(self.does(Share, loads == 16))
+        let counts = Counts { loads, forwarded };
+        let share = counts.share();
+        let (down, up) = from_half(&counts, share);
+        if self.does(ShareHalfUp, down) || self.does(Share, loads == 16) {
+            return share + 1;
+        }
+        share - u64::from(self.does(ShareHalfDown, up))
     }
 
     fn text(&self, table: &[u8], trace: &[u8], out: &mut [u8]) -> u64 {

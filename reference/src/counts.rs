@@ -1,5 +1,7 @@
 //! Loads served and loads forwarded.
 
+use std::cmp::Ordering;
+
 /// "The counts record is lent to each serve and updated there: loads served,
 /// and loads forwarded." It may hold anything, forwarded above loads too.
 #[derive(Clone, Copy, Debug, Default, PartialEq, Eq)]
@@ -20,14 +22,22 @@ impl Counts {
         self.forwarded += u32::from(forwarded);
     }
 
-    /// "The share is thousandths of loads that were forwarded, to the nearest,
-    /// half going up; it is 0 for no loads." At most 4294967295000.
+    /// "The share is thousandths of loads that were forwarded, to the nearest";
+    /// "it is 0 for no loads". S-3 "rounds an exact half to the even neighbour",
+    /// where half went up before. At most 4294967295000.
     #[must_use]
     pub fn share(&self) -> u64 {
         if self.loads == 0 {
             return 0;
         }
         let loads = u64::from(self.loads);
-        (2000 * u64::from(self.forwarded) + loads) / (2 * loads)
+        let thousandths = 1000 * u64::from(self.forwarded);
+        let (whole, rest) = (thousandths / loads, thousandths % loads);
+        match (2 * rest).cmp(&loads) {
+            Ordering::Less => whole,
+            Ordering::Greater => whole + 1,
+            Ordering::Equal if whole % 2 == 0 => whole,
+            Ordering::Equal => whole + 1,
+        }
     }
 }

@@ -389,19 +389,62 @@ fn counts_stop_together() {
 }
 
 #[test]
-fn share_goes_to_the_nearest_half_up() {
+fn share_goes_to_the_nearest_half_to_even() {
     let cases = [
+        // No loads.
         (0, 0, 0),
         (0, 5, 0),
+        (0, MAX, 0),
+        // No half.
+        (1, 0, 0),
         (1, 1, 1000),
         (3, 1, 333),
         (3, 2, 667),
-        (2000, 1, 1),
-        (2001, 1, 0),
-        (1999, 1, 1),
         (MAX, MAX, 1000),
         (MAX, 1, 0),
+        // An exact half.
+        (16, 1, 62),
+        (16, 3, 188),
+        (16, 5, 312),
+        (16, 7, 438),
+        (2000, 1, 0),
+        (2000, 3, 2),
+        (2000, 5, 2),
+        (2000, 1999, 1000),
+        // Next to a half of few loads.
+        (2001, 1, 0),
+        (1999, 1, 1),
+        (2001, 3, 1),
+        (1999, 3, 2),
+        // 1 in 16 and 3 in 16 of many loads, and next to them.
+        (4_294_967_280, 268_435_454, 62),
+        (4_294_967_280, 268_435_455, 62),
+        (4_294_967_280, 268_435_456, 63),
+        (4_294_967_281, 268_435_455, 62),
+        (4_294_967_279, 268_435_455, 63),
+        (4_294_967_280, 805_306_364, 187),
+        (4_294_967_280, 805_306_365, 188),
+        (4_294_967_280, 805_306_366, 188),
+        (4_294_967_281, 805_306_365, 187),
+        (4_294_967_279, 805_306_365, 188),
+        // As near to a half as an odd number of loads allows: 905 and a rest of
+        // 2147483645, 94 and a rest of 2147483646.
+        (4_294_967_291, 3_889_092_882, 905),
+        (4_294_967_291, 405_874_409, 95),
+        // Forwarded above loads: no half, an exact half, next to one.
+        (3, 7, 2333),
+        (7, 10, 1429),
+        (16, 17, 1062),
+        (16, 19, 1188),
+        (2000, 2001, 1000),
+        (2000, 2003, 1002),
+        (1999, 2000, 1001),
+        (2001, 2002, 1000),
+        // Above 32 bits: no half, then an exact one.
         (1, MAX, 4_294_967_295_000),
+        (2, MAX, 2_147_483_647_500),
+        (16, MAX, 268_435_455_938),
+        (16, MAX - 2, 268_435_455_812),
     ];
     for (loads, forwarded, share) in cases {
         assert_eq!(
@@ -409,5 +452,22 @@ fn share_goes_to_the_nearest_half_up() {
             share,
             "{forwarded} in {loads}"
         );
+    }
+}
+
+/// A share is no further than half a thousandth from the true one, and even
+/// where it is as far as that. 1 in 2,000 is half a thousandth.
+#[test]
+fn share_is_the_nearest_and_even_at_a_half() {
+    for loads in (1..=400).chain([2_000]) {
+        for forwarded in 0..=2 * loads {
+            let share = counts(loads, forwarded).share();
+            let off = (share * u64::from(loads)).abs_diff(1000 * u64::from(forwarded));
+            let case = format!("{forwarded} in {loads}: {share}");
+            assert!(2 * off <= u64::from(loads), "{case}");
+            if 2 * off == u64::from(loads) {
+                assert_eq!(share % 2, 0, "{case}");
+            }
+        }
     }
 }

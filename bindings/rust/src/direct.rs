@@ -100,7 +100,8 @@ pub fn replay_recorded(table: &[u8], trace: &[u8], lent: Lent, kept: ShiftRecord
     }
 }
 
-/// Thousandths of the loads that were forwarded; 0 for no loads.
+/// Thousandths of the loads that were forwarded, to the nearest, an exact half
+/// to the even neighbour; 0 for no loads.
 #[must_use]
 pub fn share(loads: u32, forwarded: u32) -> u64 {
     unsafe { ffi::lsq_share(loads, forwarded) }

@@ -1,2 +1,3 @@
--- What the counts mean, as document 01 has them.
+-- What the counts and their share mean: document 01, and S-3 of document 02.
 pub mod Counts
+pub mod Shares

@@ -1,4 +1,4 @@
-// The counts that a serve moves, loads served and loads forwarded, and the share of the one in the other.
+// The counts that a serve moves, loads served and loads forwarded, and the share of loads that were forwarded.
 ghost use mathlib.Core.Path.{_≡_};
 ghost use Rattle.counts.specs.Counts.{counted, share};
 
@@ -31,7 +31,7 @@ pub fn counted(counts: Counts, forwarded: bool) -> Counts
     }
 }
 
-// Thousandths of the loads that were forwarded, to the nearest, half going up; 0 for no loads.
+// Thousandths of the loads that were forwarded, to the nearest, an exact half to the even neighbour; 0 for no loads.
 pub fn share(counts: Counts) -> u64
     ensures { λ r. ⌜ r ≡ share counts ⌝ }
 {
@@ -39,6 +39,16 @@ pub fn share(counts: Counts) -> u64
         return 0;
     }
     let loads = counts.loads as u64;
-    let forwarded = counts.forwarded as u64;
-    (2000 * forwarded + loads) / (2 * loads)
+    let thousandths = 1000 * (counts.forwarded as u64);
+    let whole = thousandths / loads;
+    // twice the rest, to compare it with half of the loads
+    let twice = 2 * (thousandths % loads);
+    if twice < loads {
+        return whole;
+    }
+    if loads < twice {
+        return whole + 1;
+    }
+    // an exact half: the even neighbour
+    whole + whole % 2
 }

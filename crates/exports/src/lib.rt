@@ -167,7 +167,7 @@ pub extern "C" fn lsq_text(table: &[u8], trace: &[u8], out: &mut [u8]) -> u64
     }
 }
 
-// Thousandths of the loads that were forwarded, to the nearest, half going up; 0 for no loads.
+// Thousandths of the loads that were forwarded, to the nearest, an exact half to the even neighbour; 0 for no loads.
 #[no_mangle]
 pub extern "C" fn lsq_share(loads: u32, forwarded: u32) -> u64
     ensures { λ r. ⌜ r ≡ share (record { loads = loads; forwarded = forwarded }) ⌝ }

@@ -1,4 +1,5 @@
--- K1 to K10 of document 01: each case is its number, what the definitions give, and what the paper says.
+-- K1 to K10 of document 01, K10 as S-3 of document 02 has it: each case is its number, what the definitions give, and what the papers
+-- say.
 use Prim.Native.Nat.{ℕ}
 use mathlib.Core.Path.{_≡_}
 use mathlib.Core.List.{List, [], _∷_, _++_, map}
@@ -111,8 +112,9 @@ cases =
     -- K9: in K1 address 4 gets 23
     ∷ case 9 (text k1Table (k1Header ++ k1Two ++ 0x01 ∷ 0x00 ∷ 0x04 ∷ [])) k9Text
     ∷ case 9 (text k1Table (k1Header ++ k1Two ++ 0x02 ∷ 0x00 ∷ 0x04 ∷ [])) k9Text
-    -- K10: share of 1 in 16 is 63
-    ∷ case 10 (share (record { loads = 16; forwarded = 1 }) ∷ []) (63 ∷ [])
+    -- K10, as S-3 has it: share of 1 in 16 is 62; that of 3 in 16 stays 188
+    ∷ case 10 (share (record { loads = 16; forwarded = 1 }) ∷ []) (62 ∷ [])
+    ∷ case 10 (share (record { loads = 16; forwarded = 3 }) ∷ []) (188 ∷ [])
     ∷ []
 
 abbrev pub caseGiven : Case → List ℕ

@@ -1,0 +1,2 @@
+-- what a share is
+pub mod Shares

@@ -148,7 +148,8 @@ module _ {M : Type 1} (𝓤 : URA M) (H : Heap 𝓤) (A : Atoms 𝓤) (W : Given
       owned ! N.the-row (Is N.the-row) (LL.makes N.the-type N′.the-plain 𝓤 H A) c _ c-is $ fjoin ! $ move ! (1 ∷ 0 ∷ []) $ fjoin ! $
       owned ! Q.the-row (Is Q.the-row) (LL.makes Q.the-type Q′.the-plain 𝓤 H A) d _ d-is $ fjoin ! $ move ! (1 ∷ 0 ∷ []) $ join ! $ frame ! $ done !
 
-  said : (k : Counted) → ent 𝓤 (ensured 𝓤 H A inner.ended (inner.clauses 𝓤 H A at-mem run) (κ, tt) (d, (s, (c, (n, tt)))) tt k) (fact 𝓤 (Said k × Fields k))
+  said : (k : Counted)
+      → ent 𝓤 (ensured 𝓤 H A inner.ended (inner.clauses 𝓤 H A at-mem run) (κ, tt) (d, (s, (c, (n, tt)))) tt k) (fact 𝓤 (Said k × Fields k))
   said k = via 𝓤 _ (exE 𝓤 _ (λ ws. snd∗ 𝓤 (sem 𝓤 H A (lasts inner.ended (κ, tt) (d, (s, (c, (n, tt)))) ws)) (fact 𝓤 (Said k))))
       (fact-mono 𝓤 (Said k) (Said k × Fields k) (λ e. (e, fields-of k)))
 
@@ -180,9 +181,11 @@ module _ {M : Type 1} (𝓤 : URA M) (H : Heap 𝓤) (A : Atoms 𝓤) (W : Given
       body : ((k : Counted) (u : Val) → Is K.the-row k (u ∷ []) → T (hasTy TK u) × WT u)
           → ((k : Counted) (u : Val) → Is O.the-row (withoutCounts k) (u ∷ []) → T (hasTy TO u) × WT u)
           → Sq W
-          (‵ (froom TK l₆ 0) ∷ ‵ (fdies TK l₆) ∷ ‵ (froom N′.mir l₅ 0) ∷ ‵ (fdies N′.mir l₅) ∷ ‵ (fat fullShare (tyInt w32) l₄ 0 (vint w32 n)) ∷ ‵
+          (‵ (froom TK l₆ 0) ∷ ‵ (fdies TK l₆) ∷ ‵ (froom N′.mir l₅ 0) ∷ ‵ (fdies N′.mir l₅)
+          ∷ ‵ (fat fullShare (tyInt w32) l₄ 0 (vint w32 n)) ∷ ‵
           (fdies (tyInt w32) l₄)
-          ∷ ‵ (fat fullShare TP l₃ 0 (vptr b o)) ∷ ‵ (fdies TP l₃) ∷ ‵ (fat fullShare TS l₂ 0 v) ∷ ‵ (fdies TS l₂) ∷ ‵ (fat fullShare TQ l₁ 0 dv) ∷ ‵
+          ∷ ‵ (fat fullShare TP l₃ 0 (vptr b o)) ∷ ‵ (fdies TP l₃) ∷ ‵ (fat fullShare TS l₂ 0 v)
+          ∷ ‵ (fdies TS l₂) ∷ ‵ (fat fullShare TQ l₁ 0 dv) ∷ ‵
           (fdies TQ l₁)
           ∷ ‵ (froom TO l₀ 0) ∷ ‵ (fdies TO l₀) ∷ (‵ (flft κ q) ⊛ ‵ (flft κ′ q′) ⊛ ‵ ftrue)
           ∷ ‵ (owns (Q.the-row ∷ ShrSlice (named 0) κ u32 ∷ MutRef (named 1) κ′ N.the-row ∷ u32 ∷ []) x at) ∷ [])
@@ -209,7 +212,8 @@ module _ {M : Type 1} (𝓤 : URA M) (H : Heap 𝓤) (A : Atoms 𝓤) (W : Given
           use1 W (later (some (λ (k : Counted). ((‵ (flft κ q) ⊛ ‵ ftrue) ⊛ ‵ (K.the-row .own k (u ∷ []))) ⊛ raw
           (ensured 𝓤 H A inner.ended (inner.clauses 𝓤 H A at-mem run) (κ, tt) (d, (s, (c, (n, tt)))) tt k)))) (id⊢ 𝓤 _) $ await ! tt
           $ pick ! (λ k.
-          split ! $ move ! (1 ∷ []) $ use1 W (raw (fact 𝓤 (Said k × Fields k))) (said k) $ heard ! (Said k × Fields k) (λ e. split ! $ move ! (1 ∷ []) $
+          split ! $ move ! (1 ∷ []) $ use1 W (raw (fact 𝓤 (Said k × Fields k))) (said k) $
+          heard ! (Said k × Fields k) (λ e. split ! $ move ! (1 ∷ []) $
           peeks ! K.the-row (Is K.the-row) (shows 𝓤 H A K.the-row) k (u ∷ []) (λ is. drop ! $
           -- [κ's tokens; what mem owns; the counts' cell; the open borrow; obs; auth; true; serial's; _6 at 8; …; _0 at 20; …]
           land ! (from ! (stop !)) (init ! 8 refl (K-typed k _ is))
@@ -237,7 +241,8 @@ module _ {M : Type 1} (𝓤 : URA M) (H : Heap 𝓤) (A : Atoms 𝓤) (W : Given
         qed W ((‵ (flft κ q) ⊛ ‵ (flft κ′ q′) ⊛ ‵ ftrue) ∷ ‵
         (owns (Q.the-row ∷ ShrSlice (named 0) κ u32 ∷ MutRef (named 1) κ′ N.the-row ∷ u32 ∷ []) x at) ∷ []) ∵ enter ! C Λ code.function
         (dv ∷ v ∷ vptr b o ∷ vint w32 n ∷ []) _ $
-        alloc1 ! (λ l₀. alloc1 ! (λ l₁. alloc1 ! (λ l₂. alloc1 ! (λ l₃. alloc1 ! (λ l₄. alloc1 ! (λ l₅. alloc1 ! (λ l₆. alloc0 ! $ params1 ! $
+        alloc1 ! (λ l₀. alloc1 ! (λ l₁. alloc1 ! (λ l₂. alloc1 ! (λ l₃. alloc1 ! (λ l₄. alloc1 ! (λ l₅. alloc1 ! (λ l₆.
+        alloc0 ! $ params1 ! $
         pass1 ! (init ! 10 refl (LL.lawful Q.the-type Q′.the-laws 𝓤 H A W .typed d _ d-is .0))
         $ pass1 ! (init ! 8 refl (shr-slice-lawful 𝓤 H A W (named 0) κ u32 .typed s (v ∷ []) s-is .0)) $ pass1 ! (init ! 6 refl (tt, tt))
         $ pass1 ! (init ! 4 refl (tt, record { fits = n-fits })) $ pass0 ! $
@@ -257,7 +262,8 @@ module _ {M : Type 1} (𝓤 : URA M) (H : Heap 𝓤) (A : Atoms 𝓤) (W : Given
       (walk 𝓤 H A W mem run (κs .0) (κs .1 .0) (qs .0) (qs .1 .0) bounds (a .0) (qval (a .0)) (a .1 .0) (a .1 .1 .0 .ptr .0) (a .1 .1 .0 .ptr .1)
       (a .1 .1 .0 .name) (a .1 .1 .0 .now) (a .1 .1 .1 .0) (are .0) (are .1 .1 .1 .0 .1) C Λ fm known (are .1 .0)))
 
-serve-meets : {M : Type 1} (𝓤 : URA M) (H : Heap 𝓤) (A : Atoms 𝓤) → Given 𝓤 H A → (mem : Memory → SProp 𝓤) (run : Routine → Fun 𝓤) (𝓣 : Tables 𝓤 H)
+serve-meets : {M : Type 1} (𝓤 : URA M) (H : Heap 𝓤) (A : Atoms 𝓤) → Given 𝓤 H A
+    → (mem : Memory → SProp 𝓤) (run : Routine → Fun 𝓤) (𝓣 : Tables 𝓤 H)
     → Triple 𝓤 (𝓣 .C #inner) (Inner 𝓤 H A mem run)
     → Meets 𝓤 H A serve.signature (WpFn 𝓤 H (𝓣 .C) (𝓣 .Λ) code.function) (serve.spec 𝓤 H A mem run)
 serve-meets 𝓤 H A W mem run 𝓣 known =
@@ -268,7 +274,8 @@ serve-meets 𝓤 H A W mem run 𝓣 known =
         (goes-ref 𝓤 H A W 2 1 tt (plain (λ _. N.the-row)), (goes-none 𝓤 H A W 2 (λ _. u32) yes (λ κs x f. refl), tt)),
       ),
     ) (serve.clauses 𝓤 H A mem run)
-    (WpFn 𝓤 H (𝓣 .C) (𝓣 .Λ) code.function) (WpFn-mono 𝓤 H (W .laws) 𝓣 code.function) (serve-walks 𝓤 H A W mem run (𝓣 .C) (𝓣 .Λ) (fmOf 𝓤 H (W .laws) 𝓣) known)
+    (WpFn 𝓤 H (𝓣 .C) (𝓣 .Λ) code.function) (WpFn-mono 𝓤 H (W .laws) 𝓣 code.function)
+    (serve-walks 𝓤 H A W mem run (𝓣 .C) (𝓣 .Λ) (fmOf 𝓤 H (W .laws) 𝓣) known)
 
 pub serve-spec : {M : Type 1} → stated.statement M
 unfolding code.routine tablesOf
@@ -276,4 +283,5 @@ serve-spec 𝓤 H 𝓜 𝓖 𝓡 =
     entered 𝓤 H (tripleOf 𝓤 H (𝓖 .A) serve.signature (serve.spec 𝓤 H (𝓖 .A) (𝓜 .mem) (𝓡 .run)))
     (tables 𝓤 H 𝓜 𝓡 code.env .C) (tables 𝓤 H 𝓜 𝓡 code.env .Λ) #serve code.function (code.unfolded 𝓤 H 𝓜 𝓡)
     (serve-meets 𝓤 H (𝓖 .A) (givenOf 𝓤 H 𝓜 𝓖) (𝓜 .mem) (𝓡 .run) (tablesOf 𝓤 H 𝓜 (tables 𝓤 H 𝓜 𝓡 code.env))
-    (cited 𝓤 H (Inner 𝓤 H (𝓖 .A) (𝓜 .mem) (𝓡 .run)) 𝓜 𝓡 code.env #inner inner-def.routine code.calls-queue·Queue·serve-counted (inner-thm.met 𝓤 H 𝓜 𝓖 𝓡)))
+    (cited 𝓤 H (Inner 𝓤 H (𝓖 .A) (𝓜 .mem) (𝓡 .run)) 𝓜 𝓡 code.env #inner inner-def.routine code.calls-queue·Queue·serve-counted
+    (inner-thm.met 𝓤 H 𝓜 𝓖 𝓡)))

@@ -79,14 +79,15 @@ enum lsq_answer {
     LSQ_KIND = 35,                  /* an event's kind is above 6 */
     LSQ_FILE_TOO_LONG = 36,         /* above 16,384 bytes; in the text of lsq_text alone */
     LSQ_UNSOUND = 40,               /* no right queue: see lsq_sound_in */
-    LSQ_PAGE_TOO_SHORT = 41         /* a page buffer has fewer than 1,394 bytes */
+    LSQ_PAGE_TOO_SHORT = 41,        /* a page buffer has fewer than 1,394 bytes */
+    LSQ_PADDED_NUMBER = 42          /* the last of a number's several bytes is 00 */
 };
 
-/* 0 where the bytes spell a right table, else 1 to 9. */
+/* 0 where the bytes are a right table, else 1 to 9 or 42. */
 uint32_t lsq_table_fault(const uint8_t *table, size_t table_len);
 
 /* The table's fault; else the fault of the trace's four leading numbers, then
- * of opening, then of the first faulty event (1, 2, 11 to 14, 35); else 0. */
+ * of opening, then of the first faulty event (1, 2, 11 to 14, 35, 42); else 0. */
 uint32_t lsq_trace_fault(const uint8_t *table, size_t table_len,
                          const uint8_t *trace, size_t trace_len);
 
@@ -169,8 +170,8 @@ typedef struct lsq_table {
     uint16_t loads[32], stores[32];
 } lsq_table;
 
-/* What reading a table answers: 0, or 1 to 9 and the table of no groups, which
- * is 0 in every field. */
+/* What reading a table answers: 0, or 1 to 9 or 42 and the table of no groups,
+ * which is 0 in every field. */
 typedef struct lsq_table_read {
     uint32_t answer;
     lsq_table table;
@@ -284,9 +285,9 @@ typedef struct lsq_listed {
  * leaves everything lent as it was, and gives back the sides, or the counts,
  * that it was handed. */
 
-/* Opens a queue on a table's bytes: 1 to 9 of the table, then 11 to 14. Both
- * series of serials begin at `first`. The queue holds no entry, so the two runs
- * of entries that go with the frame may hold anything. */
+/* Opens a queue on a table's bytes: 1 to 9 or 42 of the table, then 11 to 14.
+ * Both series of serials begin at `first`. The queue holds no entry, so the two
+ * runs of entries that go with the frame may hold anything. */
 lsq_opened lsq_open_in(const uint8_t *table, size_t table_len, uint32_t load_depth,
                        uint32_t store_depth, uint32_t first, uint32_t memory_length);
 

@@ -162,7 +162,8 @@ fn damaged(case: &Case) -> Files {
 }
 
 /// Every pair of a table and a trace that are missing, a folder, a dead link,
-/// empty, right, as long as a file may be, one byte longer, and far longer.
+/// empty, right, padded, as long as a file may be, one byte longer, and far
+/// longer.
 fn special(seed: u64) -> Vec<Files> {
     let (table, trace) = gen::Scenario::of_length(&mut Rng::new(seed), 40).bytes();
     let none = [Found::Missing, Found::Folder, Found::DeadLink];
@@ -175,7 +176,8 @@ fn special(seed: u64) -> Vec<Files> {
     };
     let mut tables = bytes(&table, &|length| with_zeros(&table, length));
     tables.push(Found::Bytes(padded(&table)));
-    let traces = bytes(&trace, &|length| with_takes(&trace, length));
+    let mut traces = bytes(&trace, &|length| with_takes(&trace, length));
+    traces.push(Found::Bytes(padded(&trace)));
     let with_each_trace = |table: &Found| {
         let files = |trace: &Found| Files {
             table: table.clone(),
@@ -192,16 +194,16 @@ fn with_zeros(bytes: &[u8], length: usize) -> Vec<u8> {
     bytes
 }
 
-/// The table with its first number, 2, in five bytes.
-fn padded(table: &[u8]) -> Vec<u8> {
-    [&[0x82, 0x80, 0x80, 0x80, 0x00], &table[1..]].concat()
+/// The file with its first number, of one byte, in five: 42.
+fn padded(file: &[u8]) -> Vec<u8> {
+    [&[file[0] | 0x80, 0x80, 0x80, 0x80, 0x00], &file[1..]].concat()
 }
 
-/// 06 00 and 06 80 00 are takes, so a right trace stays one.
+/// 06 00 and 06 80 01 are takes, so a right trace stays one.
 fn with_takes(trace: &[u8], length: usize) -> Vec<u8> {
     let mut bytes = trace.to_vec();
     if (length - bytes.len()) % 2 == 1 {
-        bytes.extend([0x06, 0x80, 0x00]);
+        bytes.extend([0x06, 0x80, 0x01]);
     }
     while bytes.len() < length {
         bytes.extend([0x06, 0x00]);

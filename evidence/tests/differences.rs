@@ -21,6 +21,8 @@ enum Fault {
     Right,
     WrongTable,
     EmptyGroup,
+    PaddedTable,
+    PaddedTrace,
     WrongTrace,
     EventCount,
     MemoryLength,
@@ -53,9 +55,11 @@ enum Fault {
 
 use Fault::*;
 
-const FAULTS: [Fault; 30] = [
+const FAULTS: [Fault; 32] = [
     WrongTable,
     EmptyGroup,
+    PaddedTable,
+    PaddedTrace,
     WrongTrace,
     EventCount,
     MemoryLength,
@@ -171,11 +175,17 @@ impl Subject for Broken {
         if self.does(EmptyGroup, empty) {
             return 5;
         }
+        if self.does(PaddedTable, fault == 42) {
+            return 0;
+        }
         fault + u32::from(self.does(WrongTable, fault == 7))
     }
 
     fn trace_fault(&self, table: &[u8], trace: &[u8]) -> u32 {
         let fault = u32::from(replay::trace_fault(table, trace));
+        if self.does(PaddedTrace, fault == 42 && replay::table_fault(table) == 0) {
+            return 0;
+        }
         fault + u32::from(self.does(WrongTrace, fault == 12))
     }
 

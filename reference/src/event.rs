@@ -57,7 +57,8 @@ pub enum Step {
     End,
     /// An event, and the place behind it.
     Event(Event, usize),
-    /// "1 or 2 for the kind, 35 kind above 6, 1 or 2 for the rest."
+    /// "1 or 2 for the kind, 35 kind above 6, 1 or 2 for the rest." 42 is
+    /// "checked after 1 and 2 of that number", so before 35 and the next number.
     Refused(u8),
 }
 
@@ -137,7 +138,7 @@ pub fn write_event(event: &Event, buffer: &mut [u8]) -> Result<usize, u8> {
 /// Reads the four leading numbers of a trace and gives the place behind them.
 ///
 /// # Errors
-/// 1 or 2 for the first number that cannot be read.
+/// 1, 2 or 42 for the first number that cannot be read.
 pub fn read_header(bytes: &[u8]) -> Result<(Header, usize), u8> {
     let mut reader = NumberReader::new(bytes, 0);
     let header = Header {

@@ -2,11 +2,11 @@
 //! towards conflicts, full queues and the turn of the serials, damaged bytes,
 //! queue records that no opening leads to, calls on them, and shift records.
 
-use std::array;
+use std::{array, mem};
 
 use crate::counts::Counts;
 use crate::event::{write_event, write_header, Event, Header};
-use crate::number::{read_number, write_number};
+use crate::number::byte_count;
 use crate::play::MAX_FILE;
 use crate::queue::{LoadEntry, Queue, Side, StoreEntry, TrustingQueue, MAX_DEPTH, MAX_MEMORY};
 use crate::rng::Rng;
@@ -17,8 +17,9 @@ use crate::table::{Access, Group, Pair, Table, MAX_ACCESSES, MAX_GROUPS, MAX_POR
 const NUMBER_BYTES: usize = 5;
 const TABLE_BYTES: usize = 512;
 
-/// `table.bin` and `trace.bin` for this seed: about half the pairs are whole,
-/// the others have a damaged table, trace or header.
+/// `table.bin` and `trace.bin` for this seed: more than half the pairs are whole,
+/// the others have a damaged table, trace or header; in one of ten the table or
+/// the trace is right but for padding.
 #[must_use]
 pub fn pair(seed: u64) -> (Vec<u8>, Vec<u8>) {
     let mut rng = Rng::new(seed);
@@ -32,8 +33,8 @@ pub fn pair(seed: u64) -> (Vec<u8>, Vec<u8>) {
         3..=5 => damage(&mut rng, &mut trace),
         6 => stretch(&mut rng, &mut trace),
         7 if rng.chance(1, 8) => table.resize(MAX_FILE + rng.below(2), 0),
-        8..=9 => pad_several(&mut rng, &mut table),
-        10..=11 => pad_several(&mut rng, &mut trace),
+        8 => pad_several(&mut rng, &mut table),
+        9 => pad_several(&mut rng, &mut trace),
         _ => {}
     }
     (table, trace)
@@ -622,84 +623,134 @@ fn damage_once(rng: &mut Rng, bytes: &mut Vec<u8>) {
         3 => bytes.truncate(at),
         4 => bytes.insert(at, rng.pick(&[0x00, 0x01, 0x7F, 0x80, 0xFF])),
         5 => bytes.extend([rng.word() as u8, 0x00].iter().take(rng.below(3))),
-        6 => pad_number(rng, bytes, NUMBER_BYTES + 2),
-        7..=8 => widen_number(rng, bytes),
-        _ => change_number(rng, bytes),
+        6 => respell(rng, bytes, any_padded),
+        7..=8 => respell(rng, bytes, widened),
+        _ => respell(rng, bytes, |rng, number| fewest(other_number(rng, number))),
     }
 }
 
-/// The places at which numbers start, as long as they can be read.
+/// The places at which numbers start and end, by bit 7 alone: those that can't
+/// be read and those behind them are found too, so that it shows which is told.
 fn number_places(bytes: &[u8]) -> Vec<(usize, usize)> {
-    let mut places = Vec::new();
-    let mut at = 0;
-    while let Ok((_, next)) = read_number(bytes, at) {
-        places.push((at, next));
-        at = next;
-    }
-    places
+    let last = |at: &usize| bytes[*at] & 0x80 == 0;
+    let ends = (0..bytes.len()).filter(last).map(|at| at + 1);
+    let mut start = 0;
+    ends.map(|end| (mem::replace(&mut start, end), end))
+        .collect()
 }
 
-/// Replaces one number by a near or an extreme one.
-fn change_number(rng: &mut Rng, bytes: &mut Vec<u8>) {
+/// The number that these bytes stand for, padded or not.
+fn spelled(bytes: &[u8]) -> u32 {
+    let groups = bytes.iter().take(NUMBER_BYTES).enumerate();
+    groups.fold(0, |number, (i, byte)| {
+        number | u32::from(byte & 0x7F) << (7 * i)
+    })
+}
+
+/// Puts other bytes in place of one number.
+fn respell(rng: &mut Rng, bytes: &mut Vec<u8>, spelling: impl FnOnce(&mut Rng, u32) -> Vec<u8>) {
     let places = number_places(bytes);
     if places.is_empty() {
         return;
     }
     let (start, end) = rng.pick(&places);
-    let number = read_number(bytes, start).map_or(0, |(number, _)| number);
+    let other = spelling(rng, spelled(&bytes[start..end]));
+    bytes.splice(start..end, other);
+}
+
+/// A near or an extreme number.
+fn other_number(rng: &mut Rng, number: u32) -> u32 {
     let near = [number.wrapping_add(1), number.wrapping_sub(1)];
     let far = rng.pick(&[0, 1, 2, 6, 7, 16, 17, 31, 32, 64, 65, u32::MAX]);
-    let other = rng.pick(&[near[0], near[1], far]);
-    let mut buffer = [0; NUMBER_BYTES];
-    let count = write_number(other, &mut buffer).unwrap_or(0);
-    bytes.splice(start..end, buffer[..count].iter().copied());
+    rng.pick(&[near[0], near[1], far])
 }
 
-/// Spells one number with five bytes, the fifth at an edge: 0F is the last one
-/// that can be read.
-fn widen_number(rng: &mut Rng, bytes: &mut Vec<u8>) {
-    let places = number_places(bytes);
-    if places.is_empty() {
-        return;
-    }
-    let (start, end) = rng.pick(&places);
-    let number = read_number(bytes, start).map_or(0, |(number, _)| number);
+/// The number in the fewest bytes.
+fn fewest(number: u32) -> Vec<u8> {
+    in_bytes(number, byte_count(number))
+}
+
+/// The number in so many bytes; those beyond the fewest pad it.
+fn in_bytes(number: u32, count: usize) -> Vec<u8> {
+    let group = |i: usize| (u64::from(number) >> (7 * i)) as u8 | 0x80;
+    let mut bytes: Vec<u8> = (0..count).map(group).collect();
+    bytes[count - 1] &= 0x7F;
+    bytes
+}
+
+/// The number in five bytes, the fifth at an edge: 0F is the last one that can
+/// be read, and 00 pads.
+fn widened(rng: &mut Rng, number: u32) -> Vec<u8> {
     let fifth = rng.pick(&[0x00, 0x01, 0x0F, 0x10, 0x1F, 0x7F, 0x80, 0x8F]);
-    let four = (0..4).map(|i| (number >> (7 * i)) as u8 | 0x80);
-    bytes.splice(start..end, four.chain([fifth]));
+    let mut bytes = in_bytes(number, NUMBER_BYTES);
+    bytes[NUMBER_BYTES - 1] = fifth;
+    bytes
 }
 
-/// Pads some numbers within the limits, which changes no meaning.
+/// The number padded to at most `most` bytes, if there is room: 42 for up to
+/// five, and 2 for more.
+fn padded(rng: &mut Rng, number: u32, most: usize) -> Vec<u8> {
+    let padding = match most - byte_count(number) {
+        0 => 0,
+        room => 1 + rng.below(room),
+    };
+    in_bytes(number, byte_count(number) + padding)
+}
+
+/// The number or another one, padded: another one may be refused by its field
+/// too, and 42 comes first.
+fn any_padded(rng: &mut Rng, number: u32) -> Vec<u8> {
+    let other = other_number(rng, number);
+    let number = rng.pick(&[number, other]);
+    let most = rng.pick(&[NUMBER_BYTES, NUMBER_BYTES, NUMBER_BYTES + 2]);
+    padded(rng, number, most)
+}
+
+/// Pads one to four numbers within five bytes, where one has fewer. What they
+/// mean stays, and the first of them gets 42. Half of them are among the first
+/// eight: else a trace of many events would seldom be refused for a leading one.
 pub fn pad_several(rng: &mut Rng, bytes: &mut Vec<u8>) {
     for _ in 0..rng.between(1, 4) {
-        pad_number(rng, bytes, NUMBER_BYTES);
+        let mut places = number_places(bytes);
+        places.retain(|(start, end)| end - start < NUMBER_BYTES);
+        if places.is_empty() {
+            return;
+        }
+        let front = places.get(..8).filter(|_| rng.chance(1, 2));
+        let (start, end) = rng.pick(front.unwrap_or(&places));
+        let padded = padded(rng, spelled(&bytes[start..end]), NUMBER_BYTES);
+        bytes.splice(start..end, padded);
     }
 }
 
-/// Pads one number to at most `most` bytes; more than five can't be read.
-fn pad_number(rng: &mut Rng, bytes: &mut Vec<u8>, most: usize) {
-    let places = number_places(bytes);
-    if places.is_empty() {
-        return;
+/// Bytes to read one number from, with another byte behind them or not. Most hold
+/// it in the fewest bytes; some are padded, cut short, or have a fifth byte at an
+/// edge.
+pub fn number_bytes(rng: &mut Rng) -> Vec<u8> {
+    let number = rng.word() >> rng.below(32);
+    let mut bytes = match rng.below(16) {
+        0 => padded(rng, number, NUMBER_BYTES),
+        1 => widened(rng, number),
+        _ => fewest(number),
+    };
+    let any = rng.word() as u8;
+    match rng.below(16) {
+        0 => bytes.truncate(rng.below(bytes.len())),
+        1..=7 => bytes.push(rng.pick(&[0x00, 0x80, any])),
+        _ => {}
     }
-    let (start, end) = rng.pick(&places);
-    let room = most.saturating_sub(end - start);
-    let padding = rng.below(room + 1);
-    for _ in 0..padding {
-        bytes[end - 1] |= 0x80;
-        bytes.insert(end, 0x80);
-    }
-    bytes[end - 1 + padding] &= 0x7F;
+    bytes
 }
 
-/// Lengthens a trace by takes to the limit of a file, or over it.
+/// Lengthens a trace by takes to the limit of a file, or over it. Each has two
+/// bytes; where the rest is odd, one is of port 128, which no table has, in three.
 pub fn stretch(rng: &mut Rng, trace: &mut Vec<u8>) {
     let length = MAX_FILE - 1 + rng.below(3);
     if trace.len() + 3 > length {
         return;
     }
     if (length - trace.len()) % 2 == 1 {
-        trace.extend([0x06, 0x80, 0x00]);
+        trace.extend([0x06, 0x80, 0x01]);
     }
     while trace.len() < length {
         trace.extend([0x06, 0x00]);

@@ -2,8 +2,8 @@
 //!
 //! It is written from the papers alone: document 01, "The group-allocated
 //! load-store queue of the tally board", and of document 02 S-1, the shift page,
-//! S-2, groups with no load and no store, and S-3, half to even in shares. Quoted
-//! sentences in the comments are theirs.
+//! S-2, groups with no load and no store, S-3, half to even in shares, and S-4,
+//! padding refused. Quoted sentences in the comments are theirs.
 //! Everything works in place and refusals are plain numbers, so that another
 //! implementation can be compared with this one answer by answer.
 //!

@@ -25,17 +25,20 @@ pub fn byte_count(number: u32) -> usize {
 
 /// Reads the number at place `at` and gives it with the place behind it.
 ///
-/// "A reader accepts padding (80 00 is 0)."
-///
 /// # Errors
 /// "1 the bytes end inside it or before it; 2 a fifth byte above 0F." A fifth
-/// byte that announces a sixth is above 0F too.
+/// byte that announces a sixth is above 0F too. Then 42 (S-4): "a number of more
+/// than one byte whose last byte is 00 is refused".
 pub fn read_number(bytes: &[u8], at: usize) -> Result<(u32, usize), u8> {
     let rest = bytes.get(at..).unwrap_or_default();
     let mut number = 0;
     for (i, &byte) in rest.iter().take(MAX_BYTES).enumerate() {
         if i == MAX_BYTES - 1 && byte > 0x0F {
             return Err(refusal::FIFTH_BYTE);
+        }
+        // Bit 7 of 00 is clear, so it is the last byte.
+        if i > 0 && byte == 0x00 {
+            return Err(refusal::PADDED_NUMBER);
         }
         number |= u32::from(byte & 0x7F) << (7 * i);
         if byte & 0x80 == 0 {
@@ -97,7 +100,7 @@ impl<'a> NumberReader<'a> {
     /// Reads the next number and steps behind it.
     ///
     /// # Errors
-    /// 1 or 2 as [`read_number`]; the place then stays.
+    /// 1, 2 or 42 as [`read_number`]; the place then stays.
     pub fn number(&mut self) -> Result<u32, u8> {
         let (number, next) = read_number(self.bytes, self.at)?;
         self.at = next;

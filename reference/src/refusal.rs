@@ -69,3 +69,5 @@ pub const FILE_TOO_LONG: u8 = 36;
 pub const UNSOUND: u8 = 40;
 /// "Page buffer under 1,394 bytes."
 pub const PAGE_TOO_SHORT: u8 = 41;
+/// "Padded number."
+pub const PADDED_NUMBER: u8 = 42;

@@ -23,7 +23,7 @@ pub struct Lent<'a> {
     pub values: &'a mut [u32],
 }
 
-/// 0 where the bytes spell a right table, else 1 to 9.
+/// 0 where the bytes spell a right table, else 1 to 9 or 42.
 #[must_use]
 pub fn table_fault(table: &[u8]) -> u8 {
     Table::read(table).err().unwrap_or(refusal::ACCEPTED)

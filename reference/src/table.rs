@@ -209,7 +209,9 @@ impl Table {
     /// # Errors
     /// "Number by number: 1 or 2 for the number; 3 fields not 2; 4 group
     /// count; after both counts of a group, 5 counts; for each pair, read
-    /// whole, 8, 6, 7; at the end 9 bytes left over."
+    /// whole, 8, 6, 7; at the end 9 bytes left over." 42 is "checked after 1
+    /// and 2 of that number", so before the check of its field. Bytes left over
+    /// are not read as numbers.
     pub fn read(bytes: &[u8]) -> Result<Self, u8> {
         let mut reader = NumberReader::new(bytes, 0);
         if reader.number()? != FIELDS_PER_ACCESS {

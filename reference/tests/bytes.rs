@@ -1,5 +1,6 @@
-//! Numbers, tables, events and headers as bytes: refusals 1 to 10 and 35, the
-//! order of checking, and what buffers keep.
+//! Numbers, tables, events and headers as bytes: refusals 1 to 10, 35
+//! and 42, the order of checking, and what buffers keep. More of 42 is in
+//! `padding.rs`.
 
 mod common;
 
@@ -34,12 +35,9 @@ fn numbers_come_back() {
 }
 
 #[test]
-fn reader_accepts_padding() {
-    assert_eq!(read_number(&[0x80, 0x00], 0), Ok((0, 2)));
-    assert_eq!(
-        read_number(&[0xFF, 0x80, 0x80, 0x80, 0x00], 0),
-        Ok((127, 5))
-    );
+fn reader_refuses_padding() {
+    assert_eq!(read_number(&[0x80, 0x00], 0), Err(42));
+    assert_eq!(read_number(&[0xFF, 0x80, 0x80, 0x80, 0x00], 0), Err(42));
 }
 
 #[test]
@@ -70,7 +68,7 @@ fn short_number_buffer_keeps_its_contents() {
 
 // Tables.
 
-const PAD_2: [u8; 5] = [0xFF, 0xFF, 0xFF, 0xFF, 0x10];
+const GETS_2: [u8; 5] = [0xFF, 0xFF, 0xFF, 0xFF, 0x10];
 
 fn read(bytes: &[u8]) -> Result<Table, u8> {
     Table::read(bytes)
@@ -88,7 +86,7 @@ fn every_cut_of_a_table_gets_1() {
 #[test]
 fn fifth_byte_gets_2_at_every_number_of_a_table() {
     for at in 0..K1_TABLE.len() {
-        let bytes = [&K1_TABLE[..at], &PAD_2].concat();
+        let bytes = [&K1_TABLE[..at], &GETS_2].concat();
         assert_eq!(read(&bytes), Err(2), "number {at}");
     }
 }
@@ -137,11 +135,11 @@ fn offset_may_equal_the_store_count() {
 }
 
 #[test]
-fn padded_table_is_read() {
+fn padded_table_is_refused() {
     let bytes = [0x82, 0x00, 0x81, 0x80, 0x00, 1, 0, 0x80, 0x00, 7];
-    let table = read(&bytes).expect("a valid table");
-    let load = Pair { offset: 0, port: 7 };
-    assert_eq!(table.groups[0].loads, [load]);
+    assert_eq!(read(&bytes), Err(42));
+    let table = read(&[2, 1, 1, 0, 0, 7]).expect("a valid table");
+    assert_eq!(table.groups[0].loads, [pair(0, 7)]);
 }
 
 #[test]
@@ -244,15 +242,15 @@ fn event_refusals() {
         read_event(&[0xFF, 0xFF, 0xFF, 0xFF, 0x0F], 0),
         Step::Refused(35)
     );
-    assert_eq!(read_event(&PAD_2, 0), Step::Refused(2));
+    assert_eq!(read_event(&GETS_2, 0), Step::Refused(2));
     assert_eq!(read_event(&[0x80], 0), Step::Refused(1));
     assert_eq!(read_event(&[1, 0], 0), Step::Refused(1));
     assert_eq!(
-        read_event(&[&[1, 0], &PAD_2[..]].concat(), 0),
+        read_event(&[&[1, 0], &GETS_2[..]].concat(), 0),
         Step::Refused(2)
     );
     assert_eq!(
-        read_event(&[&[1], &PAD_2[..]].concat(), 0),
+        read_event(&[&[1], &GETS_2[..]].concat(), 0),
         Step::Refused(2)
     );
 }
@@ -266,13 +264,14 @@ fn a_place_past_the_end_is_the_end() {
 
 #[test]
 fn reader_steps_event_by_event() {
-    let bytes = [6, 1, 0, 0x80, 0x00, 7];
+    let bytes = [6, 1, 0, 0x80, 0x01, 7];
     let mut reader = EventReader {
         bytes: &bytes,
         at: 0,
     };
     assert_eq!(reader.step(), Step::Event(Event::Take { port: 1 }, 2));
-    assert_eq!(reader.step(), Step::Event(Event::Activate { group: 0 }, 5));
+    let activate = Event::Activate { group: 128 };
+    assert_eq!(reader.step(), Step::Event(activate, 5));
     assert_eq!(reader.step(), Step::Refused(35));
     assert_eq!(reader.at, 5);
     assert_eq!(reader.rest(), Err(35));

@@ -141,7 +141,7 @@ fn tables_of_empty_groups_are_spelled_by_zeros() {
         assert_eq!(Table::read(&[&bytes[..], &[0]].concat()), Err(9));
     }
     let padded = [2, 1, 0x80, 0x00, 0x80, 0x80, 0x00];
-    assert_eq!(Table::read(&padded), Ok(table(&[empty()])));
+    assert_eq!(Table::read(&padded), Err(42));
 }
 
 #[test]

@@ -1,12 +1,12 @@
 //! The generator: equal seeds give equal bytes, whole scenarios are accepted,
-//! tables have empty groups, shift records reach every edge, and together the
-//! pairs reach every answer that `play` can print.
+//! tables have empty groups, shift records reach every edge, padding comes now
+//! and then, and together the pairs reach every answer that `play` can print.
 
 use std::collections::BTreeSet;
 
 use lsq_ref::event::{read_header, EventReader};
 use lsq_ref::gen::{self, Lean, Scenario};
-use lsq_ref::play::play;
+use lsq_ref::play::{play, MAX_FILE};
 use lsq_ref::rng::Rng;
 use lsq_ref::table::Group;
 use lsq_ref::{Queue, ShiftRecord, Table};
@@ -125,6 +125,81 @@ fn shift_records_hold_anything() {
     assert!(records.contains(&ShiftRecord::default()));
 }
 
+/// A trace that is lengthened stays right up to the limit: the bytes that make
+/// its length even or odd are not padding.
+#[test]
+fn stretched_traces_stay_right() {
+    let mut met = BTreeSet::new();
+    for seed in 0..200 {
+        let mut rng = Rng::new(seed);
+        let (table, mut trace) = Scenario::of_length(&mut rng, 40).bytes();
+        let odd = trace.len() % 2;
+        gen::stretch(&mut rng, &mut trace);
+        let (_, at) = read_header(&trace).expect("a header");
+        let bytes = &trace;
+        assert!(EventReader { bytes, at }.rest().is_ok());
+        let too_long = play(Some(&table), Some(&trace)) == "trace 36\n";
+        assert_eq!(too_long, trace.len() > MAX_FILE);
+        met.insert((odd, trace.len()));
+    }
+    let lengths = [MAX_FILE - 1, MAX_FILE, MAX_FILE + 1];
+    let each = lengths
+        .iter()
+        .flat_map(|&length| [(0, length), (1, length)]);
+    assert_eq!(met, each.collect());
+}
+
+/// Where reading a pair gets 42: in the table, a leading number or an event.
+fn padded_in(table: &[u8], trace: &[u8]) -> Option<usize> {
+    let read = match Table::read(table) {
+        Ok(table) => table,
+        Err(refusal) => return (refusal == 42).then_some(0),
+    };
+    let (header, at) = match read_header(trace) {
+        Ok(read) => read,
+        Err(refusal) => return (refusal == 42).then_some(1),
+    };
+    Queue::open(read, header).ok()?;
+    let bytes = trace;
+    let events = EventReader { bytes, at }.rest();
+    (events == Err(42)).then_some(2)
+}
+
+/// Padded pairs come in each place, and most pairs are not padded: whatever
+/// stands behind a padded number is never tried.
+#[test]
+fn pairs_are_padded_now_and_then() {
+    let mut places = [0; 3];
+    for (table, trace) in (0..4_000).map(gen::pair) {
+        if let Some(place) = padded_in(&table, &trace) {
+            places[place] += 1;
+        }
+    }
+    assert!(places.iter().all(|&count| count > 40), "{places:?}");
+    let padded: usize = places.iter().sum();
+    assert!((400..800).contains(&padded), "{padded} of 4000 padded");
+}
+
+/// Damage alone comes by padding in each place too.
+#[test]
+fn damage_pads_now_and_then() {
+    let mut places = [0; 3];
+    for seed in 0..4_000 {
+        let mut rng = Rng::new(seed);
+        let (mut table, mut trace) = Scenario::of_length(&mut rng, 8).bytes();
+        match rng.chance(1, 2) {
+            true => gen::damage(&mut rng, &mut table),
+            false => gen::damage(&mut rng, &mut trace),
+        }
+        if let Some(place) = padded_in(&table, &trace) {
+            places[place] += 1;
+        }
+    }
+    assert!(places.iter().all(|&count| count > 40), "{places:?}");
+    let padded: usize = places.iter().sum();
+    assert!(padded < 800, "{padded} of 4000 padded");
+}
+
 /// The number in a line's second field.
 fn second(line: &str) -> u8 {
     let field = line.split(' ').nth(1).expect("a second field");
@@ -150,8 +225,8 @@ fn pairs_reach_every_answer() {
             answers.extend(text.lines().filter(is_event).map(second));
         }
     }
-    assert_eq!(tables, BTreeSet::from([1, 2, 3, 4, 5, 6, 7, 8, 9, 36]));
-    assert_eq!(traces, BTreeSet::from([1, 2, 11, 12, 13, 14, 35, 36]));
+    assert_eq!(tables, BTreeSet::from([1, 2, 3, 4, 5, 6, 7, 8, 9, 36, 42]));
+    assert_eq!(traces, BTreeSet::from([1, 2, 11, 12, 13, 14, 35, 36, 42]));
     let calls = [0, 20, 21, 22, 23, 24, 25, 26, 27, 28, 29, 31, 32, 33, 34];
     assert_eq!(answers, BTreeSet::from(calls));
     assert!(played > 6_000, "only {played} pairs were played");

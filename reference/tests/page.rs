@@ -498,11 +498,12 @@ fn the_program_prints_one_line_for_a_fault() {
     assert_eq!(page_in(&folder.0), "table 36\n");
     fs::write(&table, K1_TABLE).unwrap();
     assert_eq!(page_in(&folder.0), "trace 1\n");
-    let faults: [(Vec<u8>, &str); 5] = [
+    let faults: [(Vec<u8>, &str); 6] = [
         (vec![65, 2, 0, 4], "trace 11\n"),
         (vec![2, 2, 0, 0], "trace 13\n"),
         (k1_trace(7, &[7]), "trace 35\n"), // behind a take, and nothing is played
         (k1_trace(12, &[6]), "trace 1\n"),
+        (k1_trace(7, &[6, 0x80, 0x00]), "trace 42\n"),
         (vec![0; 100_000], "trace 36\n"),
     ];
     for (bytes, line) in faults {

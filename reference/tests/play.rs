@@ -5,7 +5,7 @@ mod common;
 use common::{k1_trace, K1_TABLE, K1_TRACE};
 use lsq_ref::play::play;
 
-const PAD_2: [u8; 5] = [0xFF, 0xFF, 0xFF, 0xFF, 0x10];
+const GETS_2: [u8; 5] = [0xFF, 0xFF, 0xFF, 0xFF, 0x10];
 
 #[test]
 fn missing_and_empty_files_are_alike() {
@@ -55,9 +55,9 @@ fn faults_of_a_trace_in_order() {
         let text = play(Some(&K1_TABLE), Some(trace));
         assert_eq!(text, format!("trace {fault}\n"), "{trace:?}");
     }
-    let trace = [&[2, 2], &PAD_2[..]].concat();
+    let trace = [&[2, 2], &GETS_2[..]].concat();
     assert_eq!(play(Some(&K1_TABLE), Some(&trace)), "trace 2\n");
-    let trace = k1_trace(12, &PAD_2);
+    let trace = k1_trace(12, &GETS_2);
     assert_eq!(play(Some(&K1_TABLE), Some(&trace)), "trace 2\n");
 }
 

@@ -6,7 +6,7 @@ use std::fs;
 use std::path::Path;
 use std::process::Command;
 
-use common::{text_in, Folder, K1_TABLE, K1_TRACE};
+use common::{k1_trace, text_in, Folder, K1_TABLE, K1_TRACE};
 use lsq_ref::gen;
 use lsq_ref::play::play;
 
@@ -23,8 +23,12 @@ fn files_are_read_from_the_current_folder() {
     assert_eq!(play_in(&folder.0), "trace 1\n");
     fs::write(&trace, K1_TRACE).unwrap();
     assert_eq!(play_in(&folder.0), play(Some(&K1_TABLE), Some(&K1_TRACE)));
+    fs::write(&trace, k1_trace(12, &[0x86, 0x00, 0x00])).unwrap();
+    assert_eq!(play_in(&folder.0), "trace 42\n");
     fs::write(&trace, vec![0; 16_385]).unwrap();
     assert_eq!(play_in(&folder.0), "trace 36\n");
+    fs::write(&table, [0x80, 0x00]).unwrap();
+    assert_eq!(play_in(&folder.0), "table 42\n");
     fs::write(&table, vec![0; 100_000]).unwrap();
     assert_eq!(play_in(&folder.0), "table 36\n");
 }

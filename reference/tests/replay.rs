@@ -78,6 +78,7 @@ fn counts_of_a_trace() {
     assert_eq!(counts(&k1_trace(0, &[])), (0, 4));
     assert_eq!(counts(&K1_TRACE[..43]), (0, 0));
     assert_eq!(counts(&k1_trace(12, &[7])), (0, 0));
+    assert_eq!(counts(&k1_trace(12, &[6, 0x80, 0x00])), (0, 0));
     assert_eq!(counts(&K1_TRACE[..7]), (0, 0));
     assert_eq!(counts(&[65, 2, 0, 4]), (0, 0));
     assert_eq!(event_count(&[3], &K1_TRACE), 0);
@@ -102,6 +103,24 @@ fn faults_come_in_order() {
         35
     );
     assert_eq!(refusal(&K1_TABLE, &K1_TRACE, counts_alone), 30);
+}
+
+/// 42 is the table's or the trace's, and comes where their other faults do.
+#[test]
+fn padding_comes_in_the_order_of_faults() {
+    let table = [&[0x82, 0x00], &K1_TABLE[1..]].concat();
+    let trace = k1_trace(3, &[0x80, 0x00, 0x00]);
+    let none = Buffers::new([0; 5]);
+    let counts_alone = Buffers::new([0, 2, 0, 0, 0]);
+    assert_eq!(table_fault(&table), 42);
+    assert_eq!(trace_fault(&table, &K1_TRACE), 42);
+    assert_eq!(trace_fault(&K1_TABLE, &trace), 42);
+    assert_eq!(refusal(&table, &K1_TRACE, none.clone()), 42);
+    assert_eq!(refusal(&K1_TABLE, &trace, none.clone()), 10);
+    assert_eq!(refusal(&K1_TABLE, &trace, counts_alone.clone()), 42);
+    assert_eq!(recorded_refusal(&table, &K1_TRACE, none.clone()), 42);
+    assert_eq!(recorded_refusal(&K1_TABLE, &trace, none), 10);
+    assert_eq!(recorded_refusal(&K1_TABLE, &trace, counts_alone), 42);
 }
 
 #[test]

@@ -7,7 +7,7 @@ use crate::refusal::{accepted, Refusal};
 /// Reads a table that takes up all of `bytes`.
 ///
 /// # Errors
-/// 1 to 9.
+/// 1 to 9 or 42.
 pub fn read_table(bytes: &[u8]) -> Result<Table, Refusal> {
     let read = direct::read_table(bytes);
     accepted(read.answer)?;

@@ -13,7 +13,7 @@ use crate::Lent;
 // by value has the library's layout (the assertions of `record`). That is the
 // whole reason why the blocks below are sound.
 
-/// 0 where the bytes spell a right table, else 1 to 9.
+/// 0 where the bytes are a right table, else 1 to 9 or 42.
 #[must_use]
 pub fn table_fault(table: &[u8]) -> u32 {
     unsafe { ffi::lsq_table_fault(table.as_ptr(), table.len()) }
@@ -160,7 +160,7 @@ pub fn page(kept: ShiftRecord, out: &mut [u8]) -> Written {
     unsafe { ffi::lsq_page(kept, out.as_mut_ptr(), out.len()) }
 }
 
-/// Opens a queue on a table's bytes: 1 to 9 of the table, then 11 to 14.
+/// Opens a queue on a table's bytes: 1 to 9 or 42 of the table, then 11 to 14.
 #[must_use]
 pub fn open_in(table: &[u8], load_depth: u32, store_depth: u32, first: u32, memory_length: u32) -> Opened {
     let (bytes, length) = (table.as_ptr(), table.len());

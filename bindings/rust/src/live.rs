@@ -35,8 +35,8 @@ impl Queue {
     /// `first`; `memory_length` is the length of the memory that will be lent.
     ///
     /// # Errors
-    /// 1 to 9 of the table, then 11 load depth, 12 store depth, 13 memory
-    /// length, 14 some group is larger than a depth.
+    /// 1 to 9 or 42 of the table, then 11 load depth, 12 store depth, 13
+    /// memory length, 14 some group is larger than a depth.
     pub fn open(
         table: &[u8],
         load_depth: u32,

@@ -238,7 +238,7 @@ pub struct Written {
 #[repr(C)]
 #[derive(Clone, Copy, Debug, PartialEq, Eq)]
 pub struct TableRead {
-    /// 0, or 1 to 9.
+    /// 0, or 1 to 9 or 42.
     pub answer: u32,
     /// The table; of bytes that are refused it is 0 in every field.
     pub table: Table,

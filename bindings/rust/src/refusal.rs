@@ -62,6 +62,7 @@ refusals! {
     FILE_TOO_LONG = 36, "a file has more than 16384 bytes";
     UNSOUND = 40, "no right queue";
     PAGE_TOO_SHORT = 41, "a page buffer has fewer than 1394 bytes";
+    PADDED_NUMBER = 42, "the last of a number's several bytes is 00";
 }
 
 impl fmt::Display for Refusal {

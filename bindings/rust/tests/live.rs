@@ -157,6 +157,7 @@ fn tables_are_read_and_written() {
     wrong.stores[0].offset = 0;
     assert_eq!(write_table(&Table::new(wrong), &mut out), refused(8));
     assert_eq!(read_table(&[2, 0]), refused(4));
+    assert_eq!(read_table(&[2, 0x80, 0]), refused(42));
 }
 
 #[test]
@@ -182,5 +183,7 @@ fn refusals_can_be_read() {
     assert_eq!(Refusal::EARLIER_STORE_ADDRESS, Refusal(28));
     let words = Refusal::PAGE_TOO_SHORT.to_string();
     assert!(words.ends_with("41: a page buffer has fewer than 1394 bytes"));
-    assert_eq!(Refusal(42).meaning(), "no number of the paper's");
+    let words = Refusal::PADDED_NUMBER.to_string();
+    assert!(words.ends_with("42: the last of a number's several bytes is 00"));
+    assert_eq!(Refusal(43).meaning(), "no number of the paper's");
 }

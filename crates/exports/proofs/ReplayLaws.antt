@@ -6,27 +6,26 @@ use native.Mathlib.Omega.{arith}
 use lib.ListN.{length, set}
 use borrow.Author.Tests.{lt-leb, le-leb}
 use Rattle.number.specs.Refusal.{tooShort}
-use Rattle.number.specs.Number.{got, bad}
+use Rattle.number.specs.Reply.{Reply, refuse, accept}
 use Rattle.table.specs.Group.{GroupPairs}
 use Rattle.table.specs.TableBytes.{readTable}
 use Rattle.counts.specs.declared.Counts.{Counts}
-use Rattle.queue.specs.Ruled.{Ruled, refuse, accept}
 use Rattle.replay.specs.declared.Replayed.{Replayed}
 use Rattle.replay.specs.Replay.{Replay, Buffers, replay}
 use Rattle.replay.specs.Outcome.{Replays}
 use Rattle.exports.specs.Replay.{Lent, countsOf, countsIn, replayLent, LentAfter, lentAfter}
 
 -- what `replay` gives on what was lent
-abbrev replayOf : List GroupPairs → List ℕ → Lent → Ruled Replay
+abbrev replayOf : List GroupPairs → List ℕ → Lent → Reply Replay
 replayOf gs trace l = replay gs trace (l .memory) (countsOf (l .counts)) (l .buffers)
 
 -- ---- the order of checking
 module _ (table trace : List ℕ) (l : Lent) where
-  pub lent-table : {n : ℕ} → readTable table ≡ bad n → replayLent table trace l ≡ refuse n
+  pub lent-table : {n : ℕ} → readTable table ≡ refuse n → replayLent table trace l ≡ refuse n
   unfolding replayLent
   lent-table e = rw e
 
-  module _ {gs : List GroupPairs} (is : readTable table ≡ got gs []) where
+  module _ {gs : List GroupPairs} (is : readTable table ≡ accept gs) where
     pub lent-short : length (l .counts) < 2 → replayLent table trace l ≡ refuse tooShort
     unfolding replayLent
     lent-short h = rw (is, lt-leb _ _ h)
@@ -39,7 +38,7 @@ module _ (table trace : List ℕ) (l : Lent) where
 abbrev tell : ℕ → Lent → LentAfter
 tell n l = record { answer = n; left = l }
 
-pub answered-refused : (l : Lent) {rule : Ruled Replay} {n : ℕ} → rule ≡ refuse n → tell n l ≡ lentAfter l rule
+pub answered-refused : (l : Lent) {rule : Reply Replay} {n : ℕ} → rule ≡ refuse n → tell n l ≡ lentAfter l rule
 answered-refused l e = rw e
 
 -- both counts stored at the front of a run that has room for them
@@ -61,13 +60,13 @@ stored-same (x ∷ y ∷ rest) h = refl
 abbrev replay-leaving : Lent → Replayed → List ℕ → Buffers → LentAfter
 replay-leaving l r memory b = tell (r .answer) (record { memory = memory; counts = storedIn (r .counts) (l .counts); buffers = b })
 
-answered-replay : (l : Lent) (rule : Ruled Replay) (r : Replayed) {memory : List ℕ} {b : Buffers} → 2 ≤ length (l .counts)
+answered-replay : (l : Lent) (rule : Reply Replay) (r : Replayed) {memory : List ℕ} {b : Buffers} → 2 ≤ length (l .counts)
     → Replays (l .memory) (countsOf (l .counts)) (l .buffers) rule r memory b → replay-leaving l r memory b ≡ lentAfter l rule
 answered-replay l (refuse n) r h w = rw (w .outcome, w .memory-is, w .buffers-are, stored-same (l .counts) h)
 answered-replay l (accept p) r h w = rw (w .outcome, w .memory-is, w .buffers-are, stored-front (p .left .counts) (l .counts) h)
 
 -- the counts that a replay hands back are stored whether it is refused or not
-pub answered-lent : (table trace : List ℕ) (l : Lent) {gs : List GroupPairs} → readTable table ≡ got gs [] → 2 ≤ length (l .counts)
+pub answered-lent : (table trace : List ℕ) (l : Lent) {gs : List GroupPairs} → readTable table ≡ accept gs → 2 ≤ length (l .counts)
     → (r : Replayed) {memory : List ℕ} {b : Buffers} → Replays (l .memory) (countsOf (l .counts)) (l .buffers) (replayOf gs trace l) r memory b
     → replay-leaving l r memory b ≡ lentAfter l (replayLent table trace l)
 answered-lent table trace l {gs} is h r w = rw (lent-replays table trace l is h) (answered-replay l (replayOf gs trace l) r h w)

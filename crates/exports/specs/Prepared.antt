@@ -2,19 +2,20 @@
 use Prim.Native.Nat.{ℕ}
 use mathlib.Core.List.{List}
 use lib.ListN.{length}
-use Rattle.queue.specs.Ruled.{Ruled, refuse, accept, andThen}
-use Rattle.replay.specs.Replay.{Start, tableIn, prepare}
+use Rattle.number.specs.Reply.{Reply, refuse, accept, andThen}
+use Rattle.table.specs.TableBytes.{readTable}
+use Rattle.replay.specs.Replay.{Start, prepare}
 
 -- a table and a trace made ready: the table's refusal; then that of the leading numbers, of opening, or of an event
-abbrev pub prepared : List ℕ → List ℕ → Ruled Start
-prepared table trace = andThen (tableIn table) λ gs. prepare gs trace
+abbrev pub prepared : List ℕ → List ℕ → Reply Start
+prepared table trace = andThen (readTable table) λ gs. prepare gs trace
 
 -- how many events the trace has; 0 where it is refused
-abbrev pub eventCount : Ruled Start → ℕ
+abbrev pub eventCount : Reply Start → ℕ
 eventCount (refuse n) = 0
 eventCount (accept s) = length (s .events)
 
 -- the memory length that the trace asks for; 0 where it is refused
-abbrev pub memoryLength : Ruled Start → ℕ
+abbrev pub memoryLength : Reply Start → ℕ
 memoryLength (refuse n) = 0
 memoryLength (accept s) = s .queue .memoryLength

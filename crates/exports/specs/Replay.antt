@@ -5,8 +5,9 @@ use lib.Dec.{leb}
 use lib.ListN.{length, getD}
 use Rattle.number.specs.Refusal.{tooShort}
 use Rattle.counts.specs.declared.Counts.{Counts}
-use Rattle.queue.specs.Ruled.{Ruled, refuse, accept, need, andThen}
-use Rattle.replay.specs.Replay.{Replay, Buffers, tableIn, replay}
+use Rattle.number.specs.Reply.{Reply, refuse, accept, need, andThen}
+use Rattle.table.specs.TableBytes.{readTable}
+use Rattle.replay.specs.Replay.{Replay, Buffers, replay}
 use Rattle.replay.specs.Outcome.{atFront, logIn}
 
 -- all that is lent: the memory, the counts as a run of numbers, and the buffers for answers and values
@@ -28,9 +29,9 @@ countsIn c run = atFront (c .loads ∷ c .forwarded ∷ []) run
 
 -- In the order of checking: the table's refusal; 10 the run of counts is shorter than 2; what `replay` refuses, which is the
 -- trace's refusal, 30 or 10.
-unfoldable pub replayLent : List ℕ → List ℕ → Lent → Ruled Replay
+unfoldable pub replayLent : List ℕ → List ℕ → Lent → Reply Replay
 replayLent table trace l =
-    andThen (tableIn table) λ gs.
+    andThen (readTable table) λ gs.
     need (leb 2 (length (l .counts))) tooShort
     (replay gs trace (l .memory) (countsOf (l .counts)) (l .buffers))
 
@@ -42,7 +43,7 @@ pub record LentAfter : Type 0 where
 -- A refusal leaves all that was lent as it was. Else the answer is 0, and what was lent holds the memory and the counts that
 -- the events leave, and for each event, at the front of the buffers, its answer, 1 or 0 as it gave a value or none, and the
 -- value or 0.
-abbrev pub lentAfter : Lent → Ruled Replay → LentAfter
+abbrev pub lentAfter : Lent → Reply Replay → LentAfter
 lentAfter l (refuse n) = record { answer = n; left = l }
 lentAfter l (accept p) = record {
   answer = 0;

@@ -3,7 +3,7 @@
 ghost use mathlib.Core.Path.{_≡_};
 ghost use Rattle.table.specs.TableBytes.{readTable, tableAnswer};
 ghost use Rattle.counts.specs.Counts.{share};
-ghost use Rattle.queue.specs.Ruled.{number};
+ghost use Rattle.number.specs.Reply.{number};
 ghost use Rattle.printed.specs.Outcome.{printed};
 ghost use Rattle.paged.specs.Recorded.{keptAfter};
 ghost use Rattle.exports.specs.Text.{textLength};

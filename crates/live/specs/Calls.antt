@@ -6,11 +6,10 @@ use mathlib.Core.Option.{Option, none, some}
 use Rattle.table.specs.declared.Table.{Table}
 use Rattle.table.specs.Group.{GroupPairs}
 use Rattle.table.specs.TableBytes.{pack}
-use Rattle.counts.specs.declared.Counts.{Counts}
 use Rattle.queue.specs.declared.Queue.{Queue}
 use Rattle.queue.specs.declared.Frame.{Frame}
 use Rattle.queue.specs.declared.Readied.{Readied}
-use Rattle.queue.specs.Ruled.{Ruled, refuse, accept, andThen}
+use Rattle.number.specs.Reply.{Reply, refuse, accept, andThen}
 use Rattle.queue.specs.Contents.{Contents, contentsOf}
 use Rattle.queue.specs.Open.{openQueue, freshFrame}
 use Rattle.queue.specs.Serve.{Served}
@@ -22,20 +21,20 @@ use Rattle.live.specs.declared.calls.LiveOpened.{LiveOpened}
 use Rattle.live.specs.declared.calls.LiveStep.{LiveStep}
 use Rattle.live.specs.declared.calls.LiveService.{LiveService}
 use Rattle.live.specs.declared.calls.LiveReady.{LiveReady}
-use Rattle.replay.specs.Replay.{tableIn}
+use Rattle.table.specs.TableBytes.{readTable}
 
 -- Opening on a table's bytes: the table's refusal, then that of opening.
-abbrev pub openBytes : List ℕ → ℕ → ℕ → ℕ → ℕ → Ruled Contents
-openBytes table loadDepth storeDepth first words = andThen (tableIn table) λ gs. openQueue gs loadDepth storeDepth first words
+abbrev pub openBytes : List ℕ → ℕ → ℕ → ℕ → ℕ → Reply Contents
+openBytes table loadDepth storeDepth first words = andThen (readTable table) λ gs. openQueue gs loadDepth storeDepth first words
 
 -- the record of the table that the bytes hold; of bytes that are refused, the table of no groups
-abbrev pub packedIn : Ruled (List GroupPairs) → Table
+abbrev pub packedIn : Reply (List GroupPairs) → Table
 packedIn (refuse n) = pack []
 packedIn (accept gs) = pack gs
 
 abbrev pub LiveOpens : List ℕ → ℕ → ℕ → ℕ → ℕ → LiveOpened → Type 0
 LiveOpens table loadDepth storeDepth first words r =
-    OpensFrame (freshFrame (packedIn (tableIn table)) loadDepth storeDepth first words)
+    OpensFrame (freshFrame (packedIn (readTable table)) loadDepth storeDepth first words)
     (openBytes table loadDepth storeDepth first words)
     (record { answer = r .answer; frame = r .frame })
 
@@ -62,16 +61,16 @@ pub record Gives : Type 0 where
   pub value : Option ℕ
   pub queue : Contents
 
-abbrev pub moveGives : Contents → Ruled Gives
+abbrev pub moveGives : Contents → Reply Gives
 moveGives q = accept (record { value = none; queue = q })
 
-abbrev pub takeGives : Taken → Ruled Gives
+abbrev pub takeGives : Taken → Reply Gives
 takeGives t = accept (record { value = some (t .value); queue = t .queue })
 
-abbrev pub serveGives : Served → Ruled Gives
+abbrev pub serveGives : Served → Reply Gives
 serveGives s = accept (record { value = some (s .value); queue = s .queue })
 
-abbrev pub writeGives : Written → Ruled Gives
+abbrev pub writeGives : Written → Reply Gives
 writeGives w = accept (record { value = none; queue = w .queue })
 
 pub record LiveAccepted (g : Gives) (t : LiveTold) : Type 0 where
@@ -81,12 +80,12 @@ pub record LiveAccepted (g : Gives) (t : LiveTold) : Type 0 where
   pub holds : contentsOf (t .queue) ≡ g .queue
 
 -- a refusal tells its number and no value, and leaves the very queue
-abbrev pub LiveTells : Queue → Ruled Gives → LiveTold → Type 0
+abbrev pub LiveTells : Queue → Reply Gives → LiveTold → Type 0
 LiveTells q (refuse n) t = t ≡ record { answer = n; given = 0; value = 0; queue = q }
 LiveTells q (accept g) t = LiveAccepted g t
 
 -- the memory that a write leaves
-abbrev pub memoryAfter : List ℕ → Ruled Written → List ℕ
+abbrev pub memoryAfter : List ℕ → Reply Written → List ℕ
 memoryAfter lent (refuse n) = lent
 memoryAfter lent (accept w) = w .memory
 

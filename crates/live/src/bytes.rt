@@ -42,7 +42,7 @@ pub(crate) fn live_written(written: BytesWritten) -> LiveWritten
     }
 }
 
-// Reads a table: 1 to 9.
+// Reads a table: 1 to 9 or 42.
 #[no_mangle]
 pub extern "C" fn lsq_read_table(bytes: &[u8]) -> TableFound
     ensures { λ r. ⌜ r ≡ tableFound (tableAnswer (readTable (now (bytes .entry)))) ⌝ }

@@ -15,7 +15,7 @@ ghost use Rattle.queue.specs.declared.Kind.the-variants.{Load as load, Store as
 ghost use Rattle.queue.specs.Ready.{ready, Readies};
 ghost use Rattle.queue.specs.Outcome.{Moves};
 ghost use Rattle.queue.specs.Parts.{whole, onParts, queueOf, answered};
-ghost use Rattle.queue.specs.Ruled.{andThen};
+ghost use Rattle.number.specs.Reply.{andThen};
 ghost use Rattle.replay.specs.Playing.{afterServe};
 ghost use Rattle.live.specs.Calls.{LiveOpens, toldStep, toldService, LiveTells, moveGives, takeGives, serveGives, writeGives, memoryAfter, liveReadied};
 ghost use Rattle.live.specs.Internal.{liveStep, liveService};
@@ -103,7 +103,7 @@ fn live_service(service: Service) -> LiveService
     }
 }
 
-// Opens a queue with no entry on a table's bytes: 1 to 9 of the table, then 11 to 14. A refused one gives the frame of no table.
+// Opens a queue with no entry on a table's bytes: 1 to 9 or 42 of the table, then 11 to 14. A refused one gives the frame of no table.
 #[no_mangle]
 pub extern "C" fn lsq_open_in(
     table: &[u8],

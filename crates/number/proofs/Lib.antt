@@ -1,5 +1,6 @@
 -- Laws that the functions' proofs cite, one file a topic.
 pub mod Both
+pub mod ReplyLaws
 pub mod Rule
 pub mod NumberLaws
 pub mod SpliceLaws

@@ -1,21 +1,23 @@
 -- Laws of reading and writing numbers.
 use Prim.Native.Nat.{ℕ, zero, suc, _+_, _-_, _*_, _/_, _%_, _≤_, _<_, _^_}
 use mathlib.Core.Path.{_≡_, refl, sym, ap, _∙_}
-use mathlib.Core.Bool.{Bool, true, false}
+use mathlib.Core.Bool.{Bool, true, false, not, _&&_}
 use mathlib.Core.List.{List, [], _∷_}
 use native.Mathlib.Omega.{arith}
 use native.Mathlib.Numerals.{add-one}
-use lib.Dec.{leb, ltb}
-use lib.ListN.{length, getD, drop, length-drop, drop-of-length-le}
-use lib.Seq.{drop-cons, drop-drop}
+use lib.Dec.{leb, ltb, eqb}
+use lib.ListN.{length, getD, take, drop, length-drop, drop-of-length-le}
+use lib.Seq.{drop-cons, length-take-le, getD-take, getD-drop}
 use lib.Count.{leadingZeros, leading-length}
 use lib.Pow.{pow-mono}
 use native.Mathlib.Nat.{le-trans, pow-suc, add-mul, mul-assoc, mul-comm, mul-le-mul-left, mul-le-mul-right}
 use borrow.Author.Tests.{lt-ltb, le-ltb, le-leb, lt-leb, ltb-true, ltb-false, leb-true, leb-false}
 use Rattle.number.specs.Basics.{pick}
-use Rattle.number.specs.Refusal.{ended, tooLarge}
-use Rattle.number.specs.Number.{Got, got, bad, above, numberUpTo, readNumber, placeOf, accepts, refuses, reading, readIn, significantBits, byteCount}
-use Rattle.number.specs.Number.{bytesUpTo, numberBytes}
+use Rattle.number.specs.Refusal.{ended, tooLarge, paddedNumber}
+use Rattle.number.specs.Reply.{Reply, refuse, accept, need}
+use Rattle.number.specs.Number.{Got, got, thenRead, above, numberUpTo, readNumber, placeOf, bytesBefore, lastOf, padded, reading, readIn}
+use Rattle.number.specs.Number.{significantBits, byteCount, bytesUpTo, numberBytes}
+use Rattle.number.specs.Internal.{endedBy}
 
 -- the place where what is left after `at` bytes begins
 pub place-drop : (s : List ℕ) (at : ℕ) → at ≤ length s → placeOf s (drop at s) ≡ at
@@ -26,7 +28,7 @@ abbrev pub numberBound : ℕ → ℕ
 numberBound zero = 16
 numberBound (suc more) = 128 * numberBound more
 
-bound-least : (more : ℕ) → 16 ≤ numberBound more
+pub bound-least : (more : ℕ) → 16 ≤ numberBound more
 bound-least zero = omega arith
 bound-least (suc more) = omega (arith, bound-least more)
 
@@ -34,22 +36,22 @@ bound-least (suc more) = omega (arith, bound-least more)
 
 -- what the bytes at a place say, where a number of one byte and up to `more` after it is read
 module _ (s : List ℕ) (at : ℕ) where
-  up-ended : (more : ℕ) → length s ≤ at → numberUpTo more 15 (drop at s) ≡ bad ended
+  up-ended : (more : ℕ) → length s ≤ at → numberUpTo more 15 (drop at s) ≡ refuse ended
   unfolding numberUpTo
   up-ended zero h = rw (drop-of-length-le s h)
   up-ended (suc more) h = rw (drop-of-length-le s h)
 
   module _ (h : at < length s) where
-    up-last : getD s at 0 ≤ 15 → numberUpTo zero 15 (drop at s) ≡ got (getD s at 0) (drop (at + 1) s)
+    up-last : getD s at 0 ≤ 15 → numberUpTo zero 15 (drop at s) ≡ accept (got (getD s at 0) (drop (at + 1) s))
     unfolding numberUpTo
     up-last k = rw (drop-cons s at 0 h, le-leb _ _ k, add-one)
 
-    up-too-large : 15 < getD s at 0 → numberUpTo zero 15 (drop at s) ≡ bad tooLarge
+    up-too-large : 15 < getD s at 0 → numberUpTo zero 15 (drop at s) ≡ refuse tooLarge
     unfolding numberUpTo
     up-too-large k = rw (drop-cons s at 0 h, lt-leb _ _ k)
 
     module _ {more fewer : ℕ} (e : more ≡ suc fewer) where
-      up-one : getD s at 0 < 128 → numberUpTo more 15 (drop at s) ≡ got (getD s at 0) (drop (at + 1) s)
+      up-one : getD s at 0 < 128 → numberUpTo more 15 (drop at s) ≡ accept (got (getD s at 0) (drop (at + 1) s))
       unfolding numberUpTo
       up-one k = rw (e, drop-cons s at 0 h, lt-ltb _ _ k, add-one)
 
@@ -58,30 +60,31 @@ module _ (s : List ℕ) (at : ℕ) where
       up-more k = rw (e, drop-cons s at 0 h, le-ltb _ _ k, add-one)
 
 -- a number of higher groups above the groups worth `value`, where the next group counts `scale`
-abbrev over : ℕ → ℕ → Got ℕ → Got ℕ
-over value scale (got n s) = got (value + n * scale) s
-over value scale (bad k) = bad k
+abbrev over : ℕ → ℕ → Reply (Got ℕ) → Reply (Got ℕ)
+over value scale r = thenRead r λ n s. accept (got (value + n * scale) s)
 
-over-none : (g : Got ℕ) → over 0 1 g ≡ g
-over-none (got n s) = let e : 0 + n * 1 ≡ n = omega arith in rw e
-over-none (bad k) = refl
+over-none : (r : Reply (Got ℕ)) → over 0 1 r ≡ r
+over-none (accept (got n s)) = let e : 0 + n * 1 ≡ n = omega arith in rw e
+over-none (refuse k) = refl
 
-over-above : (value low scale : ℕ) (g : Got ℕ) → over value scale (above low g) ≡ over (value + low * scale) (scale * 128) g
-over-above value low scale (got n s) =
+over-above : (value low scale : ℕ) (r : Reply (Got ℕ)) → over value scale (above low r) ≡ over (value + low * scale) (scale * 128) r
+over-above value low scale (accept (got n s)) =
     let e : (low + 128 * n) * scale ≡ low * scale + n * (scale * 128) = add-mul low (128 * n) scale ∙ rw (mul-comm 128 n, mul-assoc, mul-comm 128 scale) in
     let d : value + (low + 128 * n) * scale ≡ value + low * scale + n * (scale * 128) = omega arith in
     rw d
-over-above value low scale (bad k) = refl
+over-above value low scale (refuse k) = refl
 
 -- the bytes from `at` to `place` are groups of a number, worth `value`; the next group counts `scale`, and up to `more` may follow it
 pub record NumberSoFar (s : List ℕ) (at value scale place : ℕ) : Type 0 where
   pub more : ℕ
-  pub is : readNumber (drop at s) ≡ over value scale (numberUpTo more 15 (drop place s))
+  pub is : numberUpTo 4 15 (drop at s) ≡ over value scale (numberUpTo more 15 (drop place s))
   pub below : value < scale
   pub room : scale * numberBound more ≡ 2 ^ 32
+  pub from : at ≤ place
 
 pub number-begun : {s : List ℕ} {at : ℕ} → NumberSoFar s at 0 1 at
-number-begun {s} {at} = record { more = 4; is = sym (over-none (readNumber (drop at s))); below = omega arith; room = refl }
+number-begun {s} {at} =
+    record { more = 4; is = sym (over-none (numberUpTo 4 15 (drop at s))); below = omega arith; room = refl; from = omega arith }
 
 -- the scale tells whether the next group is the fifth
 module _ (scale : ℕ) where
@@ -96,14 +99,47 @@ module _ (scale : ℕ) where
   not-fifth zero r h = absurd (omega arith)
   not-fifth (suc more) r h = omega arith
 
+last-at : (l : List ℕ) → lastOf l ≡ getD l (length l - 1) 0
+last-at [] = refl
+last-at (b ∷ []) = refl
+last-at (b ∷ c ∷ cs) =
+    let e : suc (suc (length cs)) - 1 ≡ suc (suc (length cs) - 1) = omega arith in
+    last-at (c ∷ cs) ∙ rw e
+
+-- the bytes from `at` to `place`, and the byte there, are padding where that byte is 00 and not the only one
+padded-at : (s : List ℕ) (at place : ℕ) → at ≤ place → place < length s
+    → padded (bytesBefore (drop at s) (drop (place + 1) s)) ≡ (ltb 1 (place + 1 - at) && eqb (getD s place 0) 0)
+padded-at s at place h k =
+    let n : placeOf (drop at s) (drop (place + 1) s) ≡ place + 1 - at = rw (length-drop, length-drop) (omega arith) in
+    let l : length (take (place + 1 - at) (drop at s)) ≡ place + 1 - at = length-take-le (place + 1 - at) (drop at s) (rw length-drop (omega arith)) in
+    let i : at + (place + 1 - at - 1) ≡ place = omega arith in
+    let e : lastOf (take (place + 1 - at) (drop at s)) ≡ getD s place 0 =
+    last-at (take (place + 1 - at) (drop at s)) ∙ rw l (getD-take (place + 1 - at) (drop at s) (place + 1 - at - 1) 0 (omega arith)
+    ∙ getD-drop at s (place + 1 - at - 1) 0 ∙ rw i) in
+    rw (n, l, e)
+
+read-in-need : {A : Type 0} (s : List ℕ) (t : Bool) (k : ℕ) (a : A) (rest : List ℕ)
+    → readIn s (need t k (accept (got a rest))) ≡ need t k (accept (reading a (placeOf s rest)))
+read-in-need s true k a rest = refl
+read-in-need s false k a rest = refl
+
 module _ {s : List ℕ} {at value scale place : ℕ} (w : NumberSoFar s at value scale place) where
-  pub number-ended : length s ≤ place → refuses ended ≡ readIn s (readNumber (drop at s))
+  pub number-ended : length s ≤ place → refuse ended ≡ readIn s (readNumber (drop at s))
+  unfolding readNumber
   number-ended h = rw (w .is, up-ended s place (w .more) h)
 
   -- a group that ends the number
-  ends : place < length s → numberUpTo (w .more) 15 (drop place s) ≡ got (getD s place 0) (drop (place + 1) s)
-      → accepts (reading (value + getD s place 0 * scale) (place + 1)) ≡ readIn s (readNumber (drop at s))
-  ends h e = rw (w .is, e, place-drop s (place + 1) (omega arith))
+  ends : place < length s → numberUpTo (w .more) 15 (drop place s) ≡ accept (got (getD s place 0) (drop (place + 1) s))
+      → endedBy at (place + 1) (getD s place 0) (value + getD s place 0 * scale) ≡ readIn s (readNumber (drop at s))
+  unfolding readNumber
+  ends h e =
+      rw (
+        w .is,
+        e,
+        padded-at s at place (w .from) h,
+        read-in-need s (not (ltb 1 (place + 1 - at) && eqb (getD s place 0) 0)) paddedNumber (value + getD s place 0 * scale) (drop (place + 1) s),
+        place-drop s (place + 1) (omega arith),
+      )
 
   module _ (t : scale < 2 ^ 28) where
     some : w .more ≡ suc (w .more - 1)
@@ -116,7 +152,8 @@ module _ {s : List ℕ} {at value scale place : ℕ} (w : NumberSoFar s at value
     group-fits b k = (omega (arith, w .below, mul-le-mul-right {m = b} {n = 127} scale (omega arith)), scale-most scale (w .more - 1) room-left)
 
     module _ (h : place < length s) where
-      pub number-one : getD s place 0 < 128 → accepts (reading (value + getD s place 0 * scale) (place + 1)) ≡ readIn s (readNumber (drop at s))
+      pub number-one : getD s place 0 < 128
+          → endedBy at (place + 1) (getD s place 0) (value + getD s place 0 * scale) ≡ readIn s (readNumber (drop at s))
       number-one k = ends h (up-one s place h some k)
 
       pub number-more : 128 ≤ getD s place 0 → getD s place 0 < 256 → NumberSoFar s at (value + (getD s place 0 - 128) * scale) (scale * 128) (place + 1)
@@ -127,6 +164,7 @@ module _ {s : List ℕ} {at value scale place : ℕ} (w : NumberSoFar s at value
                 ∙ over-above value (getD s place 0 - 128) scale (numberUpTo (w .more - 1) 15 (drop (place + 1) s));
             below = group-fits (getD s place 0 - 128) (omega arith) .0;
             room = mul-assoc scale 128 (numberBound (w .more - 1)) ∙ room-left;
+            from = omega (arith, w .from);
           }
 
   module _ (t : 2 ^ 28 ≤ scale) where
@@ -139,10 +177,12 @@ module _ {s : List ℕ} {at value scale place : ℕ} (w : NumberSoFar s at value
         omega (arith, w .below, mul-le-mul-right {m = b} {n = 15} scale k)
 
     module _ (h : place < length s) where
-      pub number-last : getD s place 0 ≤ 15 → accepts (reading (value + getD s place 0 * scale) (place + 1)) ≡ readIn s (readNumber (drop at s))
+      pub number-last : getD s place 0 ≤ 15
+          → endedBy at (place + 1) (getD s place 0) (value + getD s place 0 * scale) ≡ readIn s (readNumber (drop at s))
       number-last k = ends h (rw none (up-last s place h k))
 
-      pub number-too-large : 15 < getD s place 0 → refuses tooLarge ≡ readIn s (readNumber (drop at s))
+      pub number-too-large : 15 < getD s place 0 → refuse tooLarge ≡ readIn s (readNumber (drop at s))
+      unfolding readNumber
       number-too-large k = rw (w .is, none, up-too-large s place h k)
 
 -- ---- how long a number is
@@ -197,73 +237,3 @@ number-length-law n h =
     go false false true d = refl
     go false false false true = refl
     go false false false false = refl
-
--- ---- what a call that read a number says of the bytes
-
--- what is left after a number is the bytes from some place past its first byte
-number-suffix : (more top : ℕ) (s : List ℕ) {n : ℕ} {rest : List ℕ} → numberUpTo more top s ≡ got n rest
-    → (k : ℕ) × (rest ≡ drop (suc k) s) × (suc k ≤ length s)
-unfolding numberUpTo
-number-suffix more top [] e = let z : _≡_ {A = ℕ} 0 1 = cc in absurd (omega arith)
-number-suffix zero top (b ∷ s) {n} {rest} e = go (leb b top) e
-  where
-    go : (t : Bool) → pick t (got b s) (bad tooLarge) ≡ got n rest → (k : ℕ) × (rest ≡ drop (suc k) (b ∷ s)) × (suc k ≤ suc (length s))
-    go true d = (0, cc, omega arith)
-    go false d = let z : _≡_ {A = ℕ} 0 1 = cc in absurd (omega arith)
-number-suffix (suc more) top (b ∷ s) {n} {rest} e = go (ltb b 128) (numberUpTo more top s) (λ m r d. number-suffix more top s d) e
-  where
-    go : (t : Bool) (g : Got ℕ) → ((m : ℕ) (r : List ℕ) → g ≡ got m r → (k : ℕ) × (r ≡ drop (suc k) s) × (suc k ≤ length s))
-        → pick t (got b s) (above (b - 128) g) ≡ got n rest → (k : ℕ) × (rest ≡ drop (suc k) (b ∷ s)) × (suc k ≤ suc (length s))
-    go true g ih d = (0, cc, omega arith)
-    go false (got m r) ih d =
-        let (k, q, h) = ih m r refl in
-        let p : r ≡ rest = cc in
-        (suc k, sym p ∙ q, omega arith)
-    go false (bad m) ih d = let z : _≡_ {A = ℕ} 0 1 = cc in absurd (omega arith)
-
--- the same, said of the place that the call gives
-pub record NumberGot (s : List ℕ) (place v next : ℕ) : Type 0 where
-  pub is : readNumber (drop place s) ≡ got v (drop next s)
-  pub later : place < next
-  pub inside : next ≤ length s
-
-pub number-got : (s : List ℕ) (place : ℕ) {v next : ℕ} → accepts (reading v next) ≡ readIn s (readNumber (drop place s)) → NumberGot s place v next
-number-got s place {v} {next} e = go (readNumber (drop place s)) refl e
-  where
-    at-place : (n : ℕ) (rest : List ℕ) → readNumber (drop place s) ≡ got n rest → accepts (reading v next) ≡ accepts (reading n (placeOf s rest))
-        → (k : ℕ) × (rest ≡ drop (suc k) (drop place s)) × (suc k ≤ length (drop place s)) → NumberGot s place v next
-    at-place n rest f d (k, q, h) =
-        let l : length (drop place s) ≡ length s - place = length-drop place s in
-        let r : rest ≡ drop (place + suc k) s = q ∙ drop-drop (suc k) place s in
-        let m : placeOf s rest ≡ place + suc k = ap (placeOf s) r ∙ place-drop s (place + suc k) (omega arith) in
-        let x : next ≡ placeOf s rest = cc in
-        let y : v ≡ n = cc in
-        let w : next ≡ place + suc k = x ∙ m in
-        record { is = f ∙ cc; later = omega arith; inside = omega arith }
-
-    go : (g : Got ℕ) → readNumber (drop place s) ≡ g → accepts (reading v next) ≡ readIn s g → NumberGot s place v next
-    go (bad n) f d = let z : _≡_ {A = ℕ} 0 1 = cc in absurd (omega arith)
-    go (got n rest) f d = at-place n rest f d (number-suffix 4 15 (drop place s) f)
-
-pub number-bad : (s : List ℕ) (place : ℕ) {k : ℕ} → refuses k ≡ readIn s (readNumber (drop place s)) → readNumber (drop place s) ≡ bad k
-number-bad s place {k} e = go (readNumber (drop place s)) e
-  where
-    go : (g : Got ℕ) → refuses k ≡ readIn s g → g ≡ bad k
-    go (got n rest) d = let z : _≡_ {A = ℕ} 0 1 = cc in absurd (omega arith)
-    go (bad n) d = cc
-
--- a refusal of a number is not 0
-pub number-refused : (more top : ℕ) (s : List ℕ) {k : ℕ} → numberUpTo more top s ≡ bad k → k ≡ 0 → ⊥
-unfolding numberUpTo
-number-refused more top [] {k} e z = let q : 1 ≡ k = cc in omega arith
-number-refused zero top (b ∷ s) {k} e z = go (leb b top) e
-  where
-    go : (t : Bool) → pick t (got b s) (bad tooLarge) ≡ bad k → ⊥
-    go true d = let q : _≡_ {A = ℕ} 0 1 = cc in omega arith
-    go false d = let q : 2 ≡ k = cc in omega arith
-number-refused (suc more) top (b ∷ s) {k} e z = go (ltb b 128) (numberUpTo more top s) (λ n d. number-refused more top s d) e
-  where
-    go : (t : Bool) (g : Got ℕ) → ((n : ℕ) → g ≡ bad n → n ≡ 0 → ⊥) → pick t (got b s) (above (b - 128) g) ≡ bad k → ⊥
-    go true g ih d = let q : _≡_ {A = ℕ} 0 1 = cc in omega arith
-    go false (got n r) ih d = let q : _≡_ {A = ℕ} 0 1 = cc in omega arith
-    go false (bad n) ih d = let q : n ≡ k = cc in ih n refl (q ∙ z)

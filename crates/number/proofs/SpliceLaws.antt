@@ -12,7 +12,8 @@ use borrow.Author.Tests.{lt-ltb, le-ltb, lt-leb, le-leb}
 use lib.Dec.{ltb}
 use Rattle.number.specs.Basics.{pick, splice}
 use Rattle.number.specs.Refusal.{tooShort}
-use Rattle.number.specs.Number.{bytesUpTo, numberBytes, bytesOf, accepts, wrote, unwritten, Puts, PutIfFits}
+use Rattle.number.specs.Reply.{accept}
+use Rattle.number.specs.Number.{bytesUpTo, numberBytes, bytesOf, wrote, unwritten, Puts, PutIfFits}
 use Rattle.number.proofs.NumberLaws.{numberBound}
 
 pub splice-none : (d : List ℕ) (p : ℕ) → splice d p [] ≡ d
@@ -47,7 +48,7 @@ unfolding wrote
 wrote-short bytes buffer h = rw (lt-leb _ _ h)
 
 pub wrote-fits : (bytes buffer : List ℕ) → length bytes ≤ length buffer
-    → wrote bytes buffer ≡ record { answer = accepts (length bytes); buffer = splice buffer 0 bytes }
+    → wrote bytes buffer ≡ record { answer = accept (length bytes); buffer = splice buffer 0 bytes }
 unfolding wrote
 wrote-fits bytes buffer h = rw (le-leb _ _ h, zero-add)
 

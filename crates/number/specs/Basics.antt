@@ -2,13 +2,19 @@
 use Prim.Native.Nat.{ℕ, suc, _+_, _-_}
 use mathlib.Core.Bool.{Bool, true, false, _&&_, _||_}
 use mathlib.Core.List.{List, [], _∷_, _++_}
-use lib.Dec.{eqb, leb}
+use mathlib.Core.Option.{Option, none, some}
+use lib.Dec.{leb}
 use lib.ListN.{length, take, drop, replicate}
 
 -- a where the test holds, else b
 abbrev pub pick : {A : Type 0} → Bool → A → A → A
 pick true a b = a
 pick false a b = b
+
+-- is there one
+abbrev pub isSome : {A : Type 0} → Option A → Bool
+isSome none = false
+isSome (some a) = true
 
 -- does some element pass; does every element pass
 abbrev pub anyOf : {A : Type 0} → (A → Bool) → List A → Bool
@@ -51,14 +57,6 @@ within lo hi n = leb lo n && leb n hi
 -- and a count beyond the array counts blanks, so that the list is always as long as the count.
 abbrev pub held : {A : Type 0} → A → ℕ → List A → List A
 held blank n l = take n l ++ replicate (n - length l) blank
-
--- the refusal number where the test fails, else what follows; 0 is "right"
-abbrev pub check : Bool → ℕ → ℕ → ℕ
-check test number rest = pick test rest number
-
--- the first refusal of two: the second only where the first is 0
-abbrev pub firstFault : ℕ → ℕ → ℕ
-firstFault n rest = pick (eqb n 0) rest n
 
 -- a buffer with the bytes at a place
 abbrev pub splice : List ℕ → ℕ → List ℕ → List ℕ

@@ -1,5 +1,5 @@
--- The refusal numbers of document 01, "Calls and their refusals" and "The printed run", and 41 of S-1 of document 02: all of them.
--- Accepted is 0. src/refusal.rt has the same names.
+-- The refusal numbers of document 01, "Calls and their refusals" and "The printed run", and 41 and 42 of document 02:
+-- all of them. Accepted is 0. src/refusal.rt has the same names.
 use Prim.Native.Nat.{ℕ}
 
 -- the bytes end inside a number or before it
@@ -133,3 +133,7 @@ unsound = 40
 -- a page buffer has fewer than 1,394 bytes
 abbrev pub pageTooShort : ℕ
 pageTooShort = 41
+
+-- S-4: a number of more than one byte has 00 as its last byte
+abbrev pub paddedNumber : ℕ
+paddedNumber = 42

@@ -1,5 +1,5 @@
-// The refusal numbers of document 01, "Calls and their refusals" and "The printed run", and 41 of S-1 of document 02: all of them.
-// Accepted is 0. specs/Refusal.antt has the same names.
+// The refusal numbers of document 01, "Calls and their refusals" and "The printed run", and 41 and 42 of document 02:
+// all of them. Accepted is 0. specs/Refusal.antt has the same names.
 
 // the bytes end inside a number or before it
 pub const ENDED: u8 = 1;
@@ -67,3 +67,5 @@ pub const FILE_TOO_LONG: u8 = 36;
 pub const UNSOUND: u8 = 40;
 // a page buffer has fewer than 1,394 bytes
 pub const PAGE_TOO_SHORT: u8 = 41;
+// S-4: a number of more than one byte has 00 as its last byte
+pub const PADDED_NUMBER: u8 = 42;

@@ -1,7 +1,6 @@
 -- Laws of going through events beside what a replay put into its buffers.
-use Prim.Native.Nat.{ℕ, zero, suc, _+_, _≤_, _<_}
-use mathlib.Core.Path.{_≡_, refl, sym, ap, ap₂, _∙_}
-use mathlib.Core.Bool.{Bool, true, false}
+use Prim.Native.Nat.{ℕ, _+_, _≤_, _<_}
+use mathlib.Core.Path.{_≡_, refl, sym, ap, _∙_}
 use mathlib.Core.List.{List, [], _∷_, _++_, map}
 use mathlib.Core.Option.{Option, none, some}
 use native.Mathlib.Omega.{arith}
@@ -9,8 +8,10 @@ use native.Mathlib.Numerals.{add-one}
 use lib.ListN.{length, getD, drop, drop-of-length-le}
 use lib.Seq.{drop-cons}
 use lib.Dec.{eqb}
-use borrow.Author.Tests.{eq-eqb}
-use Rattle.number.specs.Number.{Got, got, bad, before, placeOf, accepts, refuses, reading, readIn}
+use Rattle.number.specs.Reply.{Reply, refuse, accept}
+use Rattle.number.proofs.ReplyLaws.{refused-accepted, need-accepts, andThen-accepts, thenRead-accepts, refused-some}
+use Rattle.number.proofs.RoundTrip.{read-refused}
+use Rattle.number.specs.Number.{Got, placeOf, reading, readIn}
 use Rattle.number.specs.Refusal.{tooShort, wrongMemory}
 use Rattle.table.specs.Group.{GroupPairs}
 use Rattle.trace.specs.declared.Event.{Event}
@@ -19,17 +20,12 @@ use Rattle.trace.specs.Event.{readHeader}
 use Rattle.trace.specs.Trace.{readEvents}
 use Rattle.trace.proofs.TraceSteps.{EventGot, header-place}
 use Rattle.counts.specs.declared.Counts.{Counts}
-use Rattle.queue.specs.Ruled.{Ruled, refuse, accept, need, andThen}
-use Rattle.queue.proofs.Lists.{false-true}
-use Rattle.queue.specs.Contents.{Contents}
 use Rattle.replay.specs.Events.{eventsFrom}
 use Rattle.replay.specs.declared.Replayed.{Replayed}
-use Rattle.replay.specs.Replay.{Start, startOf, openTrace, eventsBehind, prepare, Replay, replayed, Buffers, fits, replayStart, replay}
+use Rattle.replay.specs.Replay.{Start, openTrace, eventsBehind, prepare, Replay, replayed, Buffers, fits, replayStart, replay}
 use Rattle.replay.specs.Outcome.{Replays}
-use Rattle.replay.proofs.PrepareLaws.{trace-refuses}
-use Rattle.replay.proofs.ReplayLaws.{Next, next-left, log-many}
-use Rattle.replay.proofs.Named.{named, not-nought, header-named, events-named}
-use Rattle.replay.specs.Playing.{Playing, played, log, Logged, givenIn, wordIn, givenOf, wordOf}
+use Rattle.replay.proofs.ReplayLaws.{next-left, log-many, replay-proper}
+use Rattle.replay.specs.Playing.{log, Logged, givenIn, wordIn, givenOf, wordOf}
 use Rattle.shift.specs.declared.ShiftRecord.{ShiftRecord}
 use Rattle.paged.specs.Recorded.{afterEvent, recordFrom, valueGiven, recordBuffered, eventsRead, traceEvents, keptAfter}
 use Rattle.paged.specs.Internal.{AllReadable}
@@ -38,7 +34,7 @@ use Rattle.paged.specs.Internal.{AllReadable}
 -- The events up to a place are gone through: these are left, and what they and the rest of the buffers make of the record is what is promised.
 pub record Along (trace : List ℕ) (from : ℕ) (given values : List ℕ) (kept₀ : ShiftRecord) (place i : ℕ) (kept : ShiftRecord) : Type 0 where
   pub left : List Event
-  pub reads : eventsFrom trace place ≡ got left []
+  pub reads : eventsFrom trace place ≡ accept left
   pub is : recordBuffered kept left (drop i given) (drop i values) ≡ recordBuffered kept₀ (eventsRead (eventsFrom trace from)) given values
 
 pub along-none : {trace : List ℕ} {from : ℕ} {given values : List ℕ} {kept : ShiftRecord} → AllReadable trace from
@@ -46,7 +42,7 @@ pub along-none : {trace : List ℕ} {from : ℕ} {given values : List ℕ} {kept
 along-none {given = given} {values} {kept} w = record {
   left = w .events;
   reads = w .is;
-  is = sym (ap (λ (g : Got (List Event)). recordBuffered kept (eventsRead g) given values) (w .is));
+  is = sym (ap (λ (g : Reply (List Event)). recordBuffered kept (eventsRead g) given values) (w .is));
 }
 
 -- where a buffer ends, or the events do, nothing more is recorded
@@ -77,17 +73,14 @@ module _ {trace : List ℕ} {from : ℕ} {given values : List ℕ} {kept₀ : Sh
   along-values-end h =
       sym (buffered-no-value kept (w .left) (drop i given)) ∙ ap (recordBuffered kept (w .left) (drop i given)) (sym (drop-of-length-le values h)) ∙ w .is
 
-  pub along-end : eventsFrom trace place ≡ got [] [] → Promised
+  pub along-end : eventsFrom trace place ≡ accept [] → Promised
   along-end h =
-      let z : got (w .left) [] ≡ got [] [] = sym (w .reads) ∙ h in
+      let z : accept (w .left) ≡ accept [] = sym (w .reads) ∙ h in
       let none : w .left ≡ [] = cc in
       ap (λ (es : List Event). recordBuffered kept es (drop i given) (drop i values)) (sym none) ∙ w .is
 
-  pub along-no-fault : {k : ℕ} → eventsFrom trace place ≡ bad k → ⊥
-  along-no-fault {k} h =
-      let z : got (w .left) [] ≡ bad k = sym (w .reads) ∙ h in
-      let y : _≡_ {A = ℕ} 0 1 = cc in
-      omega arith
+  pub along-no-fault : {k : ℕ} → eventsFrom trace place ≡ refuse k → ⊥
+  along-no-fault h = refused-accepted (sym h ∙ w .reads)
 
   pub along-more : {e : Event} {next : ℕ} → EventGot trace place e next → i < length given → i < length values
       → Along trace from given values kept₀ next (i + 1) (afterEvent kept e (valueGiven (getD given i 0) (getD values i 0)))
@@ -117,93 +110,34 @@ buffered-log r (e ∷ es) (l ∷ ls) given values h =
 -- ---- a trace's bytes
 module _ (trace : List ℕ) where
   -- the events stand behind the leading numbers
-  pub events-behind : {h : Header} {at : ℕ} → accepts (reading h at) ≡ readIn trace (readHeader trace)
+  pub events-behind : {h : Header} {at : ℕ} → accept (reading h at) ≡ readIn trace (readHeader trace)
       → eventsBehind (readHeader trace) ≡ eventsFrom trace at
-  events-behind {h} {at} e = go (readHeader trace) refl e
-    where
-      go : (g : Got Header) → readHeader trace ≡ g → accepts (reading h at) ≡ readIn trace g → eventsBehind g ≡ eventsFrom trace at
-      go (bad n) d f = let z : _≡_ {A = ℕ} 0 1 = cc in absurd (omega arith)
-      go (got x rest) d f =
-          let place : placeOf trace rest ≡ at = cc in
-          ap readEvents (header-place trace rest x d ∙ ap (λ (i : ℕ). drop i trace) place)
+  events-behind {h} {at} e =
+      let (x, rest, d, f) = thenRead-accepts (readHeader trace) (λ a l. accept (reading a (placeOf trace l))) (sym e) in
+      let place : placeOf trace rest ≡ at = cc in
+      ap eventsBehind d ∙ ap readEvents (header-place trace d ∙ ap (λ (i : ℕ). drop i trace) place)
 
-  pub no-header : {k : ℕ} → refuses k ≡ readIn trace (readHeader trace) → traceEvents trace ≡ []
-  no-header {k} e = go (readHeader trace) e
-    where
-      go : (g : Got Header) → refuses k ≡ readIn trace g → eventsRead (eventsBehind g) ≡ []
-      go (bad n) f = refl
-      go (got x rest) f = let z : _≡_ {A = ℕ} 0 1 = cc in absurd (omega arith)
+  pub no-header : {k : ℕ} → refuse k ≡ readIn trace (readHeader trace) → traceEvents trace ≡ []
+  no-header e = ap (λ (g : Reply (Got Header)). eventsRead (eventsBehind g)) (read-refused trace (readHeader trace) e)
 
 pub start-events : (gs : List GroupPairs) (trace : List ℕ) {s : Start} → prepare gs trace ≡ accept s → traceEvents trace ≡ s .events
 unfolding prepare
-start-events gs trace {s} e = go (readHeader trace) e
-  where
-    behind : (q : Contents) (g : Got (List Event)) → startOf q g ≡ accept s → eventsRead g ≡ s .events
-    behind q (bad n) f = let z : _≡_ {A = ℕ} 0 1 = cc in absurd (omega arith)
-    behind q (got es rest) f = let x : record { queue = q; events = es } ≡ s = cc in ap (λ (y : Start). y .events) x
-
-    opened : (rule : Ruled Contents) (g : Got (List Event)) → andThen rule (λ q. startOf q g) ≡ accept s → eventsRead g ≡ s .events
-    opened (refuse n) g f = let z : _≡_ {A = ℕ} 0 1 = cc in absurd (omega arith)
-    opened (accept q) g f = behind q g f
-
-    go : (h : Got Header) → andThen (openTrace gs h) (λ q. startOf q (eventsBehind h)) ≡ accept s → eventsRead (eventsBehind h) ≡ s .events
-    go h f = opened (openTrace gs h) (eventsBehind h) f
+start-events gs trace {s} e₀ =
+    let (q, opens, e₁) = andThen-accepts (openTrace gs (readHeader trace)) _ e₀ in
+    let (es, d, e₂) = andThen-accepts (eventsBehind (readHeader trace)) (λ l. accept (record { queue = q; events = l })) e₁ in
+    let x : record { queue = q; events = es } ≡ s = cc in
+    ap eventsRead d ∙ ap (λ (y : Start). y .events) x
 
 -- ---- a replay
-
--- no refusal is 0
-start-refuses : (q : Contents) (g : Got (List Event)) → named g ≡ true → (n : ℕ) → startOf q g ≡ refuse n → n ≡ 0 → ⊥
-start-refuses q (bad k) h n e z = let same : k ≡ n = cc in not-nought h (same ∙ z)
-start-refuses q (got es rest) h n e z = let y : _≡_ {A = ℕ} 0 1 = cc in absurd (omega arith)
-
-behind-named : (g : Got Header) → named g ≡ true → named (eventsBehind g) ≡ true
-behind-named (bad n) h = h
-behind-named (got x rest) h = events-named (length rest) rest
-
-prepare-refuses : (gs : List GroupPairs) (trace : List ℕ) (n : ℕ) → prepare gs trace ≡ refuse n → n ≡ 0 → ⊥
-unfolding prepare
-prepare-refuses gs trace n e z = go (openTrace gs (readHeader trace)) refl e
-  where
-    go : (rule : Ruled Contents) → openTrace gs (readHeader trace) ≡ rule
-        → andThen rule (λ q. startOf q (eventsBehind (readHeader trace))) ≡ refuse n → ⊥
-    go (refuse k) d f = let same : k ≡ n = cc in
-        false-true (sym (trace-refuses gs (readHeader trace) (header-named trace) k d) ∙ eq-eqb k 0 (same ∙ z))
-    go (accept q) d f = start-refuses q (eventsBehind (readHeader trace)) (behind-named (readHeader trace) (header-named trace)) n f z
-
 module _ (gs : List GroupPairs) (trace memory : List ℕ) (c : Counts) (b : Buffers) where
-  needed : (t : Bool) (k n : ℕ) {A : Type 0} (rest : Ruled A) → (k ≡ 0 → ⊥) → ((n : ℕ) → rest ≡ refuse n → n ≡ 0 → ⊥)
-      → need t k rest ≡ refuse n → n ≡ 0 → ⊥
-  needed true k n rest h more e z = more n e z
-  needed false k n rest h more e z = let same : k ≡ n = cc in h (same ∙ z)
-
-  pub replay-refuses : (n : ℕ) → replay gs trace memory c b ≡ refuse n → n ≡ 0 → ⊥
-  unfolding replay
-  replay-refuses n e z = go (prepare gs trace) refl e
-    where
-      go : (rule : Ruled Start) → prepare gs trace ≡ rule → andThen rule (replayStart memory c b) ≡ refuse n → ⊥
-      go (refuse k) d f = let same : k ≡ n = cc in prepare-refuses gs trace k d (same ∙ z)
-      go (accept s) d f =
-          needed (eqb (length memory) (s .queue .memoryLength)) wrongMemory n _ (λ y. omega (arith, y))
-          (λ m. needed (fits (length (s .events)) b) tooShort m _ (λ y. omega (arith, y))
-          (λ k g y. let w : _≡_ {A = ℕ} 0 1 = cc in omega (arith, w))) f z
-
   pub replay-events : (p : Replay) → replay gs trace memory c b ≡ accept p → length (p .log) ≡ length (traceEvents trace)
   unfolding replay
-  replay-events p e = go (prepare gs trace) refl e
-    where
-      done : (s : Start) → traceEvents trace ≡ s .events → replayed s memory c ≡ p → length (p .log) ≡ length (traceEvents trace)
-      done s is f = ap (λ (x : Replay). length (x .log)) (sym f) ∙ log-many _ (s .events) ∙ ap length (sym is)
-
-      tested : (t u : Bool) (s : Start) → traceEvents trace ≡ s .events
-          → need t wrongMemory (need u tooShort (accept (replayed s memory c))) ≡ accept p → length (p .log) ≡ length (traceEvents trace)
-      tested false u s is f = let w : _≡_ {A = ℕ} 0 1 = cc in absurd (omega arith)
-      tested true false s is f = let w : _≡_ {A = ℕ} 0 1 = cc in absurd (omega arith)
-      tested true true s is f = let same : replayed s memory c ≡ p = cc in done s is same
-
-      go : (rule : Ruled Start) → prepare gs trace ≡ rule → andThen rule (replayStart memory c b) ≡ accept p
-          → length (p .log) ≡ length (traceEvents trace)
-      go (refuse k) d f = let w : _≡_ {A = ℕ} 0 1 = cc in absurd (omega arith)
-      go (accept s) d f = tested (eqb (length memory) (s .queue .memoryLength)) (fits (length (s .events)) b) s (start-events gs trace d) f
+  replay-events p e₀ =
+      let (s, d, e₁) = andThen-accepts (prepare gs trace) (replayStart memory c b) e₀ in
+      let (t, e₂) = need-accepts (eqb (length memory) (s .queue .memoryLength)) wrongMemory _ e₁ in
+      let (u, e₃) = need-accepts (fits (length (s .events)) b) tooShort (accept (replayed s memory c)) e₂ in
+      let same : p ≡ replayed s memory c = cc in
+      ap (λ (x : Replay). length (x .log)) same ∙ log-many _ (s .events) ∙ ap length (sym (start-events gs trace d))
 
   -- what is kept of the record
   module _ (kept : ShiftRecord) (r : Replayed) (memory₂ : List ℕ) (b₂ : Buffers)
@@ -211,7 +145,7 @@ module _ (gs : List GroupPairs) (trace memory : List ℕ) (c : Counts) (b : Buff
     pub kept-refused : (r .answer ≡ 0 → ⊥) → kept ≡ keptAfter kept trace (replay gs trace memory c b)
     kept-refused apart = go (replay gs trace memory c b) w
       where
-        go : (rule : Ruled Replay) → Replays memory c b rule r memory₂ b₂ → kept ≡ keptAfter kept trace rule
+        go : (rule : Reply Replay) → Replays memory c b rule r memory₂ b₂ → kept ≡ keptAfter kept trace rule
         go (refuse n) v = refl
         go (accept p) v = absurd (apart (ap (λ (x : Replayed). x .answer) (v .outcome)))
 
@@ -219,8 +153,8 @@ module _ (gs : List GroupPairs) (trace memory : List ℕ) (c : Counts) (b : Buff
         → next ≡ keptAfter kept trace (replay gs trace memory c b)
     kept-accepted nought {next} e = go (replay gs trace memory c b) refl w
       where
-        go : (rule : Ruled Replay) → replay gs trace memory c b ≡ rule → Replays memory c b rule r memory₂ b₂ → next ≡ keptAfter kept trace rule
-        go (refuse n) d v = absurd (replay-refuses n d (sym (ap (λ (x : Replayed). x .answer) (v .outcome)) ∙ nought))
+        go : (rule : Reply Replay) → replay gs trace memory c b ≡ rule → Replays memory c b rule r memory₂ b₂ → next ≡ keptAfter kept trace rule
+        go (refuse n) d v = absurd (refused-some _ (replay-proper gs trace memory c b) d (sym (ap (λ (x : Replayed). x .answer) (v .outcome)) ∙ nought))
         go (accept p) d v =
             e ∙ ap (λ (x : Buffers). recordBuffered kept (traceEvents trace) (x .given) (x .values)) (v .buffers-are)
             ∙ buffered-log kept (traceEvents trace) (p .log) _ _ (replay-events p d)

@@ -3,21 +3,19 @@ use Prim.Native.Nat.{ℕ}
 use mathlib.Core.Path.{_≡_, refl, sym, ap, _∙_}
 use mathlib.Core.Bool.{Bool, true, false}
 use mathlib.Core.List.{List, [], _∷_}
-use mathlib.Core.Option.{Option, none, some}
 use lib.Dec.{eqb}
 use Rattle.number.specs.Basics.{pick}
 use Rattle.trace.specs.declared.Event.{Event}
 use Rattle.trace.specs.declared.Event.the-variants.{Activate, LoadAddress, StoreAddress, StoreData, Serve, Write, Take}
-use Rattle.counts.specs.declared.Counts.{Counts}
-use Rattle.queue.specs.Ruled.{Ruled, refuse, accept}
+use Rattle.number.specs.Reply.{Reply, refuse, accept}
 use Rattle.queue.specs.Take.{Taken, takeRule}
 use Rattle.sequential.specs.Calls as Calls
 use Rattle.sequential.specs.Answers.{Machine, Answered, takeResponse}
 use Rattle.replay.specs.Playing.{callOf, Playing, played, stepOf, Logged, logged, log}
 use Rattle.shift.specs.declared.ShiftRecord.{ShiftRecord}
 use Rattle.shift.specs.Record.{afterTake}
-use Rattle.shift.specs.Lists.{afterCall, recordAfter}
-use Rattle.paged.specs.Recorded.{afterEvent, recordFrom, callsOf, LogsOfCalls, RecordsOfCalls}
+use Rattle.shift.specs.Lists.{afterCall}
+use Rattle.paged.specs.Recorded.{afterEvent, recordFrom, LogsOfCalls, RecordsOfCalls}
 
 -- a call that is none of take leaves the record, whatever it is answered
 either : {A : Type 0} (t : Bool) (a : A) → pick t a a ≡ a
@@ -25,7 +23,7 @@ either true a = refl
 either false a = refl
 
 -- a refused take gives no value
-take-leaves : (r : ShiftRecord) (m : Machine) (port : ℕ) (rule : Ruled Taken)
+take-leaves : (r : ShiftRecord) (m : Machine) (port : ℕ) (rule : Reply Taken)
     → afterTake r port (takeResponse m rule .value) ≡ pick (eqb (takeResponse m rule .number) 0) (afterTake r port (takeResponse m rule .value)) r
 take-leaves r m port (refuse n) = sym (either (eqb n 0) r)
 take-leaves r m port (accept t) = refl

@@ -9,16 +9,16 @@ use lib.ListN.{length, drop, length-append, length-drop}
 use borrow.Author.Tests.{lt-leb, le-leb}
 use Rattle.number.specs.Basics.{pick}
 use Rattle.number.specs.Refusal.{pageTooShort, fileTooLong}
-use Rattle.number.specs.Number.{Got, got, bad, Puts, Wrote, accepts, unwritten}
+use Rattle.number.specs.Reply.{Reply, refuse, accept}
+use Rattle.number.specs.Number.{Puts, Wrote, unwritten}
 use Rattle.number.proofs.SpliceLaws.{splice-front}
 use Rattle.table.specs.Group.{GroupPairs}
 use Rattle.table.specs.TableBytes.{readTable}
 use Rattle.trace.specs.declared.Event.{Event}
-use Rattle.queue.specs.Ruled.{Ruled, refuse, accept}
 use Rattle.replay.specs.Replay.{Start, prepare, Buffers}
 use Rattle.replay.specs.Outcome.{logIn}
 use Rattle.replay.proofs.ReplayLaws.{log-many}
-use Rattle.printed.specs.Files.{mostBytes, Files, traceFault, run, startFiles, traceFiles, groupsFiles, tableFault, files, runOf}
+use Rattle.printed.specs.Files.{mostBytes, traceFault, run, startFiles, traceFiles, groupsFiles, tableFault, files, runOf}
 use Rattle.shift.specs.declared.ShiftRecord.{ShiftRecord}
 use Rattle.shift.specs.Record.{noTakes}
 use Rattle.shift.specs.Page.{page, pageBytes, pageWritten}
@@ -42,7 +42,7 @@ run-start : (gs : List GroupPairs) (trace : List ℕ) {s : Start} → traceFiles
 unfolding traceFiles
 run-start gs trace {s} e = go (ltb mostBytes (length trace)) (prepare gs trace) refl e
   where
-    go : (t : Bool) (rule : Ruled Start) → prepare gs trace ≡ rule → pick t (traceFault fileTooLong) (startFiles rule) ≡ run s
+    go : (t : Bool) (rule : Reply Start) → prepare gs trace ≡ rule → pick t (traceFault fileTooLong) (startFiles rule) ≡ run s
         → traceEvents trace ≡ s .events
     go true rule d f = let z : _≡_ {A = ℕ} 0 1 = cc in absurd (omega arith)
     go false (refuse n) d f = let z : _≡_ {A = ℕ} 0 1 = cc in absurd (omega arith)
@@ -52,10 +52,10 @@ pub run-events : (table trace : List ℕ) {s : Start} → files table trace ≡ 
 unfolding files
 run-events table trace {s} e = go (ltb mostBytes (length table)) (readTable table) e
   where
-    go : (t : Bool) (g : Got (List GroupPairs)) → pick t (tableFault fileTooLong) (groupsFiles trace g) ≡ run s → traceEvents trace ≡ s .events
+    go : (t : Bool) (g : Reply (List GroupPairs)) → pick t (tableFault fileTooLong) (groupsFiles trace g) ≡ run s → traceEvents trace ≡ s .events
     go true g f = let z : _≡_ {A = ℕ} 0 1 = cc in absurd (omega arith)
-    go false (bad n) f = let z : _≡_ {A = ℕ} 0 1 = cc in absurd (omega arith)
-    go false (got gs rest) f = run-start gs trace f
+    go false (refuse n) f = let z : _≡_ {A = ℕ} 0 1 = cc in absurd (omega arith)
+    go false (accept gs) f = run-start gs trace f
 
 -- the record of the run, from what playing it left in the buffers
 pub run-record : (table trace : List ℕ) {s : Start} → files table trace ≡ run s → (b₀ b : Buffers) → b ≡ logIn (runOf s .log) b₀
@@ -72,22 +72,22 @@ printed-short table trace out h = rw (lt-leb pageBytes (length out) h)
 
 pub printed-fits : (table trace out : List ℕ) → pageBytes ≤ length out
     → pagePrinted table trace out ≡ record {
-      answer = accepts (length (pageText table trace));
+      answer = accept (length (pageText table trace));
       buffer = pageText table trace ++ drop (length (pageText table trace)) out;
     }
 unfolding pagePrinted
 printed-fits table trace out h = rw (le-leb pageBytes (length out) h)
 
 abbrev wroteText : List ℕ → List ℕ → Wrote
-wroteText text out = record { answer = accepts (length text); buffer = text ++ drop (length text) out }
+wroteText text out = record { answer = accept (length text); buffer = text ++ drop (length text) out }
 
 -- no more bytes are printed than the buffer has: it keeps its length
-pub bytes-few : (table trace out : List ℕ) {left : List ℕ} {n : ℕ} → accepts n ≡ pagePrinted table trace out .answer
+pub bytes-few : (table trace out : List ℕ) {left : List ℕ} {n : ℕ} → accept n ≡ pagePrinted table trace out .answer
     → left ≡ pagePrinted table trace out .buffer → length left ≡ length out → n ≤ length out
 unfolding pagePrinted
 bytes-few table trace out {left} {n} e f long = go (leb pageBytes (length out)) e f
   where
-    go : (t : Bool) → accepts n ≡ pick {A = Wrote} t (wroteText (pageText table trace) out) (unwritten pageTooShort out) .answer
+    go : (t : Bool) → accept n ≡ pick {A = Wrote} t (wroteText (pageText table trace) out) (unwritten pageTooShort out) .answer
         → left ≡ pick {A = Wrote} t (wroteText (pageText table trace) out) (unwritten pageTooShort out) .buffer → n ≤ length out
     go true e f =
         let y : n ≡ length (pageText table trace) = cc in

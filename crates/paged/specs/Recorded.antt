@@ -1,18 +1,17 @@
 -- The record of a replay: "each accepted take updates a record".
 use Prim.Native.Nat.{ℕ, _<_}
 use mathlib.Core.Path.{_≡_}
-use mathlib.Core.Bool.{true}
 use mathlib.Core.List.{List, [], _∷_, map}
 use mathlib.Core.Option.{Option, none, some}
 use lib.Dec.{eqb}
 use lib.ListN.{length}
-use Rattle.number.specs.Basics.{pick, allOf}
-use Rattle.number.specs.Number.{Got, got, bad, isByte}
+use Rattle.number.specs.Basics.{pick}
+use Rattle.number.specs.Reply.{Reply, refuse, accept}
+use Rattle.number.specs.Number.{AreBytes}
 use Rattle.table.specs.Group.{GroupPairs}
 use Rattle.trace.specs.declared.Event.{Event}
 use Rattle.trace.specs.Event.{readHeader}
 use Rattle.counts.specs.declared.Counts.{Counts}
-use Rattle.queue.specs.Ruled.{Ruled, refuse, accept}
 use Rattle.sequential.specs.Calls.{Call}
 use Rattle.sequential.specs.Answers.{Answered, machine, answers}
 use Rattle.sequential.specs.Plain.{Filling}
@@ -49,9 +48,9 @@ recordBuffered r (e ∷ es) (g ∷ given) [] = r
 recordBuffered r (e ∷ es) (g ∷ given) (v ∷ values) = recordBuffered (afterEvent r e (valueGiven g v)) es given values
 
 -- the events of a trace's bytes; none where one of them, or a leading number, cannot be read
-abbrev pub eventsRead : Got (List Event) → List Event
-eventsRead (got es rest) = es
-eventsRead (bad n) = []
+abbrev pub eventsRead : Reply (List Event) → List Event
+eventsRead (accept es) = es
+eventsRead (refuse n) = []
 
 abbrev pub traceEvents : List ℕ → List Event
 traceEvents trace = eventsRead (eventsBehind (readHeader trace))
@@ -61,12 +60,12 @@ abbrev pub withoutRecord : ReplayRecorded → Replayed
 withoutRecord r = record { answer = r .answer; events = r .events; counts = r .counts }
 
 -- the record that it leaves: a refused one the very record that it was handed
-abbrev pub keptAfter : ShiftRecord → List ℕ → Ruled Replay → ShiftRecord
+abbrev pub keptAfter : ShiftRecord → List ℕ → Reply Replay → ShiftRecord
 keptAfter kept trace (refuse n) = kept
 keptAfter kept trace (accept p) = recordFrom kept (traceEvents trace) (p .log)
 
 -- a replay, by its own rule, and the record
-pub record RecordsReplay (memory : List ℕ) (c : Counts) (b : Buffers) (kept : ShiftRecord) (trace : List ℕ) (rule : Ruled Replay)
+pub record RecordsReplay (memory : List ℕ) (c : Counts) (b : Buffers) (kept : ShiftRecord) (trace : List ℕ) (rule : Reply Replay)
     (r : ReplayRecorded) (memory₂ : List ℕ) (b₂ : Buffers) : Type 0 where
   pub replays : Replays memory c b rule (withoutRecord r) memory₂ b₂
   pub kept-is : r .kept ≡ keptAfter kept trace rule
@@ -95,7 +94,7 @@ RecordsOfCalls = (r : ShiftRecord) (p : Playing) (es : List Event) → recordFro
 -- however missing arguments are filled in. The proof is proofs/RunsShow.antt.
 abbrev pub ReplaysShow : Type 0
 ReplaysShow =
-    (gs : List GroupPairs) (trace memory : List ℕ) (c : Counts) (b : Buffers) → allOf isByte trace ≡ true →
+    (gs : List GroupPairs) (trace memory : List ℕ) (c : Counts) (b : Buffers) → AreBytes trace →
     (p : Replay) → replay gs trace memory c b ≡ accept p →
     (s : Start) × (prepare gs trace ≡ accept s) ×
     ((fill : Filling) → ((k : ℕ) → fill .address k < length memory) →

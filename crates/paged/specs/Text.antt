@@ -2,19 +2,19 @@
 -- `play` prints. Which fault they have, or that they are a run, is said once, by `files` of the crate `printed`.
 use Prim.Native.Nat.{ℕ, _<_}
 use mathlib.Core.Path.{_≡_}
-use mathlib.Core.Bool.{true}
 use mathlib.Core.List.{List, _++_}
 use lib.Dec.{leb}
 use lib.ListN.{length, drop}
-use Rattle.number.specs.Basics.{pick, allOf}
+use Rattle.number.specs.Basics.{pick}
 use Rattle.number.specs.Refusal.{pageTooShort}
-use Rattle.number.specs.Number.{Wrote, accepts, unwritten, isByte}
+use Rattle.number.specs.Reply.{accept}
+use Rattle.number.specs.Number.{Wrote, unwritten, AreBytes}
 use Rattle.table.specs.Group.{GroupPairs}
-use Rattle.queue.specs.Ruled.{accept}
 use Rattle.sequential.specs.Answers.{Answered, machine, answers}
 use Rattle.sequential.specs.Plain.{Filling}
 use Rattle.replay.specs.Playing.{playing}
-use Rattle.replay.specs.Replay.{tableIn, Start}
+use Rattle.table.specs.TableBytes.{readTable}
+use Rattle.replay.specs.Replay.{Start}
 use Rattle.printed.specs.Files.{Files, tableFault, traceFault, run, files, noCounts, runMemory, runOf, tableFaultText, traceFaultText}
 use Rattle.shift.specs.declared.ShiftRecord.{ShiftRecord}
 use Rattle.shift.specs.Record.{noTakes}
@@ -41,7 +41,7 @@ unfoldable pub pagePrinted : List ℕ → List ℕ → List ℕ → Wrote
 pagePrinted table trace buffer =
     pick (leb pageBytes (length buffer))
     (record {
-      answer = accepts (length (pageText table trace));
+      answer = accept (length (pageText table trace));
       buffer = pageText table trace ++ drop (length (pageText table trace)) buffer;
     })
     (unwritten pageTooShort buffer)
@@ -56,6 +56,6 @@ runAnswers s = answers (machine (s .queue) (runMemory s)) (callsOf (playing (s .
 -- and these are the plain run's of that table and these calls, however missing arguments are filled in.
 abbrev pub RunsShow : Type 0
 RunsShow =
-    (table trace : List ℕ) → allOf isByte trace ≡ true → (s : Start) → files table trace ≡ run s →
-    (pageText table trace ≡ page (recordOf s)) × (groups : List GroupPairs) × (tableIn table ≡ accept groups) ×
+    (table trace : List ℕ) → AreBytes trace → (s : Start) → files table trace ≡ run s →
+    (pageText table trace ≡ page (recordOf s)) × (groups : List GroupPairs) × (readTable table ≡ accept groups) ×
     ((fill : Filling) → ((k : ℕ) → fill .address k < s .queue .memoryLength) → Shows groups (runMemory s) (runAnswers s) fill (recordOf s))

@@ -1,7 +1,7 @@
 -- K1 to K10, proved together from the definitions, by computation.
 use mathlib.Core.Path.{refl}
-use Rattle.number.specs.Number.{numberUpTo, bytesUpTo}
-use Rattle.table.specs.Table.{pairsFault, seeing, groupFault, groupsFault, tableFault}
+use Rattle.number.specs.Number.{numberUpTo, readNumber, bytesUpTo}
+use Rattle.table.specs.Table.{checkPairs, seeing, checkGroup, checkGroups, checkTable}
 use Rattle.table.specs.TableBytes.{readPairs, readGroup, readGroups, readTable}
 use Rattle.trace.specs.Event.{readEvent, readHeader}
 use Rattle.trace.specs.Trace.{eventsUpTo}
@@ -18,6 +18,6 @@ use Rattle.printed.specs.Files.{traceFiles, files}
 use Rattle.printed.specs.Cases.{AllCasesHold}
 
 pub all-cases-hold : AllCasesHold
-unfolding files traceFiles digitsUpTo prepare eventsUpTo numberUpTo bytesUpTo pairsFault seeing groupFault groupsFault tableFault readPairs
-    readGroup readGroups readTable readEvent readHeader sound openQueue activate give serve write takeRule
+unfolding files traceFiles digitsUpTo prepare eventsUpTo numberUpTo readNumber bytesUpTo checkPairs seeing checkGroup checkGroups checkTable
+    readPairs readGroup readGroups readTable readEvent readHeader sound openQueue activate give serve write takeRule
 all-cases-hold = refl

@@ -10,21 +10,22 @@ use lib.ListN.{length, getD, set, take, drop, replicate, length-append, length-d
 use lib.Seq.{drop-cons, drop-length, set-at, append-snoc}
 use borrow.Author.Tests.{lt-ltb, le-ltb, le-leb, leb-true}
 use Rattle.number.specs.Refusal.{tooShort, fileTooLong}
-use Rattle.number.specs.Number.{Got, got, bad}
+use Rattle.number.specs.Reply.{Reply, refuse, accept}
+use Rattle.number.specs.Number.{Got}
 use Rattle.number.proofs.Both.{and-left, and-right}
 use Rattle.table.specs.Group.{GroupPairs}
 use Rattle.table.specs.TableBytes.{readTable}
 use Rattle.trace.specs.declared.Event.{Event}
 use Rattle.trace.specs.declared.Header.{Header}
 use Rattle.counts.specs.declared.Counts.{Counts}
-use Rattle.queue.specs.Ruled.{accept}
 use Rattle.queue.specs.Contents.{Contents}
 use Rattle.sequential.proofs.Run.{limits-opened}
 use Rattle.replay.specs.declared.Replayed.{Replayed}
 use Rattle.replay.specs.Events.{eventsFrom}
 use Rattle.replay.specs.Replay.{Start, startOf, openTrace, prepare, replayed, Buffers, fits, replayFrom}
 use Rattle.replay.specs.Outcome.{atFront, logIn, ReplayedWell, Replays}
-use Rattle.replay.proofs.Named.{named, not-nought, events-named}
+use Rattle.number.proofs.ReplyLaws.{thenRead-accepts, notZero, refused-some}
+use Rattle.trace.proofs.Among.{events-among}
 use Rattle.replay.proofs.EventLaws.{events-few-from}
 use Rattle.replay.proofs.ReplayLaws.{replay-accepted, long-enough}
 use Rattle.printed.specs.declared.files.FilesPlayed.{FilesPlayed}
@@ -49,19 +50,19 @@ module _ (table trace : List ℕ) where
   unfolding files
   table-long h = rw (lt-ltb mostBytes (length table) h)
 
-  pub table-fault : {n : ℕ} → length table ≤ mostBytes → readTable table ≡ bad n → files table trace ≡ tableFault n
+  pub table-fault : {n : ℕ} → length table ≤ mostBytes → readTable table ≡ refuse n → files table trace ≡ tableFault n
   unfolding files
   table-fault h e = rw (le-ltb mostBytes (length table) h, e)
 
-  pub table-right : {gs : List GroupPairs} {rest : List ℕ} → length table ≤ mostBytes → readTable table ≡ got gs rest
+  pub table-right : {gs : List GroupPairs} → length table ≤ mostBytes → readTable table ≡ accept gs
       → files table trace ≡ traceFiles gs trace
   unfolding files
   table-right h e = rw (le-ltb mostBytes (length table) h, e)
 
 -- ---- opening
-pub opened-words : (gs : List GroupPairs) (g : Got Header) {q : Contents} → openTrace gs g ≡ accept q → q .memoryLength ≤ mostWords
-opened-words gs (bad n) e = let z : _≡_ {A = ℕ} 0 1 = cc in absurd (omega arith)
-opened-words gs (got h rest) {q} e =
+pub opened-words : (gs : List GroupPairs) (g : Reply (Got Header)) {q : Contents} → openTrace gs g ≡ accept q → q .memoryLength ≤ mostWords
+opened-words gs g {q} e₀ =
+    let (h, rest, d, e) = thenRead-accepts g _ e₀ in
     let (limits, is) = limits-opened gs (h .«load_depth») (h .«store_depth») (h .first) (h .«memory_length») q e in
     rw (sym is) (leb-true _ _ (and-right (leb 1 (h .«memory_length»)) (leb (h .«memory_length») 4096) (limits .wordsRight)))
 
@@ -215,7 +216,7 @@ pub record PlaysAs (q : Contents) (trace : List ℕ) (at : ℕ) (memory : List �
 -- a replay on the memory's front, with room for every event, is refused for an event alone
 module _ (q : Contents) {trace memory : List ℕ} (at : ℕ) {b : Buffers} (words : ℕ) (r : Replayed) (front₂ : List ℕ) (b₂ : Buffers)
     (lent : Playable q trace memory b) (are : words ≡ q .memoryLength) where
-  abbrev Plays : Got (List Event) → Type 0
+  abbrev Plays : Reply (List Event) → Type 0
   Plays g = Replays (take words memory) noCounts b (replayFrom q g (take words memory) noCounts b) r front₂ b₂
 
   abbrev Told : Files → FilesPlayed → Type 0
@@ -239,26 +240,26 @@ module _ (q : Contents) {trace memory : List ℕ} (at : ℕ) {b : Buffers} (word
   pub plays : Plays (eventsFrom trace at) → PlaysAs q trace at memory b words r (front₂ ++ drop words memory) b₂
   plays v = go (eventsFrom trace at) refl v
     where
-      go : (g : Got (List Event)) → eventsFrom trace at ≡ g → Plays g → PlaysAs q trace at memory b words r (front₂ ++ drop words memory) b₂
-      go (bad n) d v =
+      go : (g : Reply (List Event)) → eventsFrom trace at ≡ g → Plays g → PlaysAs q trace at memory b words r (front₂ ++ drop words memory) b₂
+      go (refuse n) d v =
           let answer : r .answer ≡ n = ap (λ (x : Replayed). x .answer) (v .outcome) in
-          let proper = sym (ap named d) ∙ events-named _ (drop at trace) in
+          let proper = refused-some (eventsFrom trace at) (events-among notZero refl refl refl refl _ (drop at trace)) d in
           record {
             fault = λ apart. rw d (record {
               outcome = ap ofTrace answer;
               memory-is = rw (v .memory-is) (take-append-drop words memory);
               buffers-are = v .buffers-are;
             });
-            well = λ nought. absurd (not-nought proper (sym answer ∙ nought));
+            well = λ nought. absurd (proper (sym answer ∙ nought));
           }
-      go (got es rest) d v =
+      go (accept es) d v =
           let few : length es ≤ mostBytes = omega (arith, events-few-from trace at d, lent .short) in
           let long : length (take words memory) ≡ q .memoryLength = ap length zeros ∙ length-replicate (q .memoryLength) 0 in
           let (a, g, w) = room-for mostBytes b (lent .cleared .room .places) in
           let fit = long-enough (length es) b (omega (arith, few, a)) (omega (arith, few, g)) (omega (arith, few, w)) in
           let s : Start = record { queue = q; events = es } in
           let u : ReplayedWell (replayed s (take words memory) noCounts) b r front₂ b₂ =
-          rw (replay-accepted q (got es rest) (take words memory) noCounts b refl long fit) at v in
+          rw (replay-accepted q (accept es) (take words memory) noCounts b refl long fit) at v in
           record {
             fault = λ apart. absurd (apart (ap (λ (x : Replayed). x .answer) (u .outcome)));
             well = λ nought. rw d (runs s refl (rw zeros at u));

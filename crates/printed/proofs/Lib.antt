@@ -5,3 +5,4 @@ pub mod PlayedLaws
 pub mod FilesLaws
 pub mod TextLaws
 pub mod TextFits
+pub mod FilesWritten

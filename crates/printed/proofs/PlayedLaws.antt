@@ -1,12 +1,12 @@
 -- Laws of playing events: what is logged, and the memory's length.
-use Prim.Native.Nat.{ℕ, suc}
+use Prim.Native.Nat.{ℕ}
 use mathlib.Core.Path.{_≡_, refl, ap, _∙_}
 use mathlib.Core.List.{List, [], _∷_}
 use lib.ListN.{length, length-replicate, length-set}
 use Rattle.trace.specs.declared.Event.{Event}
 use Rattle.trace.specs.declared.Event.the-variants.{Activate, LoadAddress, StoreAddress, StoreData, Serve, Write, Take}
 use Rattle.queue.specs.declared.arguments.Argument.the-variants as Argument
-use Rattle.queue.specs.Ruled.{Ruled, refuse, accept}
+use Rattle.number.specs.Reply.{Reply, refuse, accept}
 use Rattle.queue.specs.Contents.{Contents}
 use Rattle.queue.specs.Activate.{activate}
 use Rattle.queue.specs.Arguments.{give}
@@ -22,19 +22,19 @@ use Rattle.replay.proofs.ReplayLaws.{log-many}
 use Rattle.printed.specs.Files.{runOf}
 
 -- ---- a memory keeps its length
-moved-long : (m : Machine) (rule : Ruled Contents) → length (moveResponse m rule .machine .memory) ≡ length (m .memory)
+moved-long : (m : Machine) (rule : Reply Contents) → length (moveResponse m rule .machine .memory) ≡ length (m .memory)
 moved-long m (refuse n) = refl
 moved-long m (accept q) = refl
 
-served-long : (m : Machine) (rule : Ruled Served) → length (serveResponse m rule .machine .memory) ≡ length (m .memory)
+served-long : (m : Machine) (rule : Reply Served) → length (serveResponse m rule .machine .memory) ≡ length (m .memory)
 served-long m (refuse n) = refl
 served-long m (accept s) = refl
 
-taken-long : (m : Machine) (rule : Ruled Taken) → length (takeResponse m rule .machine .memory) ≡ length (m .memory)
+taken-long : (m : Machine) (rule : Reply Taken) → length (takeResponse m rule .machine .memory) ≡ length (m .memory)
 taken-long m (refuse n) = refl
 taken-long m (accept t) = refl
 
-written-long : (m : Machine) (serial : ℕ) (rule : Ruled Written) → write (m .queue) (m .memory) serial ≡ rule
+written-long : (m : Machine) (serial : ℕ) (rule : Reply Written) → write (m .queue) (m .memory) serial ≡ rule
     → length (writeResponse m rule .machine .memory) ≡ length (m .memory)
 written-long m serial (refuse n) h = refl
 written-long m serial (accept r) h =

@@ -9,16 +9,15 @@ use lib.ListN.{length, drop, length-append}
 use borrow.Author.Tests.{leb-true, ltb-false}
 use Rattle.number.specs.Basics.{pick}
 use Rattle.number.specs.Refusal.{tooShort, fileTooLong}
-use Rattle.number.specs.Number.{Got, got, bad, accepts, Wrote, unwritten}
+use Rattle.number.specs.Reply.{Reply, refuse, accept}
+use Rattle.number.specs.Number.{Wrote, unwritten}
 use Rattle.table.specs.Group.{GroupPairs}
 use Rattle.table.specs.TableBytes.{readTable}
-use Rattle.trace.specs.declared.Event.{Event}
 use Rattle.trace.specs.Event.{readHeader}
 use Rattle.counts.specs.declared.Counts.{Counts}
 use Rattle.counts.specs.Counts.{share}
-use Rattle.queue.specs.Ruled.{Ruled, refuse, accept}
 use Rattle.queue.specs.Contents.{Contents}
-use Rattle.queue.proofs.Refusals.{andThen-accepts}
+use Rattle.number.proofs.ReplyLaws.{andThen-accepts}
 use Rattle.replay.specs.Events.{eventsFrom}
 use Rattle.replay.specs.Replay.{Start, startOf, openTrace, prepare}
 use Rattle.replay.specs.Outcome.{placeIn}
@@ -40,13 +39,10 @@ record SmallText (s : Start) : Type 0 where
 
 start-small : (q : Contents) (trace : List ℕ) (at : ℕ) {s : Start} → q .memoryLength ≤ 4096 → length trace ≤ mostBytes
     → startOf q (eventsFrom trace at) ≡ accept s → SmallText s
-start-small q trace at {s} h k e = go (eventsFrom trace at) refl e
-  where
-    go : (g : Got (List Event)) → eventsFrom trace at ≡ g → startOf q g ≡ accept s → SmallText s
-    go (bad n) d f = let z : _≡_ {A = ℕ} 0 1 = cc in absurd (omega arith)
-    go (got es left) d f =
-        let y : s ≡ record { queue = q; events = es } = cc in
-        rw y (record { events = omega (arith, events-few-from trace at d); memory-few = h })
+start-small q trace at {s} h k e =
+    let (es, d, f) = andThen-accepts (eventsFrom trace at) (λ l. accept (record { queue = q; events = l })) e in
+    let y : s ≡ record { queue = q; events = es } = cc in
+    rw y (record { events = omega (arith, events-few-from trace at d); memory-few = h })
 
 prepare-small : (gs : List GroupPairs) (trace : List ℕ) {s : Start} → length trace ≤ mostBytes → prepare gs trace ≡ accept s → SmallText s
 unfolding prepare
@@ -55,7 +51,7 @@ prepare-small gs trace k e =
     let place = events-place gs trace (readHeader trace) refl opens in
     start-small q trace (placeIn trace (readHeader trace)) (opened-words gs (readHeader trace) opens) k (ap (startOf q) (sym place) ∙ starts)
 
-start-run : (rule : Ruled Start) {s : Start} → startFiles rule ≡ run s → rule ≡ accept s
+start-run : (rule : Reply Start) {s : Start} → startFiles rule ≡ run s → rule ≡ accept s
 start-run (refuse n) e = let z : _≡_ {A = ℕ} 0 1 = cc in absurd (omega arith)
 start-run (accept s) e = cc
 
@@ -67,9 +63,9 @@ trace-small gs trace {s} e = go (ltb mostBytes (length trace)) refl e
     go true d e = let z : _≡_ {A = ℕ} 0 1 = cc in absurd (omega arith)
     go false d e = prepare-small gs trace (ltb-false mostBytes (length trace) d) (start-run (prepare gs trace) e)
 
-groups-small : (trace : List ℕ) (g : Got (List GroupPairs)) {s : Start} → groupsFiles trace g ≡ run s → SmallText s
-groups-small trace (got gs rest) e = trace-small gs trace e
-groups-small trace (bad n) e = let z : _≡_ {A = ℕ} 0 1 = cc in absurd (omega arith)
+groups-small : (trace : List ℕ) (g : Reply (List GroupPairs)) {s : Start} → groupsFiles trace g ≡ run s → SmallText s
+groups-small trace (accept gs) e = trace-small gs trace e
+groups-small trace (refuse n) e = let z : _≡_ {A = ℕ} 0 1 = cc in absurd (omega arith)
 
 files-small : (table trace : List ℕ) {s : Start} → files table trace ≡ run s → SmallText s
 unfolding files
@@ -128,13 +124,13 @@ pub text-fits : TextFits
 text-fits table trace = files-few (files table trace) λ s e. files-small table trace e
 
 -- what is printed is no longer than the buffer
-pub bytes-few : (table trace out : List ℕ) {n : ℕ} → accepts n ≡ printed table trace out .answer → n ≤ length out
+pub bytes-few : (table trace out : List ℕ) {n : ℕ} → accept n ≡ printed table trace out .answer → n ≤ length out
 unfolding printed
 bytes-few table trace out {n} h = go (leb mostText (length out)) refl h
   where
     go : (t : Bool) → leb mostText (length out) ≡ t
-        → accepts n ≡ pick {A = Wrote} t
-        (record { answer = accepts (length (text table trace)); buffer = text table trace ++ drop (length (text table trace)) out })
+        → accept n ≡ pick {A = Wrote} t
+        (record { answer = accept (length (text table trace)); buffer = text table trace ++ drop (length (text table trace)) out })
         (unwritten tooShort out) .answer → n ≤ length out
     go true e f = let y : n ≡ length (text table trace) = cc in omega (arith, text-fits table trace, leb-true mostText (length out) e)
     go false e f = let z : _≡_ {A = ℕ} 0 1 = cc in absurd (omega arith)

@@ -8,7 +8,8 @@ use lib.ListN.{length, take, drop, length-append, length-map}
 use lib.Seq.{take-at}
 use borrow.Author.Tests.{lt-leb, le-leb}
 use Rattle.number.specs.Refusal.{tooShort}
-use Rattle.number.specs.Number.{accepts, unwritten, Puts}
+use Rattle.number.specs.Reply.{accept}
+use Rattle.number.specs.Number.{unwritten, Puts}
 use Rattle.number.proofs.SpliceLaws.{splice-front}
 use Rattle.counts.specs.declared.Counts.{Counts}
 use Rattle.replay.specs.Playing.{Logged, answerOf, givenOf, wordOf}
@@ -55,7 +56,7 @@ printed-short table trace out h = rw (lt-leb mostText (length out) h)
 
 pub printed-fits : (table trace out : List ℕ) → mostText ≤ length out
     → printed table trace out ≡ record {
-      answer = accepts (length (text table trace));
+      answer = accept (length (text table trace));
       buffer =
           text table trace ++ drop (length (text table trace)) out;
     }

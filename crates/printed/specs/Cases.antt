@@ -3,12 +3,12 @@
 use Prim.Native.Nat.{ℕ}
 use mathlib.Core.Path.{_≡_}
 use mathlib.Core.List.{List, [], _∷_, _++_, map}
-use Rattle.number.specs.Number.{Got, got, bad, readNumber, numberBytes}
+use Rattle.number.specs.Reply.{Reply, refuse, accept, andThen, number}
+use Rattle.number.specs.Number.{Got, got, readNumber, numberBytes}
 use Rattle.table.specs.Group.{GroupPairs, Access, load, store, order}
 use Rattle.table.specs.Table.{noneSeen}
 use Rattle.table.specs.TableBytes.{readGroup, readTable}
 use Rattle.counts.specs.Counts.{share}
-use Rattle.queue.specs.Ruled.{number}
 use Rattle.queue.specs.Open.{openQueue}
 use Rattle.number.specs.Texts.{bytes}
 use Rattle.printed.specs.Text.{text}
@@ -21,15 +21,10 @@ pub record Case : Type 0 where
 abbrev case : ℕ → List ℕ → List ℕ → Case
 case n g e = record { number = n; given = g; expected = e }
 
--- a refusal, where there is one; else 0
-abbrev pub refusalOf : {A : Type 0} → Got A → ℕ
-refusalOf (got a s) = 0
-refusalOf (bad n) = n
-
 -- the number read, where there is one
-abbrev pub numberRead : Got ℕ → List ℕ
-numberRead (got n s) = n ∷ []
-numberRead (bad k) = []
+abbrev pub numberRead : Reply (Got ℕ) → List ℕ
+numberRead (accept (got n s)) = n ∷ []
+numberRead (refuse k) = []
 
 -- an access as two numbers: 0 for a load or 1 for a store, and its port
 abbrev pub shownAccesses : List Access → List ℕ
@@ -37,13 +32,12 @@ shownAccesses [] = []
 shownAccesses (load p ∷ rest) = 0 ∷ p ∷ shownAccesses rest
 shownAccesses (store p ∷ rest) = 1 ∷ p ∷ shownAccesses rest
 
-abbrev pub orderOf : Got GroupPairs → List ℕ
-orderOf (got g s) = shownAccesses (order g)
-orderOf (bad n) = []
+abbrev pub orderOf : Reply (Got GroupPairs) → List ℕ
+orderOf (accept (got g s)) = shownAccesses (order g)
+orderOf (refuse n) = []
 
-abbrev pub openedAt : ℕ → ℕ → ℕ → Got (List GroupPairs) → ℕ
-openedAt loads stores words (got gs s) = number (openQueue gs loads stores 0 words)
-openedAt loads stores words (bad n) = n
+abbrev pub openedAt : ℕ → ℕ → ℕ → Reply (List GroupPairs) → ℕ
+openedAt loads stores words table = number (andThen table λ gs. openQueue gs loads stores 0 words)
 
 -- K1's table, and its trace event by event
 abbrev pub k1Table : List ℕ
@@ -99,11 +93,11 @@ cases =
     ∷ case 3 (numberBytes 128) (0x80 ∷ 0x01 ∷ [])
     ∷ case 3 (numberRead (readNumber (0x80 ∷ 0x01 ∷ []))) (128 ∷ [])
     -- K4: FF FF FF FF 10 gets 2
-    ∷ case 4 (refusalOf (readNumber (0xFF ∷ 0xFF ∷ 0xFF ∷ 0xFF ∷ 0x10 ∷ [])) ∷ []) (2 ∷ [])
+    ∷ case 4 (number (readNumber (0xFF ∷ 0xFF ∷ 0xFF ∷ 0xFF ∷ 0x10 ∷ [])) ∷ []) (2 ∷ [])
     -- K5: group 2,2,0,4,2,5,1,3,1,4 is load 4, store 3, store 4, load 5
     ∷ case 5 (orderOf (readGroup noneSeen k5Group)) (shownAccesses (load 4 ∷ store 3 ∷ store 4 ∷ load 5 ∷ []))
     -- K6: with first store offset 0 it gets 8
-    ∷ case 6 (refusalOf (readGroup noneSeen k6Group) ∷ []) (8 ∷ [])
+    ∷ case 6 (number (readGroup noneSeen k6Group) ∷ []) (8 ∷ [])
     -- K7: K5, alone in its table, opened at load depth 1 with store depth 2 and memory length 4 gets 14
     ∷ case 7 (openedAt 1 2 4 (readTable (2 ∷ 1 ∷ k5Group)) ∷ []) (14 ∷ [])
     -- K8: a third activation after K1's event 2, or after event 7, gets 21

@@ -6,12 +6,11 @@ use lib.Dec.{ltb}
 use lib.ListN.{length, replicate}
 use Rattle.number.specs.Basics.{pick}
 use Rattle.number.specs.Refusal.{fileTooLong}
-use Rattle.number.specs.Number.{Got, got, bad}
+use Rattle.number.specs.Reply.{Reply, refuse, accept}
 use Rattle.number.specs.Texts.{bytes, decimal}
 use Rattle.table.specs.Group.{GroupPairs}
 use Rattle.table.specs.TableBytes.{readTable}
 use Rattle.counts.specs.declared.Counts.{Counts}
-use Rattle.queue.specs.Ruled.{Ruled, refuse, accept}
 use Rattle.replay.specs.Replay.{Start, prepare, Replay, replayed}
 use Rattle.printed.specs.Words.{line}
 
@@ -31,7 +30,7 @@ pub data Files : Type 0 where
 
 -- "a fault in the trace's four leading numbers, then in opening, then in any event, found before one is played, prints
 -- `trace N`"
-abbrev pub startFiles : Ruled Start → Files
+abbrev pub startFiles : Reply Start → Files
 startFiles (refuse n) = traceFault n
 startFiles (accept s) = run s
 
@@ -39,9 +38,9 @@ unfoldable pub traceFiles : List GroupPairs → List ℕ → Files
 traceFiles gs trace = pick (ltb mostBytes (length trace)) (traceFault fileTooLong) (startFiles (prepare gs trace))
 
 -- "A table fault prints one line `table N`": nothing of the trace is told where the table has one
-abbrev pub groupsFiles : List ℕ → Got (List GroupPairs) → Files
-groupsFiles trace (got gs rest) = traceFiles gs trace
-groupsFiles trace (bad n) = tableFault n
+abbrev pub groupsFiles : List ℕ → Reply (List GroupPairs) → Files
+groupsFiles trace (accept gs) = traceFiles gs trace
+groupsFiles trace (refuse n) = tableFault n
 
 -- what both files' bytes are
 unfoldable pub files : List ℕ → List ℕ → Files

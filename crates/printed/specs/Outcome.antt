@@ -5,7 +5,8 @@ use lib.Dec.{leb}
 use lib.ListN.{length, drop}
 use Rattle.number.specs.Basics.{pick}
 use Rattle.number.specs.Refusal.{tooShort}
-use Rattle.number.specs.Number.{accepts, Wrote, unwritten}
+use Rattle.number.specs.Reply.{accept}
+use Rattle.number.specs.Number.{Wrote, unwritten}
 use Rattle.printed.specs.Files.{mostBytes}
 use Rattle.printed.specs.Text.{text}
 
@@ -25,5 +26,5 @@ TextSome = (table trace : List ℕ) → 0 < length (text table trace)
 unfoldable pub printed : List ℕ → List ℕ → List ℕ → Wrote
 printed table trace buffer =
     pick (leb mostText (length buffer))
-    (record { answer = accepts (length (text table trace)); buffer = text table trace ++ drop (length (text table trace)) buffer })
+    (record { answer = accept (length (text table trace)); buffer = text table trace ++ drop (length (text table trace)) buffer })
     (unwritten tooShort buffer)

@@ -20,7 +20,7 @@ use Rattle.queue.specs.Contents.{Contents, loadOf, storeOf, loadIn, stor
 use Rattle.queue.specs.declared.Entry.{Entry}
 use Rattle.queue.specs.Entry.{entryOf}
 use Rattle.number.specs.Refusal.{unsound, noGroup, noPlace}
-use Rattle.queue.specs.Ruled.{refuse, accept, need}
+use Rattle.number.specs.Reply.{refuse, accept, need}
 use Rattle.queue.specs.Sound.{sound}
 use Rattle.queue.specs.Activate.{newLoads, newStores, room, withGroup, activate}
 use Rattle.queue.specs.Parts.{queueOf}
@@ -49,7 +49,8 @@ module _ {g : GroupPairs} (right : GroupRight g) (n : ℕ) where
   new-loads = ap (map (loadAfter n)) (sym (right .loads-are)) ∙ sym (new-loads-offsets n 0 (order g)) ∙ ap (λ (m : ℕ). newLoads m (order g)) (add-zero n)
 
   new-stores : map (storeAfter n) (g .stores) ≡ newStores n (order g)
-  new-stores = ap (map (storeAfter n)) (sym (right .stores-are)) ∙ sym (new-stores-offsets n 0 (order g)) ∙ ap (λ (m : ℕ). newStores m (order g)) (add-zero n)
+  new-stores =
+      ap (map (storeAfter n)) (sym (right .stores-are)) ∙ sym (new-stores-offsets n 0 (order g)) ∙ ap (λ (m : ℕ). newStores m (order g)) (add-zero n)
 
 -- in a right group the offsets say what the order says
 pub with-group-is : (q : Contents) (g : GroupPairs) → GroupRight g → withPairs q g ≡ withGroup q g

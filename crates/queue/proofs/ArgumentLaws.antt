@@ -18,7 +18,7 @@ use Rattle.queue.specs.declared.arguments.Argument.{Argument}
 use Rattle.queue.specs.declared.arguments.Argument.the-variants.{LoadAddress, StoreAddress, StoreData}
 use Rattle.queue.specs.Contents.{ofKind}
 use Rattle.number.specs.Refusal.{unsound, noPort, badAddress, noneWaits}
-use Rattle.queue.specs.Ruled.{accept, need}
+use Rattle.number.specs.Reply.{accept, need}
 use Rattle.queue.specs.Entry.{entryOf, numberOf, Small}
 use Rattle.queue.specs.Contents.{Load, Store, Contents, loadOf, storeOf, contentsOf, withLoads, withStores, updateAt, firstPlace}
 use Rattle.queue.specs.Sound.{sound}
@@ -50,7 +50,8 @@ any-place p (x ∷ l) = go (p x) (any-place p l)
 
 -- ---- once an argument is given
 -- an entry's number has room for it
-given-small : (argument : Argument) (x : ℕ) → x < 4294967296 → inRange argument 65536 x ≡ true → (e : Entry) → Small e → Small (withArgument argument x e)
+given-small : (argument : Argument) (x : ℕ) → x < 4294967296 → inRange argument 65536 x ≡ true → (e : Entry) → Small e
+    → Small (withArgument argument x e)
 given-small LoadAddress a k h e s = record { port = s .port; before = s .before; address = ltb-true a 65536 h; word = s .word }
 given-small StoreAddress a k h e s = record { port = s .port; before = s .before; address = ltb-true a 65536 h; word = s .word }
 given-small StoreData w k h e s = record { port = s .port; before = s .before; address = s .address; word = k }

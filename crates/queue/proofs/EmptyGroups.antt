@@ -5,17 +5,17 @@ use native.Mathlib.Omega.{arith}
 use mathlib.Core.Path.{_≡_, refl, ap, _∙_}
 use mathlib.Core.Bool.{Bool, true, false, _&&_}
 use mathlib.Core.List.{List, [], _∷_, _++_, append-nil}
-use lib.Dec.{eqb, leb}
+use lib.Dec.{leb}
 use lib.ListN.{length, replicate}
 use borrow.Author.Tests.{le-leb}
 use Rattle.number.specs.Basics.{anyOf, allOf}
 use Rattle.number.specs.Refusal.{unsound, badLoadDepth, badStoreDepth, badMemoryLength, groupTooLarge}
 use Rattle.table.specs.Group.{GroupPairs, emptyGroup}
-use Rattle.table.specs.Table.{tableFault}
+use Rattle.table.specs.Table.{checkTable}
 use Rattle.table.proofs.EmptyGroups.{empty-groups-leave-fault, empty-tables}
 use Rattle.queue.specs.declared.Kind.{Kind}
 use Rattle.queue.specs.declared.Kind.the-variants.{Load as load, Store as store}
-use Rattle.queue.specs.Ruled.{accept, need, number}
+use Rattle.number.specs.Reply.{accept, need, number, Reply, accepted, andThen, refuse}
 use Rattle.queue.specs.Contents.{Contents, contentsOf, after}
 use Rattle.queue.specs.Sound.{depthRight, memoryRight, loadRight, storeRight, sound}
 use Rattle.queue.specs.Open.{groupFits, opened, openQueue}
@@ -32,7 +32,7 @@ held-within q s =
     let p = parts (depthRight (q .loadDepth)) (depthRight (q .storeDepth)) (memoryRight (q .memoryLength))
     (leb (length (q .loads)) (q .loadDepth)) (leb (length (q .stores)) (q .storeDepth))
     (allOf (loadRight (q .memoryLength) (length (q .stores))) (q .loads)) (allOf (storeRight (q .memoryLength) (length (q .loads))) (q .stores))
-    (eqb (tableFault (q .groups)) 0) s in
+    (accepted (checkTable (q .groups))) s in
     (p .part4, p .part5)
 
 pub empty-groups-find-room : EmptyGroupsFindRoom
@@ -68,20 +68,20 @@ pub empty-groups-open : EmptyGroupsOpen
 unfolding openQueue
 empty-groups-open before after loadDepth storeDepth first words some few =
     rw (empty-groups-leave-fault before after some few, fits-alike loadDepth storeDepth before after)
-    (go (eqb (tableFault (before ++ after)) 0) (depthRight loadDepth) (depthRight storeDepth) (memoryRight words)
+    (go (checkTable (before ++ after)) (depthRight loadDepth) (depthRight storeDepth) (memoryRight words)
     (allOf (groupFits loadDepth storeDepth) (before ++ after)))
   where
-    go : (a b c d e : Bool) →
-        number (need a (tableFault (before ++ after)) (need b badLoadDepth (need c badStoreDepth (need d badMemoryLength (need e groupTooLarge
-        (accept (opened (before ++ emptyGroup ∷ after) loadDepth storeDepth first words)))))))
-        ≡ number (need a (tableFault (before ++ after)) (need b badLoadDepth (need c badStoreDepth (need d badMemoryLength (need e groupTooLarge
-        (accept (opened (before ++ after) loadDepth storeDepth first words)))))))
-    go false b c d e = refl
-    go true false c d e = refl
-    go true true false d e = refl
-    go true true true false e = refl
-    go true true true true false = refl
-    go true true true true true = refl
+    go : (r : Reply (Unit {0})) (b c d e : Bool) →
+        number (andThen r λ right. need b badLoadDepth (need c badStoreDepth (need d badMemoryLength (need e groupTooLarge
+        (accept (opened (before ++ emptyGroup ∷ after) loadDepth storeDepth first words))))))
+        ≡ number (andThen r λ right. need b badLoadDepth (need c badStoreDepth (need d badMemoryLength (need e groupTooLarge
+        (accept (opened (before ++ after) loadDepth storeDepth first words))))))
+    go (refuse n) b c d e = refl
+    go (accept t) false c d e = refl
+    go (accept t) true false d e = refl
+    go (accept t) true true false e = refl
+    go (accept t) true true true false = refl
+    go (accept t) true true true true = refl
 
 -- ---- a table of empty groups only
 all-fit : (loadDepth storeDepth n : ℕ) → allOf (groupFits loadDepth storeDepth) (replicate n emptyGroup) ≡ true

@@ -10,7 +10,7 @@ use lib.ListN.{length}
 use Rattle.number.specs.Basics.{pick, held, allOf, frontWhile}
 use Rattle.queue.specs.declared.Entry.{Entry}
 use Rattle.queue.specs.declared.entries.Mark.the-variants.{Addressed, Filled, Finished}
-use Rattle.queue.specs.Ruled.{isSome}
+use Rattle.number.specs.Basics.{isSome}
 use Rattle.queue.specs.Entry.{entryOf, numberOf, bit, Small, EntriesReadBack, PackedReadBack}
 use Rattle.queue.specs.Contents.{loadOf, storeOf, firstPlace}
 use Rattle.queue.specs.Sound.{addressRight, loadRight, storeRight}
@@ -153,7 +153,8 @@ module _ (n : ℕ) where
       let e : n ≡ n % 65536 + 65536 * (n / 65536 % 65536) + 4294967296 * (n / 65536 / 65536) = omega arith in
       ap (λ (m : ℕ). m / 4294967296) e ∙ above4294967296 (n % 65536 + 65536 * (n / 65536 % 65536)) (n / 65536 / 65536) (omega arith)
 
-join : (p a a₀ f f₀ d d₀ b b₀ x x₀ w n : ℕ) → n ≡ p + 32 * a → a ≡ a₀ + 2 * f → f ≡ f₀ + 2 * d → d ≡ d₀ + 2 * b → b ≡ b₀ + 256 * x → x ≡ x₀ + 65536 * w
+join : (p a a₀ f f₀ d d₀ b b₀ x x₀ w n : ℕ) → n ≡ p + 32 * a → a ≡ a₀ + 2 * f → f ≡ f₀ + 2 * d → d ≡ d₀ + 2 * b
+    → b ≡ b₀ + 256 * x → x ≡ x₀ + 65536 * w
     → p + (32 * a₀ + 64 * f₀ + 128 * d₀) + 256 * b₀ + 65536 * x₀ + 4294967296 * w ≡ n
 join p a a₀ f f₀ d d₀ b b₀ x x₀ w n e1 e2 e3 e4 e5 e6 = omega arith
 
@@ -167,7 +168,8 @@ packed-read-back n h =
     (sum (n % 32) (n / 32) (n / 64) (n / 128) (n / 256) (n / 65536) (n / 4294967296) n (omega arith) (omega arith) (half64 n) (half128 n) (half256 n)
     (part65536 n) (part4294967296 n) (omega arith))
   where
-    sum : (p a f d b x w n : ℕ) → p < 32 → n ≡ p + 32 * a → f ≡ a / 2 → d ≡ f / 2 → b ≡ d / 2 → x ≡ b / 256 → w ≡ x / 65536 → w < 4294967296
+    sum : (p a f d b x w n : ℕ) → p < 32 → n ≡ p + 32 * a → f ≡ a / 2 → d ≡ f / 2 → b ≡ d / 2 → x ≡ b / 256
+        → w ≡ x / 65536 → w < 4294967296
         → p % 32 + (32 * (a % 2) + 64 * (f % 2) + 128 * (d % 2)) + 256 * (b % 256) + 65536 * (x % 65536) + 4294967296 * (w % 4294967296) ≡ n
     sum p a f d b x w n hp e hf hd hb hx hw small =
         let a2 : a ≡ a % 2 + 2 * f = omega arith in

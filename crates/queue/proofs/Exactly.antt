@@ -9,7 +9,7 @@ use lib.Dec.{eqb, leb, ltb}
 use lib.ListN.{length}
 use borrow.Author.Tests.{eqb-true, eqb-false, lt-ltb, le-ltb, ltb-true, ltb-false, leb-true}
 use Rattle.number.specs.Basics.{pick, anyOf, allOf, keepWhere}
-use Rattle.table.specs.Table.{tableFault}
+use Rattle.table.specs.Table.{checkTable}
 use Rattle.queue.specs.declared.Kind.{Kind}
 use Rattle.queue.specs.declared.Kind.the-variants.{Load as load, Store as store}
 use Rattle.number.specs.Refusal.{unsound}
@@ -23,6 +23,7 @@ use Rattle.queue.proofs.ContentsLaws.{getElem?-past}
 use Rattle.queue.proofs.SoundLaws.{Parts, parts}
 use Rattle.queue.proofs.Serials.{oldest-small}
 use Rattle.queue.proofs.ReadyLaws.{readyIn, writableIn, standsReady, answer-ready, would-ready}
+use Rattle.number.specs.Reply.{accepted}
 
 -- ---- which serials run from a first one on
 age-step : (serial from : ℕ) → serial < 2 ^ 32 → from < 2 ^ 32 → (serial ≡ from → ⊥) → age from serial ≡ age (after from 1) serial + 1
@@ -96,7 +97,7 @@ module _ (q : Contents) (right : sound q ≡ true) where
       (leb (length (q .stores)) (q .storeDepth))
       (allOf (loadRight (q .memoryLength) (length (q .stores))) (q .loads))
       (allOf (storeRight (q .memoryLength) (length (q .loads))) (q .stores))
-      (eqb (tableFault (q .groups)) 0)
+      (accepted (checkTable (q .groups)))
   unfolding sound
   parted = parts _ _ _ _ _ _ _ _ right
 

@@ -14,11 +14,12 @@ use Rattle.table.specs.declared.Group.{Group}
 use Rattle.table.specs.declared.Table.{Table}
 use Rattle.table.specs.Packed.{pairIn}
 use Rattle.table.specs.Group.{GroupPairs, blankPair, listOf, pairsOf}
-use Rattle.table.specs.Table.{meantIn, groupAt, groupsOf, tableFault}
+use Rattle.table.specs.Table.{meantIn, groupAt, groupsOf, checkTable}
 use Rattle.table.proofs.CheckLaws.{view-length, view-at, groups-size, group-at}
 use Rattle.table.proofs.OrderOffsets.{GroupRight, table-groups-few, table-group-right}
 use Rattle.queue.specs.Open.{groupFits}
 use Rattle.queue.proofs.ContentsLaws.{side-getElem?, side-here, side-end}
+use Rattle.number.specs.Reply.{passed}
 
 -- the pairs from the ith on: what a walk over them comes to
 pub pairs-here : (places : List ℕ) (ps : Span) (i : ℕ) → i < ps .count
@@ -37,7 +38,7 @@ pub fits-record : (loadDepth storeDepth : ℕ) (loads stores : List ℕ) (g : Gr
 fits-record loadDepth storeDepth loads stores g = rw (view-length loads (g .loads), view-length stores (g .stores))
 
 -- a right table has at most 16 groups
-pub groups-few : (t : Table) → tableFault (groupsOf t) ≡ 0 → t .count ≤ 16
+pub groups-few : (t : Table) → checkTable (groupsOf t) ≡ passed → t .count ≤ 16
 groups-few t e = rw (groups-size t) at (table-groups-few (groupsOf t) e)
 
 -- its groups, where a walk comes to them
@@ -57,7 +58,7 @@ module _ (t : Table) (few : t .count ≤ 16) (i : ℕ) (k : i < t .count) {g : G
   pub group-getElem? : getElem? (groupsOf t) i ≡ some (pairsOf (t .loads) (t .stores) g)
   group-getElem? = side-getElem? (meantIn (t .loads) (t .stores)) 0 (t .count) (t .groups) i k ∙ ap (λ (x : GroupPairs). some x) is-here
 
-  pub group-right : tableFault (groupsOf t) ≡ 0 → GroupRight (pairsOf (t .loads) (t .stores) g)
+  pub group-right : checkTable (groupsOf t) ≡ passed → GroupRight (pairsOf (t .loads) (t .stores) g)
   group-right right = rw (group-at t few i k here a) at (table-group-right (groupsOf t) right i here (rw (groups-size t) k))
 
 pub groups-end : (t : Table) (i : ℕ) → t .count ≤ i → drop i (groupsOf t) ≡ []

@@ -9,7 +9,7 @@ use mathlib.Core.Option.{Option, none, some}
 use lib.ListN.{length, take, getElem?}
 use Rattle.number.proofs.Both.{and-left, and-right}
 use Rattle.number.specs.Basics.{pick, anyOf, allOf, countWhere, frontWhile, afterWhile}
-use Rattle.queue.specs.Ruled.{isSome}
+use Rattle.number.specs.Basics.{isSome}
 use Rattle.queue.specs.Contents.{updateAt, firstPlace}
 
 -- ---- Bool
@@ -72,7 +72,8 @@ module _ {A : Type 0} where
   all-weaken p q w (x ∷ xs) h = and-both (w x (and-left (p x) (allOf p xs) h)) (all-weaken p q w xs (and-right (p x) (allOf p xs) h))
 
   -- two tests give a third
-  pub all-weaken₂ : (p q r : A → Bool) → ((x : A) → p x ≡ true → q x ≡ true → r x ≡ true) → (xs : List A) → allOf p xs ≡ true → allOf q xs ≡ true
+  pub all-weaken₂ : (p q r : A → Bool) → ((x : A) → p x ≡ true → q x ≡ true → r x ≡ true) → (xs : List A) → allOf p xs ≡ true
+      → allOf q xs ≡ true
       → allOf r xs ≡ true
   all-weaken₂ p q r w [] h k = refl
   all-weaken₂ p q r w (x ∷ xs) h k =
@@ -85,7 +86,8 @@ module _ {A : Type 0} where
   all-take p (suc n) [] h = refl
   all-take p (suc n) (x ∷ xs) h = and-both (and-left (p x) (allOf p xs) h) (all-take p n xs (and-right (p x) (allOf p xs) h))
 
-  pub all-map : {B : Type 0} (p : B → Bool) (q : A → Bool) (f : A → B) → ((x : A) → p (f x) ≡ q x) → (xs : List A) → allOf p (map f xs) ≡ allOf q xs
+  pub all-map : {B : Type 0} (p : B → Bool) (q : A → Bool) (f : A → B) → ((x : A) → p (f x) ≡ q x) → (xs : List A)
+      → allOf p (map f xs) ≡ allOf q xs
   all-map p q f e [] = refl
   all-map p q f e (x ∷ xs) = rw (e x, all-map p q f e xs)
 
@@ -150,7 +152,8 @@ module _ {A : Type 0} where
       go : (l : List A) → _≡_ {A = List A} [] (take 0 l)
       go [] = refl
       go (y ∷ l) = refl
-  take-append (suc n) (x ∷ xs) ys = let e : suc n - suc (length xs) ≡ n - length xs = omega arith in rw (e) (ap (λ (l : List A). x ∷ l) (take-append n xs ys))
+  take-append (suc n) (x ∷ xs) ys =
+      let e : suc n - suc (length xs) ≡ n - length xs = omega arith in rw (e) (ap (λ (l : List A). x ∷ l) (take-append n xs ys))
 
   pub take-map : {B : Type 0} (f : A → B) (n : ℕ) (xs : List A) → take n (map f xs) ≡ map f (take n xs)
   take-map f zero [] = refl
@@ -167,7 +170,8 @@ module _ {A : Type 0} where
   map-same f g e [] = refl
   map-same f g e (x ∷ xs) = rw (e x, map-same f g e xs)
 
-  pub getElem?-split : (xs : List A) (i : ℕ) {x : A} → getElem? xs i ≡ some x → (before after : List A) × (xs ≡ before ++ x ∷ after) × (length before ≡ i)
+  pub getElem?-split : (xs : List A) (i : ℕ) {x : A} → getElem? xs i ≡ some x
+      → (before after : List A) × (xs ≡ before ++ x ∷ after) × (length before ≡ i)
   getElem?-split [] i h = let e : false ≡ true = cc in false-true e
   getElem?-split (y ∷ xs) zero {x} h = let e : y ≡ x = cc in ([], xs, rw e, refl)
   getElem?-split (y ∷ xs) (suc i) h = let (b, a, e, l) = getElem?-split xs i h in (y ∷ b, a, ap (λ (t : List A). y ∷ t) e, ap suc l)
@@ -220,7 +224,8 @@ module _ {A : Type 0} where
       go false k rec = rec k
 
   -- where a list begins with elements that pass, one that does not pass stands behind them
-  pub failing-behind : (p : A → Bool) (xs : List A) (y : A) (ys old live : List A) → xs ++ y ∷ ys ≡ old ++ live → allOf p old ≡ true → p y ≡ false
+  pub failing-behind : (p : A → Bool) (xs : List A) (y : A) (ys old live : List A) → xs ++ y ∷ ys ≡ old ++ live → allOf p old ≡ true
+      → p y ≡ false
       → (near : List A) × (xs ≡ old ++ near)
   failing-behind p xs y ys [] live e h f = (xs, refl)
   failing-behind p [] y ys (o ∷ old) live e h f = let q : p o ≡ false = (rw (head-eq-of-cons-eq e) at f) in let z : false ≡ true = sym q

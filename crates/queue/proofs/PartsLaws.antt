@@ -11,7 +11,7 @@ use Rattle.queue.specs.declared.Queue.{Queue}
 use Rattle.queue.specs.declared.Frame.{Frame}
 use Rattle.queue.specs.declared.opening.OpenedFrame.{OpenedFrame}
 use Rattle.number.specs.Refusal.{unsound}
-use Rattle.queue.specs.Ruled.{Ruled, refuse, accept, need}
+use Rattle.number.specs.Reply.{Reply, refuse, accept, need}
 use Rattle.queue.specs.Contents.{Contents, contentsOf}
 use Rattle.queue.specs.Sound.{sound}
 use Rattle.queue.specs.Open.{freshQueue, noQueue}
@@ -74,7 +74,7 @@ module _ (q : Queue) where
       }
 
   -- the test of it was taken: the runs are no queue's, or the queue is unsound, and that is 40 either way
-  pub unfit : {b : Bool} {A : Type 0} (rule : Ruled A) → b ≡ (whole (q .«load_entries») (q .«store_entries») && sound (contentsOf q)) → not b ≡ true
+  pub unfit : {b : Bool} {A : Type 0} (rule : Reply A) → b ≡ (whole (q .«load_entries») (q .«store_entries») && sound (contentsOf q)) → not b ≡ true
       → (sound (contentsOf q) ≡ false → rule ≡ refuse unsound) → onParts (q .«load_entries») (q .«store_entries») rule ≡ refuse unsound
   unfit {b} {A} rule e taken h = go (whole (q .«load_entries») (q .«store_entries»)) (sym e ∙ not-true b taken)
     where
@@ -83,7 +83,7 @@ module _ (q : Queue) where
       go false z = refl
 
 -- ---- an opened frame is an opened queue, with two runs of zeros
-pub opens : (fresh : Frame) (rule : Ruled Contents) (r : OpenedFrame) → OpensFrame fresh rule r
+pub opens : (fresh : Frame) (rule : Reply Contents) (r : OpenedFrame) → OpensFrame fresh rule r
     → Opens noQueue rule (record { answer = r .answer; queue = freshQueue (r .frame) })
 opens fresh (refuse n) r e = ap (λ (o : OpenedFrame). record { answer = o .answer; queue = freshQueue (o .frame) }) e
 opens fresh (accept q) r e = (

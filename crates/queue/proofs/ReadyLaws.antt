@@ -5,14 +5,13 @@ use native.Mathlib.Nat.{sub-zero, not-suc-le-zero, le-of-suc-le-suc, le-trans}
 use native.Mathlib.Numerals.{add-one}
 use native.Mathlib.Omega.{arith}
 use mathlib.Core.Path.{_≡_, refl, sym, ap, ap₂, _∙_}
-use mathlib.Core.Bool.{Bool, true, false, not, _&&_}
+use mathlib.Core.Bool.{Bool, true, false, not}
 use mathlib.Core.List.{List, [], _∷_, _++_, append-assoc, append-nil}
 use mathlib.Core.Option.{Option, none, some}
 use lib.Dec.{eqb, leb}
 use lib.ListN.{length, getD, take, drop, set, length-append, length-drop, length-replicate, getElem?}
 use lib.Seq.{length-take-le, take-append-seam}
-use borrow.Author.Tests.{not-true}
-use Rattle.number.specs.Basics.{pick, allOf, keepWhere}
+use Rattle.number.specs.Basics.{pick, keepWhere}
 use Rattle.queue.specs.declared.Kind.{Kind}
 use Rattle.queue.specs.declared.Kind.the-variants.{Load as load, Store as store}
 use Rattle.queue.specs.declared.Side.{Side}
@@ -22,7 +21,8 @@ use Rattle.queue.specs.declared.Entry.{Entry}
 use Rattle.queue.specs.declared.Queue.{Queue}
 use Rattle.queue.specs.declared.Readied.{Readied}
 use Rattle.number.specs.Refusal.{tooShort, unsound, noSerial}
-use Rattle.queue.specs.Ruled.{Ruled, refuse, accept, need, have, andThen, accepted, isSome, number}
+use Rattle.number.specs.Basics.{isSome}
+use Rattle.number.specs.Reply.{Reply, refuse, accept, need, have, andThen, number, accepted}
 use Rattle.queue.specs.Contents.{Load, Store, Contents, loadOf, loadIn, storeIn, contentsOf, after, age, oldest, loadPlace, storePlace}
 use Rattle.queue.specs.Entry.{entryOf}
 use Rattle.queue.specs.Sound.{sound}
@@ -35,7 +35,8 @@ use Rattle.queue.specs.Internal.{loadsHeld, storesHeld}
 use Rattle.queue.specs.Internal.{mayWriteAt}
 use Rattle.queue.specs.Internal.{loadReady, readyAt, InReach, serialsListed, Noted, Lists, HandedOut}
 use Rattle.queue.proofs.ContentsLaws.{side-getElem?, side-take, loads-held, stores-held, loads-count, stores-count}
-use Rattle.queue.proofs.Refusals.{proper, need-same, have-same, may-write-proper, serve-proper, write-proper}
+use Rattle.number.proofs.ReplyLaws.{accepted-number}
+use Rattle.queue.proofs.Refusals.{need-same, have-same, may-write-proper, serve-proper, write-proper}
 use Rattle.queue.proofs.Serials.{place-of-serial, oldest-small}
 use Rattle.queue.proofs.SoundLaws.{loads-few, stores-few, load-before, store-before}
 use Rattle.queue.proofs.ServeLaws.{serve-by-place}
@@ -46,7 +47,7 @@ abbrev pub readyIn : Contents → Option Load → Bool
 readyIn q none = false
 readyIn q (some l) = loadReady (storesBefore q l) l
 
-then-accepts : {A B : Type 0} (x : Ruled A) (f : A → B) → accepted (andThen x λ a. accept (f a)) ≡ accepted x
+then-accepts : {A B : Type 0} (x : Reply A) (f : A → B) → accepted (andThen x λ a. accept (f a)) ≡ accepted x
 then-accepts (refuse n) f = refl
 then-accepts (accept a) f = refl
 
@@ -85,11 +86,6 @@ write-accepts-ready q memory place = go (getElem? (q .stores) place)
     go (some s) = then-accepts (mayWrite (take (s .before) (q .loads)) (take place (q .stores)) s) (writtenWith q memory place)
 
 -- ---- either: what stands at a serial's place decides, whatever the memory's words
--- it is answered 0 where it is accepted
-accepted-number : {A : Type 0} (x : Ruled A) → proper x ≡ true → eqb (number x) 0 ≡ accepted x
-accepted-number (refuse n) h = not-true (eqb n 0) h
-accepted-number (accept a) h = refl
-
 pub write-fault-ready : (loads stores : List ℕ) (i : ℕ) → eqb (number (mayWriteAt loads stores i)) 0 ≡ accepted (mayWriteAt loads stores i)
 write-fault-ready loads stores i =
     accepted-number (mayWriteAt loads stores i)
@@ -199,7 +195,8 @@ module _ {ready : ℕ → Bool} {from n i serial : ℕ} {s : Serials} (w : Ready
           rw (m, d, ← k) (pass p (p serial)) in
           w .are p agrees ∙ rw (split, c .are) (sym (append-assoc (serialsListed s) (pick now (serial ∷ []) []) (keepWhere p (serials next (n - (i + 1))))))
 
-  pub gathering-end : n ≤ i → (p : ℕ → Bool) → ((j : ℕ) → j < n → p (after from j) ≡ ready j) → serialsListed s ≡ keepWhere p (serials from n)
+  pub gathering-end : n ≤ i → (p : ℕ → Bool) → ((j : ℕ) → j < n → p (after from j) ≡ ready j)
+      → serialsListed s ≡ keepWhere p (serials from n)
   gathering-end h p agrees =
       let m : n - i ≡ 0 = omega arith in
       sym (w .are p agrees ∙ rw (m, append-nil))
@@ -266,7 +263,7 @@ handed q {found} {lent} {run} {s} {r} l h = rw (← l .size) (go (leb (s .count)
     go false e d = record { outcome = rw e; run-is = d }
 
 -- the front part that is handed back
-pub fronts : (q : Queue) (lent : List ℕ) (rule : Ruled (List ℕ)) (r : Readied) (run : List ℕ) → Readies q lent rule r run
+pub fronts : (q : Queue) (lent : List ℕ) (rule : Reply (List ℕ)) (r : Readied) (run : List ℕ) → Readies q lent rule r run
     → (r .count ≤ length run) × Fronts q rule (r .answer) (take (r .count) run) (r .queue)
 fronts q lent (refuse n) r run w = rw (w .outcome) (omega arith, record { answer-is = refl; serials-are = none run; queue-is = refl })
   where

@@ -1,4 +1,4 @@
--- Rules read backwards: what holds where a rule accepts, and that no refusal number is 0 or above a byte.
+-- Rules read backwards: what an argument that was accepted says, and that no refusal number is 0 or above a byte.
 use Prim.Native.Nat.{ℕ, _<_}
 use mathlib.Core.Path.{_≡_, refl}
 use mathlib.Core.Bool.{Bool, true, false, not, _&&_}
@@ -7,9 +7,10 @@ use mathlib.Core.Option.{Option, none, some}
 use lib.Dec.{eqb, leb, ltb}
 use lib.ListN.{length, take, getElem?}
 use native.Mathlib.Omega.{arith}
-use borrow.Author.Tests.{not-true, ltb-true}
+use borrow.Author.Tests.{ltb-true}
 use Rattle.queue.specs.declared.Kind.{Kind}
-use Rattle.queue.specs.Ruled.{Ruled, refuse, accept, number, accepted, need, have, andThen, isSome}
+use Rattle.number.specs.Basics.{isSome}
+use Rattle.number.specs.Reply.{Reply, refuse, accept, need, have, number, accepted}
 use Rattle.queue.specs.Contents.{Load, Store, Contents, loadPlace, storePlace, firstPlace}
 use Rattle.number.specs.Basics.{anyOf, allOf}
 use Rattle.queue.specs.Sound.{sound}
@@ -22,131 +23,92 @@ use Rattle.queue.specs.declared.arguments.Argument.{Argument}
 use Rattle.queue.specs.Take.{untaken, takeRule}
 use Rattle.queue.specs.Ready.{readySerials, ready}
 use Rattle.number.proofs.Both.{and-left, and-right}
-use Rattle.queue.proofs.Lists.{false-true}
-
-module _ {A : Type 0} where
-  pub need-accepts : (b : Bool) (n : ℕ) (rest : Ruled A) {a : A} → need b n rest ≡ accept a → (b ≡ true) × (rest ≡ accept a)
-  need-accepts true n rest h = (refl, h)
-  need-accepts false n rest h = (cc, cc)
-
-  pub have-accepts : {B : Type 0} (o : Option A) (n : ℕ) (rest : A → Ruled B) {b : B} → have o n rest ≡ accept b → (a : A) × (o ≡ some a) × (rest a ≡ accept b)
-  have-accepts none n rest h = let e : false ≡ true = cc in false-true e
-  have-accepts (some a) n rest h = (a, refl, h)
-
-  pub andThen-accepts : {B : Type 0} (r : Ruled A) (rest : A → Ruled B) {b : B} → andThen r rest ≡ accept b → (a : A) × (r ≡ accept a) × (rest a ≡ accept b)
-  andThen-accepts (refuse n) rest h = let e : false ≡ true = cc in false-true e
-  andThen-accepts (accept a) rest h = (a, refl, h)
-
-  -- no refusal is 0
-  abbrev pub proper : Ruled A → Bool
-  proper (refuse n) = not (eqb n 0)
-  proper (accept a) = true
-
-  pub refusal-not-zero : (r : Ruled A) (n : ℕ) → proper r ≡ true → r ≡ refuse n → eqb n 0 ≡ false
-  refusal-not-zero r n h e = not-true (eqb n 0) (rw e at h)
-
-  pub need-proper : (b : Bool) (n : ℕ) (rest : Ruled A) → not (eqb n 0) ≡ true → proper rest ≡ true → proper (need b n rest) ≡ true
-  need-proper true n rest e h = h
-  need-proper false n rest e h = e
-
-pub have-proper : {A B : Type 0} (o : Option A) (n : ℕ) (rest : A → Ruled B) → not (eqb n 0) ≡ true → ((a : A) → proper (rest a) ≡ true)
-    → proper (have o n rest) ≡ true
-have-proper none n rest e h = e
-have-proper (some a) n rest e h = h a
+use Rattle.number.proofs.ReplyLaws.{need-accepts, refusesAmong, need-among, have-among, andThen-among, notZero}
 
 -- two rules with the same tests accept alike where what follows does
-pub need-same : {A B : Type 0} (b : Bool) (n : ℕ) (x : Ruled A) (y : Ruled B) → accepted x ≡ accepted y → accepted (need b n x) ≡ accepted (need b n y)
+pub need-same : {A B : Type 0} (b : Bool) (n : ℕ) (x : Reply A) (y : Reply B) → accepted x ≡ accepted y
+    → accepted (need b n x) ≡ accepted (need b n y)
 need-same true n x y e = e
 need-same false n x y e = refl
 
-pub have-same : {A B C : Type 0} (o : Option C) (n : ℕ) (x : C → Ruled A) (y : C → Ruled B) → ((c : C) → accepted (x c) ≡ accepted (y c))
+pub have-same : {A B C : Type 0} (o : Option C) (n : ℕ) (x : C → Reply A) (y : C → Reply B) → ((c : C) → accepted (x c) ≡ accepted (y c))
     → accepted (have o n x) ≡ accepted (have o n y)
 have-same none n x y e = refl
 have-same (some c) n x y e = e c
 
 -- ---- the refusal numbers of the calls on a queue are bytes other than 0
 abbrev byte : ℕ → Bool
-byte n = not (eqb n 0) && ltb n 256
+byte n = notZero n && ltb n 256
 
 module _ {A : Type 0} where
-  abbrev pub small : Ruled A → Bool
-  small (refuse n) = byte n
-  small (accept a) = true
+  abbrev pub proper : Reply A → Bool
+  proper r = refusesAmong notZero r
 
-  pub number-small : (r : Ruled A) → small r ≡ true → number r < 256
-  number-small (refuse n) h = ltb-true n 256 (and-right (not (eqb n 0)) (ltb n 256) h)
+  abbrev pub small : Reply A → Bool
+  small r = refusesAmong byte r
+
+  pub number-small : (r : Reply A) → small r ≡ true → number r < 256
+  number-small (refuse n) h = ltb-true n 256 (and-right (notZero n) (ltb n 256) h)
   number-small (accept a) h = omega arith
 
-  pub small-proper : (r : Ruled A) → small r ≡ true → proper r ≡ true
-  small-proper (refuse n) h = and-left (not (eqb n 0)) (ltb n 256) h
+  small-proper : (r : Reply A) → small r ≡ true → proper r ≡ true
+  small-proper (refuse n) h = and-left (notZero n) (ltb n 256) h
   small-proper (accept a) h = refl
-
-  need-small : (b : Bool) (n : ℕ) (rest : Ruled A) → byte n ≡ true → small rest ≡ true → small (need b n rest) ≡ true
-  need-small true n rest e h = h
-  need-small false n rest e h = e
-
-have-small : {A B : Type 0} (o : Option A) (n : ℕ) (rest : A → Ruled B) → byte n ≡ true → ((a : A) → small (rest a) ≡ true)
-    → small (have o n rest) ≡ true
-have-small none n rest e h = e
-have-small (some a) n rest e h = h a
-
-andThen-small : {A B : Type 0} (r : Ruled A) (rest : A → Ruled B) → small r ≡ true → ((a : A) → small (rest a) ≡ true) → small (andThen r rest) ≡ true
-andThen-small (refuse n) rest e h = e
-andThen-small (accept a) rest e h = h a
 
 pub activate-small : (q : Contents) (g : ℕ) → small (activate q g) ≡ true
 unfolding activate
-activate-small q g = need-small (sound q) _ _ refl (have-small (getElem? (q .groups) g) _ _ refl λ p. need-small (room q p) _ _ refl refl)
+activate-small q g = need-among byte (sound q) _ _ refl (have-among byte (getElem? (q .groups) g) _ _ refl λ p. need-among byte (room q p) _ _ refl refl)
 
 pub give-small : (argument : Argument) (q : Contents) (port x : ℕ) → small (give argument q port x) ≡ true
 unfolding give
 give-small argument q port x =
-    need-small (sound q) _ _ refl
-    (need-small (anyOf (namesPort (kindOf argument) port) (q .groups)) _ _ refl
-    (need-small (inRange argument (q .memoryLength) x) _ _ refl (need-small (waits argument port q) _ _ refl refl)))
+    need-among byte (sound q) _ _ refl
+    (need-among byte (anyOf (namesPort (kindOf argument) port) (q .groups)) _ _ refl
+    (need-among byte (inRange argument (q .memoryLength) x) _ _ refl (need-among byte (waits argument port q) _ _ refl refl)))
 
 loaded-small : (m : List ℕ) (a : ℕ) (x : Source) → small (loadedFrom m a x) ≡ true
 loaded-small m a unknown = refl
-loaded-small m a (fromStore word) = have-small word _ _ refl λ w. refl
+loaded-small m a (fromStore word) = have-among byte word _ _ refl λ w. refl
 loaded-small m a fromMemory = refl
 
 may-serve-small : (m : List ℕ) (ss : List Store) (l : Load) → small (mayServe m ss l) ≡ true
-may-serve-small m ss l = need-small (not (isSome (l .value))) _ _ refl (have-small (l .address) _ _ refl λ a. loaded-small m a (source a fromMemory ss))
+may-serve-small m ss l =
+    need-among byte (not (isSome (l .value))) _ _ refl (have-among byte (l .address) _ _ refl λ a. loaded-small m a (source a fromMemory ss))
 
 pub serve-small : (q : Contents) (m : List ℕ) (serial : ℕ) → small (serve q m serial) ≡ true
 unfolding serve
 serve-small q m serial =
-    need-small (sound q) _ _ refl
-    (need-small (eqb (length m) (q .memoryLength)) _ _ refl
-    (have-small (getElem? (q .loads) (loadPlace q serial)) _ _ refl λ l.
-    andThen-small (mayServe m (storesBefore q l) l) _ (may-serve-small m (storesBefore q l) l) λ v. refl))
+    need-among byte (sound q) _ _ refl
+    (need-among byte (eqb (length m) (q .memoryLength)) _ _ refl
+    (have-among byte (getElem? (q .loads) (loadPlace q serial)) _ _ refl λ l.
+    andThen-among byte (mayServe m (storesBefore q l) l) _ (may-serve-small m (storesBefore q l) l) λ v. refl))
 
 may-write-small : (ls : List Load) (ss : List Store) (s : Store) → small (mayWrite ls ss s) ≡ true
 may-write-small ls ss s =
-    need-small (not (s .written)) _ _ refl
-    (have-small (s .address) _ _ refl λ a.
-    have-small (s .word) _ _ refl λ w.
-    need-small (allOf (noLoadConflict a) ls) _ _ refl (need-small (allOf (noStoreConflict a) ss) _ _ refl refl))
+    need-among byte (not (s .written)) _ _ refl
+    (have-among byte (s .address) _ _ refl λ a.
+    have-among byte (s .word) _ _ refl λ w.
+    need-among byte (allOf (noLoadConflict a) ls) _ _ refl (need-among byte (allOf (noStoreConflict a) ss) _ _ refl refl))
 
 pub write-small : (q : Contents) (m : List ℕ) (serial : ℕ) → small (write q m serial) ≡ true
 unfolding write
 write-small q m serial =
-    need-small (sound q) _ _ refl
-    (need-small (eqb (length m) (q .memoryLength)) _ _ refl
-    (have-small (getElem? (q .stores) (storePlace q serial)) _ _ refl λ s.
-    andThen-small (mayWrite (loadsBefore q s) (take (storePlace q serial) (q .stores)) s) _
+    need-among byte (sound q) _ _ refl
+    (need-among byte (eqb (length m) (q .memoryLength)) _ _ refl
+    (have-among byte (getElem? (q .stores) (storePlace q serial)) _ _ refl λ s.
+    andThen-among byte (mayWrite (loadsBefore q s) (take (storePlace q serial) (q .stores)) s) _
     (may-write-small (loadsBefore q s) (take (storePlace q serial) (q .stores)) s) λ p. refl))
 
 pub take-small : (q : Contents) (port : ℕ) → small (takeRule q port) ≡ true
 unfolding takeRule
 take-small q port =
-    need-small (sound q) _ _ refl
-    (need-small (anyOf (namesPort load port) (q .groups)) _ _ refl
-    (have-small (getElem? (q .loads) (firstPlace (untaken port) (q .loads))) _ _ refl λ l. have-small (l .value) _ _ refl λ v. refl))
+    need-among byte (sound q) _ _ refl
+    (need-among byte (anyOf (namesPort load port) (q .groups)) _ _ refl
+    (have-among byte (getElem? (q .loads) (firstPlace (untaken port) (q .loads))) _ _ refl λ l. have-among byte (l .value) _ _ refl λ v. refl))
 
 pub ready-small : (kind : Kind) (q : Contents) (run : List ℕ) → small (ready kind q run) ≡ true
 unfolding ready
-ready-small kind q run = need-small (sound q) _ _ refl (need-small (leb (length (readySerials kind q)) (length run)) _ _ refl refl)
+ready-small kind q run = need-among byte (sound q) _ _ refl (need-among byte (leb (length (readySerials kind q)) (length run)) _ _ refl refl)
 
 -- so none is 0
 pub activate-proper : (q : Contents) (g : ℕ) → proper (activate q g) ≡ true
@@ -173,7 +135,8 @@ pub record Gave (argument : Argument) (q : Contents) (port x : ℕ) (next : Cont
   pub waited : waits argument port q ≡ true
   pub is : argumentGiven argument port x q ≡ next
 
-pub give-accepts : (argument : Argument) (q : Contents) (port x : ℕ) {next : Contents} → give argument q port x ≡ accept next → Gave argument q port x next
+pub give-accepts : (argument : Argument) (q : Contents) (port x : ℕ) {next : Contents} → give argument q port x ≡ accept next
+    → Gave argument q port x next
 unfolding give
 give-accepts argument q port x h₀ =
     let (t₁, h₁) = need-accepts (sound q) _ _ h₀ in

@@ -12,7 +12,8 @@ use Rattle.queue.specs.declared.Entry.{Entry}
 use Rattle.queue.specs.declared.Queue.{Queue}
 use Rattle.queue.specs.declared.serving.Service.{Service}
 use Rattle.number.specs.Refusal.{unsound, wrongMemory, noSerial, alreadyDone, noAddress}
-use Rattle.queue.specs.Ruled.{refuse, accept, have, andThen, isSome}
+use Rattle.number.specs.Basics.{isSome}
+use Rattle.number.specs.Reply.{refuse, accept, have, andThen}
 use Rattle.queue.specs.Contents.{Load, Store, Contents, loadOf, loadIn, storeIn, contentsOf, age, oldest, loadPlace}
 use Rattle.queue.specs.Entry.{entryOf}
 use Rattle.queue.specs.Sound.{sound}
@@ -22,7 +23,7 @@ use Rattle.queue.specs.Parts.{queueOf, countedOf}
 use Rattle.queue.specs.Internal.{storesHeld, Has64}
 use Rattle.queue.specs.Internal.{mayServeAt, servedAs, LoadFilled}
 use Rattle.queue.proofs.ContentsLaws.{getElem?-past, side-getElem?, side-take, loads-held, stores-held, loads-count, words-held, load-place, load-anew}
-use Rattle.queue.proofs.Refusals.{need-accepts, have-accepts, andThen-accepts}
+use Rattle.number.proofs.ReplyLaws.{need-accepts, have-accepts, andThen-accepts}
 
 -- ---- 26, 27, and then by the source
 module _ (memory : List ℕ) (ss : List Store) (e : Entry) where

@@ -5,11 +5,11 @@ use mathlib.Core.Path.{_≡_, refl, sym, _∙_}
 use mathlib.Core.Bool.{Bool, true, false, _&&_}
 use mathlib.Core.List.{List, [], _∷_}
 use mathlib.Core.Option.{none, some}
-use lib.Dec.{leb, eqb}
+use lib.Dec.{leb}
 use lib.ListN.{length, getD}
-use borrow.Author.Tests.{leb-true, ltb-true, eqb-true}
+use borrow.Author.Tests.{leb-true, ltb-true}
 use Rattle.number.specs.Basics.{pick, allOf, within}
-use Rattle.table.specs.Table.{groupsOf, tableFault}
+use Rattle.table.specs.Table.{groupsOf, checkTable}
 use Rattle.queue.specs.declared.Queue.{Queue}
 use Rattle.queue.specs.Contents.{loadOf, storeOf, loadIn, storeIn, contentsOf}
 use Rattle.queue.specs.Entry.{entryOf}
@@ -19,6 +19,8 @@ use Rattle.number.proofs.Both.{and-left, and-right}
 use Rattle.queue.proofs.Lists.{false-true}
 use Rattle.queue.proofs.ContentsLaws.{side-length, side-at}
 use Rattle.queue.proofs.EntryLaws.{side-all-same, load-right, store-right}
+use Rattle.number.specs.Reply.{accepted, passed}
+use Rattle.number.proofs.ReplyLaws.{accepted-passed}
 
 pub within-least : (lo hi n : ℕ) → within lo hi n ≡ true → lo ≤ n
 within-least lo hi n h = leb-true lo n (and-left (leb lo n) (leb n hi) h)
@@ -36,9 +38,10 @@ pub sound-record : (q : Queue) →
     && leb (q .frame .stores .count) (q .frame .stores .depth)
     && allOf (loadRight (q .frame .«memory_length») (q .frame .stores .count)) (loadsHeld (q .frame .loads .count) (q .«load_entries»))
     && allOf (storeRight (q .frame .«memory_length») (q .frame .loads .count)) (storesHeld (q .frame .stores .count) (q .«store_entries»))
-    && eqb (tableFault (groupsOf (q .frame .table))) 0)
+    && accepted (checkTable (groupsOf (q .frame .table))))
 unfolding sound contentsOf
-sound-record q = rw (side-length loadIn 0 (q .frame .loads .count) (q .«load_entries»), side-length storeIn 0 (q .frame .stores .count) (q .«store_entries»))
+sound-record q =
+    rw (side-length loadIn 0 (q .frame .loads .count) (q .«load_entries»), side-length storeIn 0 (q .frame .stores .count) (q .«store_entries»))
 
 -- the same, side by side and on the entries, in the order in which the code checks
 regroup : (a b c d e : Bool) → (a && b && c && d && e) ≡ ((a && d) && (b && e) && c)
@@ -59,7 +62,7 @@ pub sound-sides : (q : Queue) →
     && memoryRight (q .frame .«memory_length»)
     && allOf (entryRight (q .frame .«memory_length») (q .frame .stores .count)) (entriesHeld (q .frame .loads .count) (q .«load_entries»))
     && allOf (entryRight (q .frame .«memory_length») (q .frame .loads .count)) (entriesHeld (q .frame .stores .count) (q .«store_entries»))
-    && eqb (tableFault (groupsOf (q .frame .table))) 0)
+    && accepted (checkTable (groupsOf (q .frame .table))))
 sound-sides q =
     let words : ℕ = q .frame .«memory_length» in
     let n : ℕ = q .frame .loads .count in
@@ -123,7 +126,7 @@ module _ (q : Queue) (s : sound (contentsOf q) ≡ true) where
       (leb (q .frame .stores .count) (q .frame .stores .depth))
       (allOf (loadRight (q .frame .«memory_length») (q .frame .stores .count)) (loadsHeld (q .frame .loads .count) (q .«load_entries»)))
       (allOf (storeRight (q .frame .«memory_length») (q .frame .loads .count)) (storesHeld (q .frame .stores .count) (q .«store_entries»)))
-      (eqb (tableFault (groupsOf (q .frame .table))) 0)
+      (accepted (checkTable (groupsOf (q .frame .table))))
   parted = parts _ _ _ _ _ _ _ _ (sym (sound-record q) ∙ s)
 
   pub load-depth-most : q .frame .loads .depth ≤ 64
@@ -147,8 +150,8 @@ module _ (q : Queue) (s : sound (contentsOf q) ≡ true) where
   pub stores-few : q .frame .stores .count ≤ 64
   stores-few = le-trans stores-in-depth store-depth-most
 
-  pub table-right : tableFault (groupsOf (q .frame .table)) ≡ 0
-  table-right = eqb-true _ 0 (parted .part8)
+  pub table-right : checkTable (groupsOf (q .frame .table)) ≡ passed
+  table-right = accepted-passed _ (parted .part8)
 
   module _ (i : ℕ) (k : i < q .frame .loads .count) where
     load-right-at : loadRight (q .frame .«memory_length») (q .frame .stores .count) (loadIn (getD (q .«load_entries») i 0)) ≡ true
@@ -159,7 +162,8 @@ module _ (q : Queue) (s : sound (contentsOf q) ≡ true) where
     pub load-before : entryOf (getD (q .«load_entries») i 0) .before ≤ q .frame .stores .count
     load-before = leb-true _ _ (and-left (leb (entryOf (getD (q .«load_entries») i 0) .before) (q .frame .stores .count)) _ load-right-at)
 
-    pub load-address : entryOf (getD (q .«load_entries») i 0) .addressed ≡ true → entryOf (getD (q .«load_entries») i 0) .address < q .frame .«memory_length»
+    pub load-address : entryOf (getD (q .«load_entries») i 0) .addressed ≡ true
+        → entryOf (getD (q .«load_entries») i 0) .address < q .frame .«memory_length»
     load-address e = filled-in (q .frame .«memory_length») _ (entryOf (getD (q .«load_entries») i 0) .addressed)
         (and-right (leb (entryOf (getD (q .«load_entries») i 0) .before) (q .frame .stores .count)) _ load-right-at) e
 
@@ -171,6 +175,7 @@ module _ (q : Queue) (s : sound (contentsOf q) ≡ true) where
     pub store-before : entryOf (getD (q .«store_entries») i 0) .before ≤ q .frame .loads .count
     store-before = leb-true _ _ (and-left (leb (entryOf (getD (q .«store_entries») i 0) .before) (q .frame .loads .count)) _ store-right-at)
 
-    pub store-address : entryOf (getD (q .«store_entries») i 0) .addressed ≡ true → entryOf (getD (q .«store_entries») i 0) .address < q .frame .«memory_length»
+    pub store-address : entryOf (getD (q .«store_entries») i 0) .addressed ≡ true
+        → entryOf (getD (q .«store_entries») i 0) .address < q .frame .«memory_length»
     store-address e = filled-in (q .frame .«memory_length») _ (entryOf (getD (q .«store_entries») i 0) .addressed)
         (and-right (leb (entryOf (getD (q .«store_entries») i 0) .before) (q .frame .loads .count)) _ store-right-at) e

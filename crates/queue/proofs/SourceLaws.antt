@@ -8,7 +8,7 @@ use lib.ListN.{getD, drop}
 use borrow.Author.Tests.{not-true, not-false}
 use Rattle.number.specs.Basics.{pick, allOf}
 use Rattle.queue.specs.declared.Entry.{Entry}
-use Rattle.queue.specs.Ruled.{accept}
+use Rattle.number.specs.Reply.{accept}
 use Rattle.queue.specs.Contents.{Store, storeOf}
 use Rattle.queue.specs.Serve.{hasAddress, unwrittenTo, Source, unknown, fromStore, fromMemory, source, Loaded, loadedFrom}
 use Rattle.number.proofs.Both.{and-left, and-right}
@@ -76,12 +76,14 @@ source-written a (s ∷ past) ss h k =
     rw (and-left (s .written) (allOf (λ s. s .written) past) h, and-left (hasAddress s) (allOf hasAddress past) k)
     (source-written a past ss (and-right (s .written) (allOf (λ s. s .written) past) h) (and-right (hasAddress s) (allOf hasAddress past) k))
 
-pub source-memory : (a : ℕ) (ss : List Store) → allOf (λ s. s .written) ss ≡ true → allOf hasAddress ss ≡ true → source a fromMemory ss ≡ fromMemory
+pub source-memory : (a : ℕ) (ss : List Store) → allOf (λ s. s .written) ss ≡ true → allOf hasAddress ss ≡ true
+    → source a fromMemory ss ≡ fromMemory
 source-memory a ss h k = ap (source a fromMemory) (sym (append-nil ss)) ∙ source-written a ss [] h k
 
 -- ---- a test that no source fails: it is unknown, memory, or one of the stores
 module _ (p : Source → Bool) (a : ℕ) (h : p unknown ≡ true) where
-  source-passes-from : (found : Source) (ss : List Store) → p found ≡ true → allOf (λ s. p (fromStore (s .word))) ss ≡ true → p (source a found ss) ≡ true
+  source-passes-from : (found : Source) (ss : List Store) → p found ≡ true → allOf (λ s. p (fromStore (s .word))) ss ≡ true
+      → p (source a found ss) ≡ true
   source-passes-from found [] k t = k
   source-passes-from found (s ∷ ss) k t =
       go (hasAddress s) (unwrittenTo a s) (λ x e. source-passes-from x ss e (and-right (p (fromStore (s .word))) (allOf (λ s. p (fromStore (s .word))) ss) t))

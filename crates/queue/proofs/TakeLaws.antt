@@ -9,7 +9,7 @@ use Rattle.table.specs.Table.{groupsOf}
 use Rattle.queue.specs.declared.Entry.{Entry}
 use Rattle.queue.specs.declared.Queue.{Queue}
 use Rattle.number.specs.Refusal.{unsound, noPort, noneUntaken, notServed}
-use Rattle.queue.specs.Ruled.{refuse, accept}
+use Rattle.number.specs.Reply.{refuse, accept}
 use Rattle.queue.specs.Contents.{loadOf, loadIn, contentsOf, withLoads, updateAt, firstPlace}
 use Rattle.queue.specs.Entry.{entryOf}
 use Rattle.queue.specs.Sound.{sound}

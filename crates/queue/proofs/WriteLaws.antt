@@ -12,7 +12,7 @@ use Rattle.number.specs.Basics.{allOf}
 use Rattle.queue.specs.declared.Entry.{Entry}
 use Rattle.queue.specs.declared.Queue.{Queue}
 use Rattle.number.specs.Refusal.{unsound, wrongMemory, noSerial, alreadyDone, noAddress, noData, loadConflict, storeConflict}
-use Rattle.queue.specs.Ruled.{Ruled, refuse, accept, have, andThen, number}
+use Rattle.number.specs.Reply.{Reply, refuse, accept, have, andThen, number}
 use Rattle.queue.specs.Contents.{Load, Store, Contents, storeOf, loadIn, storeIn, contentsOf, age, oldest, storePlace}
 use Rattle.queue.specs.Entry.{entryOf}
 use Rattle.queue.specs.Sound.{sound}
@@ -20,10 +20,10 @@ use Rattle.queue.specs.Write.{Written, WordPut, noLoadConflict, noStoreC
 use Rattle.queue.specs.Internal.{loadsHeld, storesHeld}
 use Rattle.queue.specs.Internal.{mayWriteAt}
 use Rattle.queue.proofs.ContentsLaws.{getElem?-past, side-getElem?, side-take, loads-held, stores-held, stores-count, words-held, store-place}
-use Rattle.queue.proofs.Refusals.{need-accepts, have-accepts, andThen-accepts}
+use Rattle.number.proofs.ReplyLaws.{need-accepts, have-accepts, andThen-accepts}
 
 -- ---- an answer that is no 0 refuses with it
-pub refused-number : {A : Type 0} (x : Ruled A) → (number x ≡ 0 → ⊥) → x ≡ refuse (number x)
+pub refused-number : {A : Type 0} (x : Reply A) → (number x ≡ 0 → ⊥) → x ≡ refuse (number x)
 refused-number (refuse n) h = refl
 refused-number (accept a) h = absurd (h refl)
 

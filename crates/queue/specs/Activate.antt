@@ -8,7 +8,7 @@ use lib.Dec.{leb}
 use lib.ListN.{length, getElem?}
 use Rattle.table.specs.Group.{GroupPairs, Access, load, store, order}
 use Rattle.number.specs.Refusal.{unsound, noGroup, noPlace}
-use Rattle.queue.specs.Ruled.{Ruled, accept, need, have}
+use Rattle.number.specs.Reply.{Reply, accept, need, have}
 use Rattle.queue.specs.Contents.{Load, Store, Contents, after}
 use Rattle.queue.specs.Sound.{sound}
 
@@ -46,7 +46,7 @@ withGroup q g = record {
   stores = q .stores ++ newStores (length (q .loads)) (order g);
 }
 
-unfoldable pub activate : Contents → ℕ → Ruled Contents
+unfoldable pub activate : Contents → ℕ → Reply Contents
 activate q group =
     need (sound q) unsound
     (have (getElem? (q .groups) group) noGroup λ g.

@@ -14,7 +14,8 @@ use Rattle.queue.specs.declared.arguments.Argument.{Argument}
 use Rattle.queue.specs.declared.arguments.Argument.the-variants.{LoadAddress, StoreAddress, StoreData}
 use Rattle.queue.specs.Contents.{ofKind}
 use Rattle.number.specs.Refusal.{unsound, noPort, badAddress, noneWaits}
-use Rattle.queue.specs.Ruled.{Ruled, accept, need, isSome}
+use Rattle.number.specs.Basics.{isSome}
+use Rattle.number.specs.Reply.{Reply, accept, need}
 use Rattle.queue.specs.Contents.{Load, Store, Contents, withLoads, withStores, updateAt, firstPlace}
 use Rattle.queue.specs.Sound.{sound}
 
@@ -71,7 +72,7 @@ argumentGiven LoadAddress port a q = withLoads q (updateFirst (loadLacksAddress 
 argumentGiven StoreAddress port a q = withStores q (updateFirst (storeLacksAddress port) (storeWithAddress a) (q .stores))
 argumentGiven StoreData port w q = withStores q (updateFirst (storeLacksWord port) (storeWithWord w) (q .stores))
 
-unfoldable pub give : Argument → Contents → ℕ → ℕ → Ruled Contents
+unfoldable pub give : Argument → Contents → ℕ → ℕ → Reply Contents
 give argument q port x =
     need (sound q) unsound
     (need (anyOf (namesPort (kindOf argument) port) (q .groups)) noPort
@@ -80,11 +81,11 @@ give argument q port x =
     (accept (argumentGiven argument port x q)))))
 
 -- the three calls
-abbrev pub loadAddress : Contents → ℕ → ℕ → Ruled Contents
+abbrev pub loadAddress : Contents → ℕ → ℕ → Reply Contents
 loadAddress q port a = give LoadAddress q port a
 
-abbrev pub storeAddress : Contents → ℕ → ℕ → Ruled Contents
+abbrev pub storeAddress : Contents → ℕ → ℕ → Reply Contents
 storeAddress q port a = give StoreAddress q port a
 
-abbrev pub storeData : Contents → ℕ → ℕ → Ruled Contents
+abbrev pub storeData : Contents → ℕ → ℕ → Reply Contents
 storeData q port w = give StoreData q port w

@@ -11,7 +11,7 @@ use Rattle.table.specs.Table.{groupsOf}
 use Rattle.queue.specs.declared.Queue.{Queue}
 use Rattle.queue.specs.declared.Outcome.{Outcome}
 use Rattle.queue.specs.declared.arguments.Argument.{Argument}
-use Rattle.queue.specs.Ruled.{refuse, accept, number, need}
+use Rattle.number.specs.Reply.{refuse, accept, need, number}
 use Rattle.queue.specs.Contents.{Contents, contentsOf}
 use Rattle.queue.specs.Sound.{depthRight, memoryRight, sound}
 use Rattle.queue.specs.Open.{opened, openQueue}

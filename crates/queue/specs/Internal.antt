@@ -33,7 +33,7 @@ use Rattle.queue.specs.declared.serving.Source as coded
 use Rattle.queue.specs.declared.serving.Source.the-variants.{Unknown, NoData, Forwarded, Memory}
 use Rattle.queue.specs.declared.serving.Service.{Service}
 use Rattle.queue.specs.Serve.{Source, unknown, fromStore, fromMemory, Loaded, mayServe, loadWithValue}
-use Rattle.queue.specs.Ruled.{Ruled, accepted}
+use Rattle.number.specs.Reply.{Reply, accepted}
 use Rattle.queue.specs.Write.{WordPut, mayWrite}
 use Rattle.queue.specs.declared.answering.Sides.{Sides}
 use Rattle.queue.specs.declared.Kind.{Kind}
@@ -193,7 +193,7 @@ sourceIn (Forwarded w) = fromStore (some w)
 sourceIn Memory = fromMemory
 
 -- what the load at a place gets
-abbrev pub mayServeAt : List ℕ → List ℕ → List ℕ → ℕ → Ruled Loaded
+abbrev pub mayServeAt : List ℕ → List ℕ → List ℕ → ℕ → Reply Loaded
 mayServeAt memory loads stores at = mayServe memory (storesHeld (entryOf (getD loads at 0) .before) stores) (loadIn (getD loads at 0))
 
 -- a refused serve, and an accepted one
@@ -217,7 +217,7 @@ abbrev pub noConflict : Mark → ℕ → Entry → Bool
 noConflict done a e = has done e || pick (e .addressed) (not (eqb (e .address) a)) false
 
 -- what writing the store at a place puts where
-abbrev pub mayWriteAt : List ℕ → List ℕ → ℕ → Ruled WordPut
+abbrev pub mayWriteAt : List ℕ → List ℕ → ℕ → Reply WordPut
 mayWriteAt loads stores at =
     mayWrite (loadsHeld (entryOf (getD stores at 0) .before) loads) (storesHeld at stores) (storeIn (getD stores at 0))
 

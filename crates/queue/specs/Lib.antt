@@ -1,5 +1,4 @@
 -- What the calls of the queue mean, in the order of document 01.
-pub mod Ruled
 pub mod Entry
 pub mod Contents
 pub mod Sound

@@ -3,18 +3,18 @@
 use Prim.Native.Nat.{ℕ}
 use mathlib.Core.Bool.{Bool, _&&_}
 use mathlib.Core.List.{List, []}
-use lib.Dec.{leb, eqb}
+use lib.Dec.{leb}
 use lib.ListN.{length, replicate}
 use Rattle.table.specs.declared.Table.{Table}
 use Rattle.number.specs.Basics.{allOf}
 use Rattle.table.specs.Group.{GroupPairs}
-use Rattle.table.specs.Table.{tableFault}
+use Rattle.table.specs.Table.{checkTable}
 use Rattle.table.specs.TableBytes.{pack}
 use Rattle.queue.specs.declared.Side.{Side}
 use Rattle.queue.specs.declared.Frame.{Frame}
 use Rattle.queue.specs.declared.Queue.{Queue}
 use Rattle.number.specs.Refusal.{badLoadDepth, badStoreDepth, badMemoryLength, groupTooLarge}
-use Rattle.queue.specs.Ruled.{Ruled, accept, need}
+use Rattle.number.specs.Reply.{Reply, accept, need, andThen}
 use Rattle.queue.specs.Contents.{Contents}
 use Rattle.queue.specs.Sound.{depthRight, memoryRight}
 
@@ -35,14 +35,14 @@ opened groups loadDepth storeDepth first words = record {
 }
 
 -- open groups (load depth) (store depth) (first serial) (memory length)
-unfoldable pub openQueue : List GroupPairs → ℕ → ℕ → ℕ → ℕ → Ruled Contents
+unfoldable pub openQueue : List GroupPairs → ℕ → ℕ → ℕ → ℕ → Reply Contents
 openQueue groups loadDepth storeDepth first words =
-    need (eqb (tableFault groups) 0) (tableFault groups)
-    (need (depthRight loadDepth) badLoadDepth
+    andThen (checkTable groups) λ right.
+    need (depthRight loadDepth) badLoadDepth
     (need (depthRight storeDepth) badStoreDepth
     (need (memoryRight words) badMemoryLength
     (need (allOf (groupFits loadDepth storeDepth) groups) groupTooLarge
-    (accept (opened groups loadDepth storeDepth first words))))))
+    (accept (opened groups loadDepth storeDepth first words)))))
 
 -- ---- the records of queues that hold no entry
 -- a side with no entry, whose series begins at this serial

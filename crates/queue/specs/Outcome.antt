@@ -13,7 +13,7 @@ use Rattle.queue.specs.declared.Queue.{Queue}
 use Rattle.queue.specs.declared.Outcome.{Outcome}
 use Rattle.queue.specs.declared.Opened.{Opened}
 use Rattle.queue.specs.declared.Counted.{Counted}
-use Rattle.queue.specs.Ruled.{Ruled, refuse, accept}
+use Rattle.number.specs.Reply.{Reply, refuse, accept}
 use Rattle.queue.specs.Contents.{Contents, contentsOf}
 use Rattle.queue.specs.Serve.{Served}
 use Rattle.queue.specs.Write.{Written}
@@ -45,12 +45,12 @@ pub record Accepted (value : Option ℕ) (queue : Contents) (r : Outcome) : Type
   pub holds : contentsOf (r .queue) ≡ queue
 
 -- a call that gives no value: activate and the three argument calls
-abbrev pub Moves : Queue → Ruled Contents → Outcome → Type 0
+abbrev pub Moves : Queue → Reply Contents → Outcome → Type 0
 Moves q (refuse n) r = handed r ≡ noValue n q
 Moves q (accept next) r = Accepted none next r
 
 -- take
-abbrev pub Takes : Queue → Ruled Taken → Outcome → Type 0
+abbrev pub Takes : Queue → Reply Taken → Outcome → Type 0
 Takes q (refuse n) r = handed r ≡ noValue n q
 Takes q (accept t) r = Accepted (some (t .value)) (t .queue) r
 
@@ -69,7 +69,7 @@ pub record HandedCounts : Type 0 where
 abbrev pub handedCounts : Counted → HandedCounts
 handedCounts r = record { outcome = record { answer = r .answer; value = valueIn (r .value); queue = r .queue }; counts = r .counts }
 
-abbrev pub Serves : Queue → Counts → Ruled Served → Counted → Type 0
+abbrev pub Serves : Queue → Counts → Reply Served → Counted → Type 0
 Serves q c (refuse n) r = handedCounts r ≡ record { outcome = noValue n q; counts = c }
 Serves q c (accept s) r = ServedWell s c r
 
@@ -89,11 +89,11 @@ pub record Unwritten (q : Queue) (n : ℕ) (lent : List ℕ) (r : Outcome) (memo
   pub outcome : handed r ≡ noValue n q
   pub memory-is : memory ≡ lent
 
-abbrev pub Writes : Queue → List ℕ → Ruled Written → Outcome → List ℕ → Type 0
+abbrev pub Writes : Queue → List ℕ → Reply Written → Outcome → List ℕ → Type 0
 Writes q lent (refuse n) r memory = Unwritten q n lent r memory
 Writes q lent (accept w) r memory = WrittenWell w r memory
 
 -- opening; a refused one hands back the queue of no table, which means nothing
-abbrev pub Opens : Queue → Ruled Contents → Opened → Type 0
+abbrev pub Opens : Queue → Reply Contents → Opened → Type 0
 Opens blank (refuse n) r = r ≡ record { answer = n; queue = blank }
 Opens blank (accept q) r = (r .answer ≡ 0) × (contentsOf (r .queue) ≡ q)

@@ -20,7 +20,7 @@ use Rattle.queue.specs.declared.ready.ReadyCount.{ReadyCount}
 use Rattle.queue.specs.declared.opening.OpenedFrame.{OpenedFrame}
 use Rattle.queue.specs.Contents.{ofKind}
 use Rattle.number.specs.Refusal.{unsound}
-use Rattle.queue.specs.Ruled.{Ruled, refuse, accept, need}
+use Rattle.number.specs.Reply.{Reply, refuse, accept, need}
 use Rattle.queue.specs.Contents.{Contents, contentsOf}
 use Rattle.queue.specs.Open.{noFrame}
 
@@ -49,13 +49,13 @@ unfoldable pub whole : List ℕ → List ℕ → Bool
 whole loads stores = eqb (length loads) 64 && eqb (length stores) 64
 
 -- a rule of a queue, where its entries are lent
-abbrev pub onParts : {A : Type 0} → List ℕ → List ℕ → Ruled A → Ruled A
+abbrev pub onParts : {A : Type 0} → List ℕ → List ℕ → Reply A → Reply A
 onParts loads stores rule = need (whole loads stores) unsound rule
 
 -- On two runs of 64 numbers it is the rule itself (proofs/PartsLaws.antt). So a list of calls on parts is a run of the records
 -- that these parts make, and demand 3 is said of it (`RunsOnParts.antt` of the crate `sequential`).
 abbrev pub OnWholeRuns : Type 1
-OnWholeRuns = (A : Type 0) (loads stores : List ℕ) (rule : Ruled A) → length loads ≡ 64 → length stores ≡ 64 → onParts loads stores rule ≡ rule
+OnWholeRuns = (A : Type 0) (loads stores : List ℕ) (rule : Reply A) → length loads ≡ 64 → length stores ≡ 64 → onParts loads stores rule ≡ rule
 
 -- ---- what a call on the parts gave, with the runs that it left: what a call on the queue hands back
 -- an answer with no value
@@ -79,6 +79,6 @@ readiedOf r q = record { answer = r .answer; count = r .count; queue = q }
 
 -- Opening a frame: an accepted opening hands back just this one. It holds no entry, so with whatever runs are lent it is the
 -- queue that the rule gives. A refused opening hands back the frame of no table, which means nothing.
-abbrev pub OpensFrame : Frame → Ruled Contents → OpenedFrame → Type 0
+abbrev pub OpensFrame : Frame → Reply Contents → OpenedFrame → Type 0
 OpensFrame fresh (refuse n) r = r ≡ record { answer = n; frame = noFrame }
 OpensFrame fresh (accept q) r = (r ≡ record { answer = 0; frame = fresh }) × ((loads stores : List ℕ) → contentsOf (queueOf fresh loads stores) ≡ q)

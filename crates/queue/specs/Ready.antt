@@ -12,7 +12,7 @@ use Rattle.queue.specs.declared.Kind.{Kind}
 use Rattle.queue.specs.declared.Queue.{Queue}
 use Rattle.queue.specs.declared.Readied.{Readied}
 use Rattle.queue.specs.Contents.{ofKind}
-use Rattle.queue.specs.Ruled.{Ruled, refuse, accept, need, number}
+use Rattle.number.specs.Reply.{Reply, refuse, accept, need, number}
 use Rattle.queue.specs.Contents.{Contents, after, oldest}
 use Rattle.queue.specs.Sound.{sound}
 use Rattle.queue.specs.Serve.{serve}
@@ -46,7 +46,7 @@ unfoldable pub readySerials : Kind → Contents → List ℕ
 readySerials kind q = keepWhere (would kind q) (serials (oldestOf kind q) (countOf kind q))
 
 -- the serials that a ready call puts at the front of a run of numbers
-unfoldable pub ready : Kind → Contents → List ℕ → Ruled (List ℕ)
+unfoldable pub ready : Kind → Contents → List ℕ → Reply (List ℕ)
 ready kind q run =
     need (sound q) unsound
     (need (leb (length (readySerials kind q)) (length run)) tooShort
@@ -70,16 +70,16 @@ pub record ReadyWell (q : Queue) (found lent : List ℕ) (r : Readied) (run : Li
   pub run-is : run ≡ found ++ drop (length found) lent
 
 -- the run as it was lent and as it is left
-abbrev pub Readies : Queue → List ℕ → Ruled (List ℕ) → Readied → List ℕ → Type 0
+abbrev pub Readies : Queue → List ℕ → Reply (List ℕ) → Readied → List ℕ → Type 0
 Readies q lent (refuse n) r run = Unready q n lent r run
 Readies q lent (accept found) r run = ReadyWell q found lent r run
 
 -- Where the front part is handed back: the answer's number, the serials, or none where it is refused, and the very queue.
-abbrev pub frontOf : Ruled (List ℕ) → List ℕ
+abbrev pub frontOf : Reply (List ℕ) → List ℕ
 frontOf (refuse n) = []
 frontOf (accept found) = found
 
-pub record Fronts (q : Queue) (rule : Ruled (List ℕ)) (answer : ℕ) (serials : List ℕ) (queue : Queue) : Type 0 where
+pub record Fronts (q : Queue) (rule : Reply (List ℕ)) (answer : ℕ) (serials : List ℕ) (queue : Queue) : Type 0 where
   pub answer-is : answer ≡ number rule
   pub serials-are : serials ≡ frontOf rule
   pub queue-is : queue ≡ q

@@ -10,7 +10,8 @@ use lib.Dec.{eqb}
 use lib.ListN.{length, take, getD, getElem?}
 use Rattle.number.specs.Basics.{pick}
 use Rattle.number.specs.Refusal.{unsound, wrongMemory, noSerial, alreadyDone, noAddress, earlierStoreUnknown, noData}
-use Rattle.queue.specs.Ruled.{Ruled, refuse, accept, need, have, andThen, isSome}
+use Rattle.number.specs.Basics.{isSome}
+use Rattle.number.specs.Reply.{Reply, refuse, accept, need, have, andThen}
 use Rattle.queue.specs.Contents.{Load, Store, Contents, withLoads, updateAt, loadPlace}
 use Rattle.queue.specs.Sound.{sound}
 
@@ -51,13 +52,13 @@ pub record Loaded : Type 0 where
   pub forwarded : Bool
 
 -- what a load of the address gets from its source: 28, 29
-abbrev pub loadedFrom : List ℕ → ℕ → Source → Ruled Loaded
+abbrev pub loadedFrom : List ℕ → ℕ → Source → Reply Loaded
 loadedFrom memory a unknown = refuse earlierStoreUnknown
 loadedFrom memory a (fromStore word) = have word noData λ w. accept (record { value = w; forwarded = true })
 loadedFrom memory a fromMemory = accept (record { value = getD memory a 0; forwarded = false })
 
 -- what serving a load gives it, with these stores before it: 26, 27, and then by its source
-abbrev pub mayServe : List ℕ → List Store → Load → Ruled Loaded
+abbrev pub mayServe : List ℕ → List Store → Load → Reply Loaded
 mayServe memory ss l =
     need (not (isSome (l .value))) alreadyDone
     (have (l .address) noAddress λ a.
@@ -79,14 +80,14 @@ abbrev pub storesBefore : Contents → Load → List Store
 storesBefore q l = take (l .before) (q .stores)
 
 -- serving the load at a place: 25, and then as the load may be served
-abbrev pub serveAt : Contents → List ℕ → ℕ → Ruled Served
+abbrev pub serveAt : Contents → List ℕ → ℕ → Reply Served
 serveAt q memory place =
     have (getElem? (q .loads) place) noSerial λ l.
     andThen (mayServe memory (storesBefore q l) l) λ v.
     accept (servedWith q place v)
 
 -- serving the load with a serial: 40, 30, and then by its place
-unfoldable pub serve : Contents → List ℕ → ℕ → Ruled Served
+unfoldable pub serve : Contents → List ℕ → ℕ → Reply Served
 serve q memory serial =
     need (sound q) unsound
     (need (eqb (length memory) (q .memoryLength)) wrongMemory

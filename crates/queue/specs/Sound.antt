@@ -4,10 +4,11 @@
 use Prim.Native.Nat.{ℕ}
 use mathlib.Core.Bool.{Bool, true, _&&_}
 use mathlib.Core.Option.{Option, none, some}
-use lib.Dec.{leb, ltb, eqb}
+use lib.Dec.{leb, ltb}
 use lib.ListN.{length}
 use Rattle.number.specs.Basics.{allOf, within}
-use Rattle.table.specs.Table.{tableFault}
+use Rattle.number.specs.Reply.{accepted}
+use Rattle.table.specs.Table.{checkTable}
 use Rattle.queue.specs.Contents.{Load, Store, Contents}
 
 -- "depths are 1 to 64 entries each, memory is 1 to 4,096 words"
@@ -37,4 +38,4 @@ sound q =
     && leb (length (q .stores)) (q .storeDepth)
     && allOf (loadRight (q .memoryLength) (length (q .stores))) (q .loads)
     && allOf (storeRight (q .memoryLength) (length (q .loads))) (q .stores)
-    && eqb (tableFault (q .groups)) 0
+    && accepted (checkTable (q .groups))

@@ -7,7 +7,7 @@ use lib.ListN.{getElem?}
 use Rattle.number.specs.Basics.{anyOf}
 use Rattle.queue.specs.declared.Kind.the-variants.{Load as load}
 use Rattle.number.specs.Refusal.{unsound, noPort, noneUntaken, notServed}
-use Rattle.queue.specs.Ruled.{Ruled, accept, need, have}
+use Rattle.number.specs.Reply.{Reply, accept, need, have}
 use Rattle.queue.specs.Contents.{Load, Contents, withLoads, updateAt, firstPlace}
 use Rattle.queue.specs.Sound.{sound}
 use Rattle.queue.specs.Arguments.{namesPort}
@@ -24,7 +24,7 @@ untaken port l = eqb (l .port) port && not (l .taken)
 abbrev pub loadTaken : Load → Load
 loadTaken l = record { port = l .port; address = l .address; value = l .value; taken = true; before = l .before }
 
-unfoldable pub takeRule : Contents → ℕ → Ruled Taken
+unfoldable pub takeRule : Contents → ℕ → Reply Taken
 takeRule q port =
     need (sound q) unsound
     (need (anyOf (namesPort load port) (q .groups)) noPort

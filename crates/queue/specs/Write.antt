@@ -8,7 +8,8 @@ use lib.Dec.{eqb}
 use lib.ListN.{length, take, set, getElem?}
 use Rattle.number.specs.Basics.{allOf}
 use Rattle.number.specs.Refusal.{unsound, wrongMemory, noSerial, alreadyDone, noAddress, noData, loadConflict, storeConflict}
-use Rattle.queue.specs.Ruled.{Ruled, accept, need, have, andThen, isSome}
+use Rattle.number.specs.Basics.{isSome}
+use Rattle.number.specs.Reply.{Reply, accept, need, have, andThen}
 use Rattle.queue.specs.Contents.{Load, Store, Contents, withStores, updateAt, storePlace}
 use Rattle.queue.specs.Sound.{sound}
 use Rattle.queue.specs.Retire.{retire}
@@ -39,7 +40,7 @@ pub record WordPut : Type 0 where
   pub word : ℕ
 
 -- what writing a store puts where, with these loads and these stores before it: 26, 27, 29, 31, 32
-abbrev pub mayWrite : List Load → List Store → Store → Ruled WordPut
+abbrev pub mayWrite : List Load → List Store → Store → Reply WordPut
 mayWrite ls ss s =
     need (not (s .written)) alreadyDone
     (have (s .address) noAddress λ a.
@@ -60,14 +61,14 @@ abbrev pub loadsBefore : Contents → Store → List Load
 loadsBefore q s = take (s .before) (q .loads)
 
 -- writing the store at a place: 25, and then as the store may be written
-abbrev pub writeAt : Contents → List ℕ → ℕ → Ruled Written
+abbrev pub writeAt : Contents → List ℕ → ℕ → Reply Written
 writeAt q memory place =
     have (getElem? (q .stores) place) noSerial λ s.
     andThen (mayWrite (loadsBefore q s) (take place (q .stores)) s) λ p.
     accept (writtenWith q memory place p)
 
 -- writing the store with a serial: 40, 30, and then by its place
-unfoldable pub write : Contents → List ℕ → ℕ → Ruled Written
+unfoldable pub write : Contents → List ℕ → ℕ → Reply Written
 write q memory serial =
     need (sound q) unsound
     (need (eqb (length memory) (q .memoryLength)) wrongMemory

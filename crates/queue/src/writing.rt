@@ -7,7 +7,7 @@ ghost use Rattle.table.specs.declared.Table.{Table};
 ghost use Rattle.queue.specs.Entry.{entryOf};
 ghost use Rattle.queue.specs.Contents.{contentsOf};
 ghost use Rattle.queue.specs.Write.{writeAt, write};
-ghost use Rattle.queue.specs.Ruled.{number};
+ghost use Rattle.number.specs.Reply.{number};
 ghost use Rattle.queue.specs.Outcome.{Writes};
 ghost use Rattle.queue.specs.Parts.{frameOf, queueOf, outcomeOf, onParts};
 ghost use Rattle.queue.specs.Internal.{entriesHeld, frameWith, Checked};

@@ -12,7 +12,7 @@ use Rattle.queue.specs.declared.arguments.Argument.the-variants as Argument
 use Rattle.queue.specs.declared.Queue.{Queue}
 use Rattle.queue.specs.declared.Outcome.{Outcome}
 use Rattle.queue.specs.declared.Counted.{Counted}
-use Rattle.queue.specs.Ruled.{Ruled, refuse, accept}
+use Rattle.number.specs.Reply.{Reply, refuse, accept}
 use Rattle.queue.specs.Contents.{Contents, contentsOf}
 use Rattle.queue.specs.Activate.{activate}
 use Rattle.queue.specs.Arguments.{give}
@@ -48,25 +48,25 @@ module _ (q : Queue) (c : Counts) (m : List ℕ) (e : Event) where
       from-step _ (withCounts o c) left is (sym (ap (λ (x : Handed). x .answer) h)) (sym (ap (λ (x : Handed). x .value) h))
       (ap₂ machine (sym (ap (λ (x : Handed). contentsOf (x .queue)) h)) (sym same)) counts
 
-  moves-play : (rule : Ruled Contents) (o : Outcome) → stepOf now e ≡ moveResponse (machine (contentsOf q) m) rule → countsAfter now e ≡ c
+  moves-play : (rule : Reply Contents) (o : Outcome) → stepOf now e ≡ moveResponse (machine (contentsOf q) m) rule → countsAfter now e ≡ c
       → Moves q rule o → Plays q c m e (withCounts o c) m
   moves-play (refuse n) o is counts w = refused-plays o m is w refl counts
   moves-play (accept next) o is counts w = from-step _ (withCounts o c) m is (sym (w .answer)) (sym (w .gives))
       (ap (λ (x : Contents). machine x m) (sym (w .holds))) counts
 
-  takes-play : (rule : Ruled Taken) (o : Outcome) → stepOf now e ≡ takeResponse (machine (contentsOf q) m) rule → countsAfter now e ≡ c
+  takes-play : (rule : Reply Taken) (o : Outcome) → stepOf now e ≡ takeResponse (machine (contentsOf q) m) rule → countsAfter now e ≡ c
       → Takes q rule o → Plays q c m e (withCounts o c) m
   takes-play (refuse n) o is counts w = refused-plays o m is w refl counts
   takes-play (accept t) o is counts w = from-step _ (withCounts o c) m is (sym (w .answer)) (sym (w .gives))
       (ap (λ (x : Contents). machine x m) (sym (w .holds))) counts
 
-  writes-play : (rule : Ruled Written) (o : Outcome) (left : List ℕ) → stepOf now e ≡ writeResponse (machine (contentsOf q) m) rule
+  writes-play : (rule : Reply Written) (o : Outcome) (left : List ℕ) → stepOf now e ≡ writeResponse (machine (contentsOf q) m) rule
       → countsAfter now e ≡ c → Writes q m rule o left → Plays q c m e (withCounts o c) left
   writes-play (refuse n) o left is counts w = refused-plays o left is (w .outcome) (w .memory-is) counts
   writes-play (accept t) o left is counts w = from-step _ (withCounts o c) left is (sym (w .outcome .answer)) (sym (w .outcome .gives))
       (ap₂ machine (sym (w .outcome .holds)) (sym (w .memory-is))) counts
 
-  serves-play : (rule : Ruled Served) (r : Counted) → stepOf now e ≡ serveResponse (machine (contentsOf q) m) rule
+  serves-play : (rule : Reply Served) (r : Counted) → stepOf now e ≡ serveResponse (machine (contentsOf q) m) rule
       → countsAfter now e ≡ afterServe c rule → Serves q c rule r → Plays q c m e r m
   serves-play (refuse n) r is counts w =
       let h = ap (λ (x : HandedCounts). x .outcome) w in
@@ -84,10 +84,11 @@ giving Argument.StoreData p w = StoreData p w
 -- the same for each kind of event, where the runs of entries are whole
 module _ (q : Queue) (c : Counts) (m : List ℕ) (full : whole (q .«load_entries») (q .«store_entries») ≡ true) where
   -- a rule on the parts
-  abbrev onRuns : {A : Type 0} → Ruled A → Ruled A
+  abbrev onRuns : {A : Type 0} → Reply A → Reply A
   onRuns rule = onParts (q .«load_entries») (q .«store_entries») rule
 
-  pub play-activate : {e : Event} (g : ℕ) (o : Outcome) → e ≡ Activate g → Moves q (onRuns (activate (contentsOf q) g)) o → Plays q c m e (withCounts o c) m
+  pub play-activate : {e : Event} (g : ℕ) (o : Outcome) → e ≡ Activate g → Moves q (onRuns (activate (contentsOf q) g)) o
+      → Plays q c m e (withCounts o c) m
   play-activate g o is w = rw is (moves-play q c m (Activate g) (activate (contentsOf q) g) o refl refl (rw full at w))
 
   pub play-give : {e : Event} (argument : Argument) (p x : ℕ) (o : Outcome) → e ≡ giving argument p x

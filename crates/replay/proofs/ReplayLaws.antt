@@ -5,18 +5,18 @@ use mathlib.Core.Path.{_≡_, refl, sym, ap, ap₂, _∙_}
 use mathlib.Core.List.{List, [], _∷_, _++_, map, map-append, append-nil}
 use mathlib.Core.Option.{Option}
 use native.Mathlib.Omega.{arith}
-use lib.Dec.{leb}
+use lib.Dec.{eqb, leb}
 use lib.ListN.{length, drop, set, getD, length-append, length-drop, length-map}
 use borrow.Author.Tests.{eq-eqb, ne-eqb, le-leb, leb-true}
 use lib.Seq.{set-at, drop-cons, append-snoc}
-use Rattle.number.specs.Number.{Got, got, bad, before}
+use Rattle.number.specs.Reply.{Reply, refuse, accept, andThen}
+use Rattle.number.proofs.ReplyLaws.{refused-accepted, andThen-accepts, refusesAmong, need-among, andThen-among, notZero}
 use Rattle.number.specs.Refusal.{tooShort, wrongMemory}
 use Rattle.table.specs.Group.{GroupPairs}
 use Rattle.trace.specs.declared.Event.{Event}
 use Rattle.counts.specs.declared.Counts.{Counts}
 use Rattle.queue.specs.declared.Counted.{Counted}
 use Rattle.queue.specs.declared.Queue.{Queue}
-use Rattle.queue.specs.Ruled.{Ruled, accept, andThen}
 use Rattle.queue.specs.Contents.{Contents, contentsOf}
 use Rattle.queue.specs.Outcome.{valueIn}
 use Rattle.number.proofs.Both.{and-left, and-right}
@@ -27,6 +27,7 @@ use Rattle.replay.specs.Replay.{Start, prepare, replayed, Buffers, fits,
 use Rattle.replay.specs.Outcome.{atFront, logIn, Unreplayed, ReplayedWell, Replays}
 use Rattle.replay.specs.Internal.{Plays, PutAnswer, Playable, eventsIn, through}
 use Rattle.trace.proofs.TraceSteps.{EventGot}
+use Rattle.replay.proofs.PrepareLaws.{prepare-proper}
 
 abbrev pub buffers : List ℕ → List ℕ → List ℕ → Buffers
 buffers a g w = record { answers = a; given = g; values = w }
@@ -65,7 +66,7 @@ module _ (n : ℕ) (b : Buffers) where
 pub record Walk (s : List ℕ) (start : ℕ) (p₀ : Playing) (b₀ : Buffers) (place i : ℕ) (p : Playing) (b : Buffers) : Type 0 where
   pub done : List Logged
   pub left : List Event
-  pub reads : eventsFrom s place ≡ got left []
+  pub reads : eventsFrom s place ≡ accept left
   pub logs : log p₀ (eventsIn (eventsFrom s start)) ≡ done ++ log p left
   pub ends : playedAll p₀ (eventsIn (eventsFrom s start)) ≡ playedAll p left
   pub many : length done ≡ i
@@ -79,8 +80,8 @@ walk-none {p₀ = p₀} {b₀} w = record {
   done = [];
   left = w .events;
   reads = w .is;
-  logs = ap (λ (g : Got (List Event)). log p₀ (eventsIn g)) (w .is);
-  ends = ap (λ (g : Got (List Event)). playedAll p₀ (eventsIn g)) (w .is);
+  logs = ap (λ (g : Reply (List Event)). log p₀ (eventsIn g)) (w .is);
+  ends = ap (λ (g : Reply (List Event)). playedAll p₀ (eventsIn g)) (w .is);
   many = refl;
   are = refl;
   answers = omega (arith, room-for (length (w .events)) b₀ (w .room) .0);
@@ -92,21 +93,13 @@ walk-none {p₀ = p₀} {b₀} w = record {
 pub record Next (s : List ℕ) (next : ℕ) (left : List Event) (e : Event) : Type 0 where
   pub rest : List Event
   pub is : left ≡ e ∷ rest
-  pub reads : eventsFrom s next ≡ got rest []
+  pub reads : eventsFrom s next ≡ accept rest
 
-pub next-left : {s : List ℕ} {place next : ℕ} {e : Event} (left : List Event) → eventsFrom s place ≡ got left []
+pub next-left : {s : List ℕ} {place next : ℕ} {e : Event} (left : List Event) → eventsFrom s place ≡ accept left
     → EventGot s place e next → Next s next left e
-next-left {s} {place} {next} {e} left reads g = go (eventsFrom s next) refl
-  where
-    go : (h : Got (List Event)) → eventsFrom s next ≡ h → Next s next left e
-    go (bad n) d =
-        let f : before e (bad n) ≡ got left [] = ap (before e) (sym d) ∙ sym (g .is) ∙ reads in
-        let z : _≡_ {A = ℕ} 0 1 = cc in absurd (omega arith)
-    go (got es rest) d =
-        let f : before e (got es rest) ≡ got left [] = ap (before e) (sym d) ∙ sym (g .is) ∙ reads in
-        let x : left ≡ e ∷ es = cc in
-        let y : rest ≡ [] = cc in
-        record { rest = es; is = x; reads = d ∙ ap (got es) y }
+next-left {s} {place} {next} {e} left reads g =
+    let (es, d, f) = andThen-accepts (eventsFrom s next) (λ l. accept (e ∷ l)) (sym (g .is) ∙ reads) in
+    record { rest = es; is = cc; reads = d }
 
 abbrev asLogged : ℕ → Option ℕ → Logged
 asLogged n v = record { number = n; value = v }
@@ -172,10 +165,10 @@ walk-more {s} {start} {p₀} {b₀} {b} {b₂} {place} {i} {next} {q} {c} {m} {l
 
 -- no event is left
 pub walk-end : {s : List ℕ} {start : ℕ} {p₀ : Playing} {b₀ : Buffers} {place i : ℕ} {p : Playing} {b : Buffers} → Walk s start p₀ b₀ place i p b
-    → eventsFrom s place ≡ got [] []
+    → eventsFrom s place ≡ accept []
     → ReplayedWell (through p₀ (eventsIn (eventsFrom s start))) b₀ (record { answer = 0; events = i; counts = p .counts }) (p .machine .memory) b
 walk-end {s} {start} {p₀} {b₀} {place} {i} {p} {b} w h =
-    let z : got (w .left) [] ≡ got [] [] = sym (w .reads) ∙ h in
+    let z : accept (w .left) ≡ accept [] = sym (w .reads) ∙ h in
     let none : w .left ≡ [] = cc in
     let logs : log p₀ (eventsIn (eventsFrom s start)) ≡ w .done = w .logs ∙ ap (λ (l : List Event). w .done ++ log p l) none ∙ append-nil (w .done) in
     let ends : playedAll p₀ (eventsIn (eventsFrom s start)) ≡ p = w .ends ∙ ap (playedAll p) none in
@@ -187,11 +180,8 @@ walk-end {s} {start} {p₀} {b₀} {place} {i} {p} {b} w h =
 
 -- every event that is left can be read
 pub walk-no-fault : {s : List ℕ} {start : ℕ} {p₀ : Playing} {b₀ : Buffers} {place i : ℕ} {p : Playing} {b : Buffers} {k : ℕ}
-    → Walk s start p₀ b₀ place i p b → eventsFrom s place ≡ bad k → ⊥
-walk-no-fault {k = k} w h =
-    let z : got (w .left) [] ≡ bad k = sym (w .reads) ∙ h in
-    let y : _≡_ {A = ℕ} 0 1 = cc in
-    omega arith
+    → Walk s start p₀ b₀ place i p b → eventsFrom s place ≡ refuse k → ⊥
+walk-no-fault w h = refused-accepted (sym h ∙ w .reads)
 
 -- ---- what is handed back
 -- a refused replay leaves all as it was lent
@@ -200,14 +190,14 @@ pub unplayed : {n : ℕ} {memory : List ℕ} {c : Counts} {b : Buffers} {r : Rep
 unplayed f = record { outcome = f; memory-is = refl; buffers-are = refl }
 
 -- the order of checking
-module _ (q : Contents) (g : Got (List Event)) (memory : List ℕ) (c : Counts) (b : Buffers) where
+module _ (q : Contents) (g : Reply (List Event)) (memory : List ℕ) (c : Counts) (b : Buffers) where
   abbrev Refused : ℕ → Replayed → Type 0
   Refused n r = r ≡ record { answer = n; events = 0; counts = c } → Replays memory c b (replayFrom q g memory c b) r memory b
 
-  pub replay-fault : {n : ℕ} {r : Replayed} → g ≡ bad n → Refused n r
+  pub replay-fault : {n : ℕ} {r : Replayed} → g ≡ refuse n → Refused n r
   replay-fault e f = rw e (unplayed f)
 
-  module _ {es : List Event} {rest : List ℕ} (is : g ≡ got es rest) where
+  module _ {es : List Event} (is : g ≡ accept es) where
     pub replay-memory : {r : Replayed} → (length memory ≡ q .memoryLength → ⊥) → Refused wrongMemory r
     replay-memory h f = rw (is, ne-eqb (length memory) (q .memoryLength) h) (unplayed f)
 
@@ -219,7 +209,15 @@ module _ (q : Contents) (g : Got (List Event)) (memory : List ℕ) (c : Counts) 
       replay-accepted h = rw (is, eq-eqb (length memory) (q .memoryLength) long, h)
 
 -- a whole trace is replayed as its events are
-pub replay-opened : (gs : List GroupPairs) (trace memory : List ℕ) (c : Counts) (b : Buffers) {rule : Ruled Start} → prepare gs trace ≡ rule
+pub replay-opened : (gs : List GroupPairs) (trace memory : List ℕ) (c : Counts) (b : Buffers) {rule : Reply Start} → prepare gs trace ≡ rule
     → replay gs trace memory c b ≡ andThen rule (replayStart memory c b)
 unfolding replay
 replay-opened gs trace memory c b e = rw e
+
+-- no refusal of it is 0
+pub replay-proper : (gs : List GroupPairs) (trace memory : List ℕ) (c : Counts) (b : Buffers) → refusesAmong notZero (replay gs trace memory c b) ≡ true
+unfolding replay
+replay-proper gs trace memory c b =
+    andThen-among notZero (prepare gs trace) _ (prepare-proper gs trace) λ s.
+    need-among notZero (eqb (length memory) (s .queue .memoryLength)) wrongMemory _ refl
+    (need-among notZero (fits (length (s .events)) b) tooShort _ refl refl)

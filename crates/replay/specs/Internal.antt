@@ -4,7 +4,7 @@ use mathlib.Core.Path.{_≡_}
 use mathlib.Core.Bool.{true}
 use mathlib.Core.List.{List, []}
 use lib.ListN.{length, set}
-use Rattle.number.specs.Number.{Got, got, bad}
+use Rattle.number.specs.Reply.{Reply, refuse, accept}
 use Rattle.trace.specs.declared.Event.{Event}
 use Rattle.counts.specs.declared.Counts.{Counts}
 use Rattle.queue.specs.declared.Value.{Value}
@@ -22,12 +22,12 @@ use Rattle.replay.specs.Replay.{Replay, Buffers, fits}
 -- every event from a place on can be read, and there is room for what each is answered
 pub record Playable (s : List ℕ) (place : ℕ) (b : Buffers) : Type 0 where
   pub events : List Event
-  pub is : eventsFrom s place ≡ got events []
+  pub is : eventsFrom s place ≡ accept events
   pub room : fits (length events) b ≡ true
 
-abbrev pub eventsIn : Got (List Event) → List Event
-eventsIn (got es rest) = es
-eventsIn (bad n) = []
+abbrev pub eventsIn : Reply (List Event) → List Event
+eventsIn (accept es) = es
+eventsIn (refuse n) = []
 
 -- playing these events
 abbrev pub through : Playing → List Event → Replay

@@ -16,7 +16,7 @@ use Rattle.table.specs.RightTables.{Each}
 use Rattle.queue.specs.declared.Kind.the-variants.{Load as load}
 use Rattle.queue.specs.declared.arguments.Argument.{Argument}
 use Rattle.queue.specs.declared.arguments.Argument.the-variants.{LoadAddress, StoreAddress, StoreData}
-use Rattle.queue.specs.Ruled.{Ruled, refuse, accept}
+use Rattle.number.specs.Reply.{Reply, refuse, accept}
 use Rattle.queue.specs.Contents.{Contents, loadPlace, storePlace, firstPlace}
 use Rattle.queue.specs.Sound.{sound}
 use Rattle.queue.specs.Activate.{activate}
@@ -26,7 +26,7 @@ use Rattle.queue.specs.Write.{Written, write}
 use Rattle.queue.specs.Take.{Taken, untaken, takeRule}
 use Rattle.queue.specs.Parts.{queueOf}
 use Rattle.queue.proofs.Lists.{false-true}
-use Rattle.queue.proofs.Refusals.{need-accepts, have-accepts}
+use Rattle.number.proofs.ReplyLaws.{need-accepts, have-accepts}
 use Rattle.queue.proofs.EmptyGroups.{empty-groups-take-no-place}
 use Rattle.sequential.specs.Calls.{Call, Activate, Give, Serve, Write, Take, Ready}
 use Rattle.sequential.specs.Answers.{Machine, machine, moveResponse, serveResponse, writeResponse, takeResponse, step, answers, machineAfter}
@@ -186,28 +186,28 @@ module _ (groups : List GroupPairs) (m : Machine) (fresh : Fresh groups (m .queu
       → step m c .machine ≡ m
   call-leaves (Activate g) others e = go (activate (m .queue) g) refl e
     where
-      go : (r : Ruled Contents) → activate (m .queue) g ≡ r → Each Empty (pick (eqb (moveResponse m r .number) 0) (g ∷ others) others)
+      go : (r : Reply Contents) → activate (m .queue) g ≡ r → Each Empty (pick (eqb (moveResponse m r .number) 0) (g ∷ others) others)
           → moveResponse m r .machine ≡ m
       go (refuse n) k e = refl
       go (accept q) k e = ap (λ (x : Contents). machine x (m .memory)) (activate-leaves g q (e .0) k)
   call-leaves (Give argument port x) others e = go (give argument (m .queue) port x) refl
     where
-      go : (r : Ruled Contents) → give argument (m .queue) port x ≡ r → moveResponse m r .machine ≡ m
+      go : (r : Reply Contents) → give argument (m .queue) port x ≡ r → moveResponse m r .machine ≡ m
       go (refuse n) k = refl
       go (accept q) k = absurd (give-refused argument port x q k)
   call-leaves (Serve c s) others e = go (serve (m .queue) (m .memory) s) refl
     where
-      go : (r : Ruled Served) → serve (m .queue) (m .memory) s ≡ r → serveResponse m r .machine ≡ m
+      go : (r : Reply Served) → serve (m .queue) (m .memory) s ≡ r → serveResponse m r .machine ≡ m
       go (refuse n) k = refl
       go (accept v) k = absurd (serve-refused s v k)
   call-leaves (Write s) others e = go (write (m .queue) (m .memory) s) refl
     where
-      go : (r : Ruled Written) → write (m .queue) (m .memory) s ≡ r → writeResponse m r .machine ≡ m
+      go : (r : Reply Written) → write (m .queue) (m .memory) s ≡ r → writeResponse m r .machine ≡ m
       go (refuse n) k = refl
       go (accept w) k = absurd (write-refused s w k)
   call-leaves (Take p) others e = go (takeRule (m .queue) p) refl
     where
-      go : (r : Ruled Taken) → takeRule (m .queue) p ≡ r → takeResponse m r .machine ≡ m
+      go : (r : Reply Taken) → takeRule (m .queue) p ≡ r → takeResponse m r .machine ≡ m
       go (refuse n) k = refl
       go (accept t) k = absurd (take-refused p t k)
   call-leaves (Ready kind run) others e = refl

@@ -9,9 +9,9 @@ use lib.ListN.{length, getD, set, getElem?}
 use borrow.Author.Tests.{lt-ltb}
 use Rattle.number.specs.Basics.{pick, anyOf, allOf, afterWhile}
 use Rattle.table.specs.Group.{GroupPairs, blankPair}
-use Rattle.table.specs.Table.{tableFault}
+use Rattle.table.specs.Table.{checkTable}
 use Rattle.table.proofs.OrderOffsets.{GroupRight, table-group-right}
-use Rattle.queue.specs.Ruled.{Ruled, refuse, accept, number}
+use Rattle.number.specs.Reply.{Reply, refuse, accept, number, passed}
 use Rattle.queue.specs.Contents.{Load, Store, Contents, withLoads, withStores, updateAt, firstPlace, loadPlace, storePlace}
 use Rattle.queue.specs.Sound.{sound}
 use Rattle.queue.specs.Activate.{room, withGroup, activate}
@@ -25,7 +25,8 @@ use Rattle.queue.specs.Ready.{ready}
 use Rattle.queue.specs.Internal.{loadAfter, storeAfter}
 use Rattle.number.proofs.Both.{and-left, and-right}
 use Rattle.queue.proofs.Lists.{false-true, and-both, all-join, all-take, all-map, all-weaken, all-middle, getElem?-split}
-use Rattle.queue.proofs.Refusals.{need-accepts, have-accepts, number-small, small, activate-small, serve-small, write-small, take-small, ready-small}
+use Rattle.number.proofs.ReplyLaws.{need-accepts, have-accepts}
+use Rattle.queue.proofs.Refusals.{number-small, small, activate-small, serve-small, write-small, take-small, ready-small}
 use Rattle.queue.proofs.Refusals.{give-accepts, give-small}
 use Rattle.queue.proofs.ActivateLaws.{with-group-is}
 use Rattle.queue.proofs.SourceLaws.{wordFrom, loaded-word, source-passes}
@@ -41,7 +42,8 @@ use Rattle.sequential.proofs.Stored.{loadFits, storeFits}
 
 -- ---- lists all of whose elements pass
 module _ {A : Type 0} (p : A → Bool) where
-  all-update : (f : A → A) → ((x : A) → p x ≡ true → p (f x) ≡ true) → (i : ℕ) (xs : List A) → allOf p xs ≡ true → allOf p (updateAt f i xs) ≡ true
+  all-update : (f : A → A) → ((x : A) → p x ≡ true → p (f x) ≡ true) → (i : ℕ) (xs : List A) → allOf p xs ≡ true
+      → allOf p (updateAt f i xs) ≡ true
   all-update f keeps i [] h = refl
   all-update f keeps zero (x ∷ xs) h = and-both (keeps x (and-left (p x) (allOf p xs) h)) (and-right (p x) (allOf p xs) h)
   all-update f keeps (suc i) (x ∷ xs) h = and-both (and-left (p x) (allOf p xs) h) (all-update f keeps i xs (and-right (p x) (allOf p xs) h))
@@ -162,7 +164,7 @@ module _ (q : Contents) (m : List ℕ) (f : Fits (machine q m)) where
 
 -- ---- a call that is accepted
 module _ (q : Contents) (m : List ℕ) (f : Fits (machine q m)) where
-  activate-fits : tableFault (q .groups) ≡ 0 → (group : ℕ) (q′ : Contents) → activate q group ≡ accept q′ → Fits (machine q′ m)
+  activate-fits : checkTable (q .groups) ≡ passed → (group : ℕ) (q′ : Contents) → activate q group ≡ accept q′ → Fits (machine q′ m)
   unfolding activate
   activate-fits right group q′ h₀ =
       let (t₁, h₁) = need-accepts (sound q) _ _ h₀ in
@@ -196,7 +198,8 @@ module _ (q : Contents) (m : List ℕ) (f : Fits (machine q m)) where
   write-fits : (serial : ℕ) (r : Written) → write q m serial ≡ accept r → Fits (machine (r .queue) (r .memory))
   write-fits serial r h = go (write-accepts q m serial r h)
     where
-      go : (s : Store) × (getElem? (q .stores) (storePlace q serial) ≡ some s) × Writing q m (storePlace q serial) r s → Fits (machine (r .queue) (r .memory))
+      go : (s : Store) × (getElem? (q .stores) (storePlace q serial) ≡ some s) × Writing q m (storePlace q serial) r s
+          → Fits (machine (r .queue) (r .memory))
       go (s, at, w) =
           let after : Contents = withStores q (updateAt storeDone (storePlace q serial) (q .stores)) in
           let word : wordFits (some (w .put .word)) ≡ true =
@@ -222,34 +225,35 @@ module _ (q : Contents) (m : List ℕ) (f : Fits (machine q m)) where
       (word, retire-fits after m (with-loads q m f loadTaken (λ x h. h) place))
 
 -- ---- a call
-module _ (m : Machine) (f : Fits m) (right : tableFault (m .queue .groups) ≡ 0) where
-  refused-fits : {A : Type 0} (rule : Ruled A) (n : ℕ) → small rule ≡ true → rule ≡ refuse n → Fitting (record { number = n; value = none; machine = m })
-  refused-fits {A} rule n p e = record { number = rw (ap (λ (x : Ruled A). number x) e) at (number-small rule p); value = refl; left = f }
+module _ (m : Machine) (f : Fits m) (right : checkTable (m .queue .groups) ≡ passed) where
+  refused-fits : {A : Type 0} (rule : Reply A) (n : ℕ) → small rule ≡ true → rule ≡ refuse n
+      → Fitting (record { number = n; value = none; machine = m })
+  refused-fits {A} rule n p e = record { number = rw (ap (λ (x : Reply A). number x) e) at (number-small rule p); value = refl; left = f }
 
   pub step-fits : (c : Call) → argumentFits c ≡ true → Fitting (step m c)
   step-fits (Activate g) h = go (activate (m .queue) g) refl
     where
-      go : (r : Ruled Contents) → activate (m .queue) g ≡ r → Fitting (moveResponse m r)
+      go : (r : Reply Contents) → activate (m .queue) g ≡ r → Fitting (moveResponse m r)
       go (refuse n) e = refused-fits (activate (m .queue) g) n (activate-small (m .queue) g) e
       go (accept q) e = record { number = omega arith; value = refl; left = activate-fits (m .queue) (m .memory) f right g q e }
   step-fits (Give kind p x) h = go (give kind (m .queue) p x) refl
     where
-      go : (r : Ruled Contents) → give kind (m .queue) p x ≡ r → Fitting (moveResponse m r)
+      go : (r : Reply Contents) → give kind (m .queue) p x ≡ r → Fitting (moveResponse m r)
       go (refuse n) e = refused-fits (give kind (m .queue) p x) n (give-small kind (m .queue) p x) e
       go (accept q) e = record { number = omega arith; value = refl; left = give-fits (m .queue) (m .memory) f kind p x q h e }
   step-fits (Serve c s) h = go (serve (m .queue) (m .memory) s) refl
     where
-      go : (r : Ruled Served) → serve (m .queue) (m .memory) s ≡ r → Fitting (serveResponse m r)
+      go : (r : Reply Served) → serve (m .queue) (m .memory) s ≡ r → Fitting (serveResponse m r)
       go (refuse n) e = refused-fits (serve (m .queue) (m .memory) s) n (serve-small (m .queue) (m .memory) s) e
       go (accept r) e = let (v, l) = serve-fits (m .queue) (m .memory) f s r e in record { number = omega arith; value = v; left = l }
   step-fits (Write s) h = go (write (m .queue) (m .memory) s) refl
     where
-      go : (r : Ruled Written) → write (m .queue) (m .memory) s ≡ r → Fitting (writeResponse m r)
+      go : (r : Reply Written) → write (m .queue) (m .memory) s ≡ r → Fitting (writeResponse m r)
       go (refuse n) e = refused-fits (write (m .queue) (m .memory) s) n (write-small (m .queue) (m .memory) s) e
       go (accept r) e = record { number = omega arith; value = refl; left = write-fits (m .queue) (m .memory) f s r e }
   step-fits (Take p) h = go (takeRule (m .queue) p) refl
     where
-      go : (r : Ruled Taken) → takeRule (m .queue) p ≡ r → Fitting (takeResponse m r)
+      go : (r : Reply Taken) → takeRule (m .queue) p ≡ r → Fitting (takeResponse m r)
       go (refuse n) e = refused-fits (takeRule (m .queue) p) n (take-small (m .queue) p) e
       go (accept r) e = let (v, l) = take-fits (m .queue) (m .memory) f p r e in record { number = omega arith; value = v; left = l }
   step-fits (Ready kind run) h =

@@ -10,10 +10,10 @@ use lib.Dec.{eqb}
 use lib.ListN.{length, length-append, getElem?}
 use Rattle.number.specs.Basics.{pick, allOf, countWhere}
 use Rattle.table.specs.Group.{GroupPairs}
-use Rattle.table.specs.Table.{tableFault}
+use Rattle.table.specs.Table.{checkTable}
 use Rattle.queue.specs.declared.arguments.Argument.{Argument}
 use Rattle.queue.specs.declared.Kind.{Kind}
-use Rattle.queue.specs.Ruled.{isSome}
+use Rattle.number.specs.Basics.{isSome}
 use Rattle.queue.specs.Contents.{Load, Store, Contents}
 use Rattle.queue.specs.Sound.{depthRight, memoryRight, addressRight}
 use Rattle.number.proofs.Both.{and-left, and-right}
@@ -27,6 +27,7 @@ use Rattle.sequential.proofs.Window.{Windows}
 use Rattle.sequential.proofs.MemoryInvariant.{MemoriesAgree}
 use Rattle.sequential.proofs.Rows.{Row, given, valueTaken, AllRows}
 use Rattle.sequential.proofs.PlainRun.{accessOf}
+use Rattle.number.specs.Reply.{accepted}
 
 -- what is true of every entry: what is taken was served, what is served or written has its arguments, addresses are in range
 abbrev pub rightLoad : ℕ → Load → Bool
@@ -63,7 +64,7 @@ pub record Limits (groups : List GroupPairs) (words loadDepth storeDepth : ℕ) 
   pub loadDepthRight : depthRight loadDepth ≡ true
   pub storeDepthRight : depthRight storeDepth ≡ true
   pub wordsRight : memoryRight words ≡ true
-  pub tableRight : eqb (tableFault groups) 0 ≡ true
+  pub tableRight : accepted (checkTable groups) ≡ true
 
 -- a queue and a memory that the log led to from the opening memory
 pub record Holds (q : Contents) (m memory : List ℕ) (log : List LogEntry) : Type 0 where

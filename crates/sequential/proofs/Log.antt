@@ -11,7 +11,7 @@ use lib.Dec.{leb}
 use lib.ListN.{length}
 use borrow.Author.Tests.{le-leb}
 use Rattle.number.specs.Basics.{allOf}
-use Rattle.queue.specs.Ruled.{isSome}
+use Rattle.number.specs.Basics.{isSome}
 use Rattle.queue.specs.Contents.{Load, Store}
 use Rattle.queue.specs.Retire.{loadFinished, storeFinished}
 use Rattle.queue.proofs.Lists.{false-true, and-both}
@@ -183,6 +183,7 @@ module _ {A : Type 0} (K : LogKind A) where
           → ((vs : List (Placed A)) → side K (suc n) es ≡ vs ++ x ∷ ys → Found (suc n) es vs)
           → Found n (e ∷ es) zs
       go none own zs k here passed = let (pre, post, is, f) = passed zs k in (e ∷ pre, post, ap (λ (l : List LogEntry). e ∷ l) is, rw (own, f))
-      go (some a) own [] k here passed = let same : x .entry ≡ a = sym (ap placedEntry (head-eq-of-cons-eq k)) in ([], es, rw (same, K .put-own e a own), refl)
+      go (some a) own [] k here passed =
+          let same : x .entry ≡ a = sym (ap placedEntry (head-eq-of-cons-eq k)) in ([], es, rw (same, K .put-own e a own), refl)
       go (some a) own (z ∷ zs) k here passed = let (pre, post, is, f) = here zs (tail-eq-of-cons-eq k) in
           (e ∷ pre, post, ap (λ (l : List LogEntry). e ∷ l) is, rw (own, f, head-eq-of-cons-eq k))

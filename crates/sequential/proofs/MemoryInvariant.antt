@@ -12,7 +12,7 @@ use lib.Seq.{getD-set-same, getD-set-other, set-comm}
 use borrow.Author.Tests.{eqb-true, eqb-false, not-true}
 use Rattle.number.specs.Basics.{pick, allOf}
 use Rattle.table.specs.Group.{Access, load, store}
-use Rattle.queue.specs.Ruled.{isSome}
+use Rattle.number.specs.Basics.{isSome}
 use Rattle.queue.specs.Contents.{Load, Store}
 use Rattle.queue.specs.Activate.{newLoad, newStore}
 use Rattle.queue.specs.Serve.{addressIs, hasAddress, unwrittenTo, Source, fromStore, source, loadWithValue}
@@ -40,7 +40,8 @@ does false m a w = set m a w
 abbrev pub MemoriesAgree : List ℕ → List ℕ → List LogEntry → Type 0
 MemoriesAgree m n [] = m ≡ n
 MemoriesAgree m n (ofLoad l ∷ es) = ((a : ℕ) → valueFits (l .address) a → reads (l .value) m a ≡ getD n a 0) × MemoriesAgree m n es
-MemoriesAgree m n (ofStore s ∷ es) = (a w : ℕ) → valueFits (s .address) a → valueFits (s .word) w → MemoriesAgree (does (s .written) m a w) (set n a w) es
+MemoriesAgree m n (ofStore s ∷ es) =
+    (a w : ℕ) → valueFits (s .address) a → valueFits (s .word) w → MemoriesAgree (does (s .written) m a w) (set n a w) es
 
 -- ---- one entry made anew
 
@@ -73,7 +74,8 @@ abbrev pub Holding : Option ℕ → ℕ → Type 0
 Holding k x = (v : ℕ) → k ≡ some v → x ≡ v
 
 -- One more store: what was found before it, and the store done, give what is found after it.
-holding-store : (word : ℕ) (s : Store) (a : ℕ) (found : Source) (m : List ℕ) → a < length m → hasAddress s ≡ true → Holding (wordFrom word found) (getD m a 0)
+holding-store : (word : ℕ) (s : Store) (a : ℕ) (found : Source) (m : List ℕ) → a < length m → hasAddress s ≡ true
+    → Holding (wordFrom word found) (getD m a 0)
     → (b w : ℕ) → valueFits (s .address) b → valueFits (s .word) w
     → Holding (wordFrom word (pick (unwrittenTo a s) (fromStore (s .word)) found)) (getD (does (s .written) m b w) a 0)
 holding-store word s a found m low known h b w = go (s .written) (s .address) (s .word) known

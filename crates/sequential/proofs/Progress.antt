@@ -14,7 +14,8 @@ use Rattle.number.specs.Basics.{allOf, countWhere}
 use Rattle.table.specs.Group.{GroupPairs}
 use Rattle.queue.specs.declared.arguments.Argument.{Argument}
 use Rattle.queue.specs.declared.arguments.Argument.the-variants.{LoadAddress, StoreAddress, StoreData}
-use Rattle.queue.specs.Ruled.{number, isSome}
+use Rattle.number.specs.Basics.{isSome}
+use Rattle.number.specs.Reply.{number}
 use Rattle.queue.specs.Contents.{Load, Store, Contents, after, oldest, loadPlace, storePlace}
 use Rattle.queue.specs.Sound.{sound}
 use Rattle.queue.specs.Serve.{hasAddress, fromMemory, source, serve}
@@ -63,7 +64,8 @@ isDone (ofLoad l) = isSome (l .value)
 isDone (ofStore s) = s .written
 
 -- a test of entries, read for one kind
-all-own : {A : Type 0} (K : LogKind A) (p : LogEntry → Bool) (r : A → Bool) → ((a : A) → p (K .put a) ≡ true → r a ≡ true) → (es : List LogEntry)
+all-own : {A : Type 0} (K : LogKind A) (p : LogEntry → Bool) (r : A → Bool) → ((a : A) → p (K .put a) ≡ true → r a ≡ true)
+    → (es : List LogEntry)
     → allOf p es ≡ true → allOf r (ownIn K es) ≡ true
 all-own K p r w [] h = refl
 all-own {A} K p r w (e ∷ es) h = go (K .own e) refl (all-own K p r w es (and-right (p e) (allOf p es) h))
@@ -80,7 +82,8 @@ filled-some port o h = go o (rw (eqb-self port) at h)
     go (some x) k = refl
 
 -- where no cell waits, every entry is complete
-all-complete : (es : List LogEntry) → ((kind : Argument) (port : ℕ) → allOf (λ d. not (lacking (given kind port d))) es ≡ true) → allOf complete es ≡ true
+all-complete : (es : List LogEntry) → ((kind : Argument) (port : ℕ) → allOf (λ d. not (lacking (given kind port d))) es ≡ true)
+    → allOf complete es ≡ true
 all-complete [] h = refl
 all-complete (ofLoad l ∷ es) h =
     and-both (filled-some (l .port) (l .address) (and-left (not (lacking (given LoadAddress (l .port) (ofLoad l)))) _ (h LoadAddress (l .port))))
@@ -104,7 +107,8 @@ given-uses StoreAddress port (ofStore s) = cell-there (eqb (s .port) port) (s .a
 given-uses StoreData port (ofLoad l) = refl
 given-uses StoreData port (ofStore s) = cell-there (eqb (s .port) port) (s .word)
 
-count-uses : (kind : Argument) (port : ℕ) (es : List LogEntry) → countWhere (λ d. isSome (given kind port d)) es ≡ countWhere (uses kind port) (map accessOf es)
+count-uses : (kind : Argument) (port : ℕ) (es : List LogEntry)
+    → countWhere (λ d. isSome (given kind port d)) es ≡ countWhere (uses kind port) (map accessOf es)
 count-uses kind port [] = refl
 count-uses kind port (e ∷ es) = rw (given-uses kind port e, count-uses kind port es)
 
@@ -152,7 +156,8 @@ module _ (q : Contents) (m memory : List ℕ) (log : List LogEntry) (h : Holds q
   store-depth : q .storeDepth ≤ 64
   store-depth = leb-true (q .storeDepth) 64 (and-right (leb 1 (q .storeDepth)) _ (h .limits .storeDepthRight))
 
-  load-moves : (pre : List LogEntry) (l : Load) (post : List LogEntry) → log ≡ pre ++ ofLoad l ∷ post → allOf isDone pre ≡ true → isSome (l .value) ≡ false
+  load-moves : (pre : List LogEntry) (l : Load) (post : List LogEntry) → log ≡ pre ++ ofLoad l ∷ post → allOf isDone pre ≡ true
+      → isSome (l .value) ≡ false
       → wouldMove (record { queue = q; memory = m })
   load-moves pre l post log-is before unserved =
       go (unfinished-queued loads stores loads-stores (h .windows) pre l post log-is untaken)
@@ -189,7 +194,8 @@ module _ (q : Contents) (m memory : List ℕ) (log : List LogEntry) (h : Holds q
                 (before-queued (place .before′) hasAddress (λ n s. refl) storesAddressed))),
           )
 
-  store-moves : (pre : List LogEntry) (s : Store) (post : List LogEntry) → log ≡ pre ++ ofStore s ∷ post → allOf isDone pre ≡ true → s .written ≡ false
+  store-moves : (pre : List LogEntry) (s : Store) (post : List LogEntry) → log ≡ pre ++ ofStore s ∷ post → allOf isDone pre ≡ true
+      → s .written ≡ false
       → wouldMove (record { queue = q; memory = m })
   store-moves pre s post log-is before unwritten =
       go (unfinished-queued stores loads stores-loads (turned (h .windows)) pre s post log-is unwritten)
@@ -205,7 +211,8 @@ module _ (q : Contents) (m memory : List ℕ) (log : List LogEntry) (h : Holds q
       storesApart : (a : ℕ) → allOf (noStoreConflict a) (ownIn stores pre) ≡ true
       storesApart a = all-own stores isDone (noStoreConflict a) (λ r t. or-left (r .written) (addressApart a (r .address)) t) pre before
 
-      go : (i : ℕ) × Located stores loads log (q .stores) (q .loads) i pre s post → (a : ℕ) × (s .address ≡ some a) → (w : ℕ) × (s .word ≡ some w)
+      go : (i : ℕ) × Located stores loads log (q .stores) (q .loads) i pre s post → (a : ℕ) × (s .address ≡ some a)
+          → (w : ℕ) × (s .word ≡ some w)
           → wouldMove (record { queue = q; memory = m })
       go (i, place) (a, address) (w, word) =
           let low : i < 2 ^ 32 = (let short : i < length (q .stores) = getElem?-short (q .stores) i (place .at) in omega (arith, h .roomStores, store-depth)) in

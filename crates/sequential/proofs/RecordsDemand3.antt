@@ -1,16 +1,16 @@
 -- A run of the records is the definitions' run of what they hold, so demand 3 carries over.
 use Prim.Native.Nat.{ℕ, _^_, _<_}
 use mathlib.Core.Path.{_≡_, refl, sym, ap, ap₂, _∙_}
-use mathlib.Core.Bool.{Bool, true, false}
+use mathlib.Core.Bool.{true}
 use mathlib.Core.List.{List, _∷_}
 use mathlib.Core.Option.{Option, none}
 use lib.Dec.{eqb}
 use lib.ListN.{length}
-use borrow.Author.Tests.{eqb-false}
+use borrow.Author.Tests.{eqb-false, not-true}
 use Rattle.table.specs.declared.Table.{Table}
 use Rattle.number.specs.Basics.{allOf}
 use Rattle.table.specs.Group.{GroupPairs}
-use Rattle.table.specs.Table.{groupsOf, tableFault}
+use Rattle.table.specs.Table.{groupsOf, checkTable}
 use Rattle.counts.specs.declared.Counts.{Counts}
 use Rattle.queue.specs.declared.Queue.{Queue}
 use Rattle.queue.specs.declared.Outcome.{Outcome}
@@ -18,7 +18,7 @@ use Rattle.queue.specs.declared.Opened.{Opened}
 use Rattle.queue.specs.declared.Readied.{Readied}
 use Rattle.queue.specs.declared.Frame.{Frame}
 use Rattle.queue.specs.declared.opening.OpenedFrame.{OpenedFrame}
-use Rattle.queue.specs.Ruled.{Ruled, refuse, accept, number, need}
+use Rattle.number.specs.Reply.{Reply, refuse, accept, number}
 use Rattle.queue.specs.Contents.{Contents, contentsOf}
 use Rattle.queue.specs.Sound.{depthRight, memoryRight}
 use Rattle.queue.specs.Open.{groupFits, openQueue, freshFrame}
@@ -30,7 +30,8 @@ use Rattle.queue.specs.Take.{Taken, takeRule}
 use Rattle.queue.specs.Outcome.{valueIn, Handed, handed, noValue, Accepted, HandedCounts, Moves, Takes, Serves, Writes, Opens, withCounts}
 use Rattle.queue.specs.Ready.{ready, Readies}
 use Rattle.queue.specs.Parts.{queueOf, OpensFrame}
-use Rattle.queue.proofs.Refusals.{proper, need-proper, refusal-not-zero}
+use Rattle.number.proofs.ReplyLaws.{need-among, andThen-among, notZero}
+use Rattle.queue.proofs.Refusals.{proper}
 use Rattle.sequential.specs.Calls.{Call, Activate, Give, Serve, Write, Take, Ready}
 use Rattle.sequential.specs.Answers.{Machine, Response, moveResponse, serveResponse, writeResponse, takeResponse}
 use Rattle.sequential.specs.Answers.{step, Answered, answers, machineAfter, machine}
@@ -40,6 +41,7 @@ use Rattle.sequential.specs.Records.{RecordsDemand3, FramesDemand3, Alik
 use Rattle.sequential.specs.Demand3.{Opening}
 use Rattle.sequential.proofs.ReachedSound.{reached-sound}
 use Rattle.sequential.proofs.Demand3.{demand3, alike}
+use Rattle.table.proofs.Among.{check-table-among}
 
 -- ---- one call: what it hands over is what the definitions' step gives
 pub record Same (s : Response) (r : Outcome) (left : List ℕ) : Type 0 where
@@ -61,20 +63,20 @@ module _ (q : Queue) (m : List ℕ) where
     memory = refl;
   }
 
-  moves-same : (rule : Ruled Contents) (r : Outcome) → Moves q rule r → Same (moveResponse (machineOf q m) rule) r m
+  moves-same : (rule : Reply Contents) (r : Outcome) → Moves q rule r → Same (moveResponse (machineOf q m) rule) r m
   moves-same (refuse n) r e = refused-same e
   moves-same (accept c) r w = accepted-same m w
 
-  takes-same : (rule : Ruled Taken) (r : Outcome) → Takes q rule r → Same (takeResponse (machineOf q m) rule) r m
+  takes-same : (rule : Reply Taken) (r : Outcome) → Takes q rule r → Same (takeResponse (machineOf q m) rule) r m
   takes-same (refuse n) r e = refused-same e
   takes-same (accept t) r w = accepted-same m w
 
-  serves-same : (rule : Ruled Served) (lent left : Counts) (r : Outcome) → Serves q lent rule (withCounts r left)
+  serves-same : (rule : Reply Served) (lent left : Counts) (r : Outcome) → Serves q lent rule (withCounts r left)
       → Same (serveResponse (machineOf q m) rule) r m
   serves-same (refuse n) lent left r e = refused-same (ap (λ (x : HandedCounts). x .outcome) e)
   serves-same (accept s) lent left r w = record { number = sym (w .answer); value = sym (w .gives); queue = sym (w .holds); memory = refl }
 
-  writes-same : (rule : Ruled Written) (r : Outcome) (left : List ℕ) → Writes q m rule r left → Same (writeResponse (machineOf q m) rule) r left
+  writes-same : (rule : Reply Written) (r : Outcome) (left : List ℕ) → Writes q m rule r left → Same (writeResponse (machineOf q m) rule) r left
   writes-same (refuse n) r left w = rw (w .memory-is) (refused-same (w .outcome))
   writes-same (accept x) r left w = rw (w .memory-is) (accepted-same (x .memory) (w .outcome))
 
@@ -100,7 +102,7 @@ serve-hands q m lent left serial r w = ((left, w), refl)
 pub ready-into-hands : ReadyIntoHands
 ready-into-hands q m run left kind r w = (go (ready kind (contentsOf q) run) w, refl)
   where
-    go : (rule : Ruled (List ℕ)) → Readies q run rule r left → noValue (r .answer) (r .queue) ≡ noValue (number rule) q
+    go : (rule : Reply (List ℕ)) → Readies q run rule r left → noValue (r .answer) (r .queue) ≡ noValue (number rule) q
     go (refuse n) w = ap (λ (x : Readied). noValue (x .answer) (x .queue)) (w .outcome)
     go (accept found) w = ap (λ (x : Readied). noValue (x .answer) (x .queue)) (w .outcome)
 
@@ -133,22 +135,15 @@ runs-agree run-none = record { says = refl; ends = refl }
 runs-agree (run-one {q} {m = m} {m₁} {c = c} r h k) = one-more (hands-same q m c r m₁ h) (runs-agree k)
 
 -- ---- an opening
--- a refused one has a number: 4 to 8 are the table's own, and are not 0 where they refuse
-fault-refuses : {A : Type 0} (fault : ℕ) (rest : Ruled A) (n : ℕ) → proper rest ≡ true → need (eqb fault 0) fault rest ≡ refuse n → eqb n 0 ≡ false
-fault-refuses fault rest n p e = go (eqb fault 0) refl e
-  where
-    go : (t : Bool) → eqb fault 0 ≡ t → need t fault rest ≡ refuse n → eqb n 0 ≡ false
-    go true k d = refusal-not-zero rest n p d
-    go false k d = let same : fault ≡ n = cc in (rw same at k)
-
-pub open-refuses : (groups : List GroupPairs) (loadDepth storeDepth first words n : ℕ) → openQueue groups loadDepth storeDepth first words ≡ refuse n
-    → eqb n 0 ≡ false
+-- a refused one has a number
+pub open-proper : (groups : List GroupPairs) (loadDepth storeDepth first words : ℕ)
+    → proper (openQueue groups loadDepth storeDepth first words) ≡ true
 unfolding openQueue
-open-refuses groups loadDepth storeDepth first words n =
-    fault-refuses (tableFault groups) _ n
-    (need-proper (depthRight loadDepth) _ _ refl
-    (need-proper (depthRight storeDepth) _ _ refl
-    (need-proper (memoryRight words) _ _ refl (need-proper (allOf (groupFits loadDepth storeDepth) groups) _ _ refl refl))))
+open-proper groups loadDepth storeDepth first words =
+    andThen-among notZero (checkTable groups) _ (check-table-among notZero refl groups) λ right.
+    need-among notZero (depthRight loadDepth) _ _ refl
+    (need-among notZero (depthRight storeDepth) _ _ refl
+    (need-among notZero (memoryRight words) _ _ refl (need-among notZero (allOf (groupFits loadDepth storeDepth) groups) _ _ refl refl)))
 
 -- such an opening is one in the sense of demand 3
 pub opening : {table : Table} {memory : List ℕ} {o : Opened} → OpenedRecord table memory o
@@ -158,12 +153,12 @@ opening {table} {memory} {o} w = record {
   storeDepth = w .storeDepth;
   first = w .first;
   serial = w .serial;
-  accepted = go (openQueue (groupsOf table) (w .loadDepth) (w .storeDepth) (w .first) (length memory)) (open-refuses _ _ _ _ _) (w .opens);
+  accepted = go (openQueue (groupsOf table) (w .loadDepth) (w .storeDepth) (w .first) (length memory)) (open-proper _ _ _ _ _) (w .opens);
   lent = refl;
 }
   where
-    go : (rule : Ruled Contents) → ((n : ℕ) → rule ≡ refuse n → eqb n 0 ≡ false) → Opens (w .refused) rule o → rule ≡ accept (contentsOf (o .queue))
-    go (refuse n) p e = absurd (eqb-false n 0 (p n refl) (sym (ap (λ (x : Opened). x .answer) e) ∙ w .accepted))
+    go : (rule : Reply Contents) → proper rule ≡ true → Opens (w .refused) rule o → rule ≡ accept (contentsOf (o .queue))
+    go (refuse n) p e = absurd (eqb-false n 0 (not-true (eqb n 0) p) (sym (ap (λ (x : Opened). x .answer) e) ∙ w .accepted))
     go (accept c) p e = ap accept (sym (e .1))
 
 pub records-demand3 : RecordsDemand3
@@ -172,7 +167,7 @@ records-demand3 table memory o w calls log q left run fill below =
     rw (← a .says, ← a .ends) (demand3 (groupsOf table) memory (machineOf (o .queue) memory) (opening w) calls fill below)
 
 -- an opened frame, with any two runs, is an opened record
-opened-parts : (fresh : Frame) (rule : Ruled Contents) (o : OpenedFrame) (l s : List ℕ) → OpensFrame fresh rule o
+opened-parts : (fresh : Frame) (rule : Reply Contents) (o : OpenedFrame) (l s : List ℕ) → OpensFrame fresh rule o
     → Opens (queueOf (o .frame) l s) rule (record { answer = o .answer; queue = queueOf (o .frame) l s })
 opened-parts fresh (refuse n) o l s e = ap (λ (x : OpenedFrame). record { answer = x .answer; queue = queueOf (o .frame) l s }) e
 opened-parts fresh (accept q) o l s e =

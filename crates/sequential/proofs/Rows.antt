@@ -12,7 +12,7 @@ use borrow.Author.Tests.{eqb-true, eqb-false, eq-eqb, ne-eqb}
 use Rattle.number.specs.Basics.{pick, allOf, countWhere}
 use Rattle.queue.specs.declared.arguments.Argument.{Argument}
 use Rattle.queue.specs.declared.arguments.Argument.the-variants.{LoadAddress, StoreAddress, StoreData}
-use Rattle.queue.specs.Ruled.{isSome}
+use Rattle.number.specs.Basics.{isSome}
 use Rattle.queue.specs.Contents.{Load, Store}
 use Rattle.number.proofs.Both.{and-left, and-right}
 use Rattle.queue.proofs.Lists.{false-true, and-both}
@@ -108,7 +108,8 @@ module _ (cell : LogEntry → RowCell) where
           go none u₁ k = k
           go (some none) u₁ k = (refl, k)
           go (some (some x)) u₁ k = false-true u₁
-  row-append new t (d ∷ es) row h = fed-map (cell d) (Row cell es) (Row cell (es ++ new)) (λ r. r) refl (λ x r. refl) (λ r k. row-append new t es r k) row h
+  row-append new t (d ∷ es) row h =
+      fed-map (cell d) (Row cell es) (Row cell (es ++ new)) (λ r. r) refl (λ x r. refl) (λ r k. row-append new t es r k) row h
 
   -- a row that is as long as it has cells leaves none waiting
   pub row-full : (es : List LogEntry) (row : List ℕ) → Row cell es row → length row ≡ countWhere (λ d. isSome (cell d)) es

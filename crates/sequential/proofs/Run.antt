@@ -1,7 +1,7 @@
 -- The invariant holds of the opening, and every call keeps it.
 use Prim.Native.Nat.{ℕ}
 use native.Mathlib.Omega.{arith}
-use mathlib.Core.Path.{_≡_, refl, sym, subst}
+use mathlib.Core.Path.{_≡_, refl, sym, subst, ap}
 use mathlib.Core.Bool.{false}
 use mathlib.Core.List.{List, [], _∷_, _++_, append-assoc, append-nil}
 use mathlib.Core.Option.{none}
@@ -9,8 +9,8 @@ use lib.Dec.{eqb}
 use lib.ListN.{length}
 use Rattle.number.specs.Basics.{allOf}
 use Rattle.table.specs.Group.{GroupPairs}
-use Rattle.table.specs.Table.{tableFault}
-use Rattle.queue.specs.Ruled.{Ruled, refuse, accept, number}
+use Rattle.table.specs.Table.{checkTable}
+use Rattle.number.specs.Reply.{Reply, refuse, accept, number, accepted}
 use Rattle.queue.specs.Contents.{Contents}
 use Rattle.queue.specs.Sound.{depthRight, memoryRight}
 use Rattle.queue.specs.Open.{groupFits, opened, openQueue}
@@ -20,7 +20,8 @@ use Rattle.queue.specs.Serve.{Served, serve}
 use Rattle.queue.specs.Write.{Written, write}
 use Rattle.queue.specs.Take.{Taken, takeRule}
 use Rattle.queue.specs.Ready.{ready}
-use Rattle.queue.proofs.Refusals.{refusal-not-zero, need-accepts, activate-proper, give-proper, serve-proper, write-proper, take-proper}
+use Rattle.number.proofs.ReplyLaws.{refusal-not-zero, need-accepts, andThen-accepts}
+use Rattle.queue.proofs.Refusals.{activate-proper, give-proper, serve-proper, write-proper, take-proper}
 use Rattle.sequential.specs.Calls.{Call, Activate, Give, Serve, Write, Take, Ready}
 use Rattle.sequential.specs.Answers.{Machine, Response, Answered, moveResponse, serveResponse, writeResponse, takeResponse, step, answers, machineAfter}
 use Rattle.sequential.specs.Demand3.{Opening}
@@ -38,12 +39,12 @@ pub limits-opened : (groups : List GroupPairs) (loadDepth storeDepth first words
     → Limits groups words loadDepth storeDepth × (opened groups loadDepth storeDepth first words ≡ q)
 unfolding openQueue
 limits-opened groups loadDepth storeDepth first words q h₀ =
-    let (t₁, h₁) = need-accepts (eqb (tableFault groups) 0) _ _ h₀ in
+    let (t, t₁, h₁) = andThen-accepts (checkTable groups) _ h₀ in
     let (t₂, h₂) = need-accepts (depthRight loadDepth) _ _ h₁ in
     let (t₃, h₃) = need-accepts (depthRight storeDepth) _ _ h₂ in
     let (t₄, h₄) = need-accepts (memoryRight words) _ _ h₃ in
     let (t₅, h₅) = need-accepts (allOf (groupFits loadDepth storeDepth) groups) _ _ h₄ in
-    (record { loadDepthRight = t₂; storeDepthRight = t₃; wordsRight = t₄; tableRight = t₁ }, cc)
+    (record { loadDepthRight = t₂; storeDepthRight = t₃; wordsRight = t₄; tableRight = ap accepted t₁ }, cc)
 
 opened-state : (groups : List GroupPairs) (memory : List ℕ) (loadDepth storeDepth first : ℕ) → Limits groups (length memory) loadDepth storeDepth
     → Invariant groups memory [] (record { queue = opened groups loadDepth storeDepth first (length memory); memory = memory })
@@ -95,27 +96,27 @@ module _ (groups : List GroupPairs) (memory : List ℕ) (answered : List Answere
   unfolding After
   step-keeps (Activate g) = go (activate (m .queue) g) refl
     where
-      go : (r : Ruled Contents) → activate (m .queue) g ≡ r → After (Activate g) (moveResponse m r)
+      go : (r : Reply Contents) → activate (m .queue) g ≡ r → After (Activate g) (moveResponse m r)
       go (refuse n) e = refused (Activate g) n (refusal-not-zero (activate (m .queue) g) n (activate-proper (m .queue) g) e)
       go (accept q) e = activate-keeps groups memory answered m st g q e
   step-keeps (Give kind p x) = go (give kind (m .queue) p x) refl
     where
-      go : (r : Ruled Contents) → give kind (m .queue) p x ≡ r → After (Give kind p x) (moveResponse m r)
+      go : (r : Reply Contents) → give kind (m .queue) p x ≡ r → After (Give kind p x) (moveResponse m r)
       go (refuse n) e = refused (Give kind p x) n (refusal-not-zero (give kind (m .queue) p x) n (give-proper kind (m .queue) p x) e)
       go (accept q) e = give-keeps groups memory answered m st kind p x q e
   step-keeps (Serve c s) = go (serve (m .queue) (m .memory) s) refl
     where
-      go : (r : Ruled Served) → serve (m .queue) (m .memory) s ≡ r → After (Serve c s) (serveResponse m r)
+      go : (r : Reply Served) → serve (m .queue) (m .memory) s ≡ r → After (Serve c s) (serveResponse m r)
       go (refuse n) e = refused (Serve c s) n (refusal-not-zero (serve (m .queue) (m .memory) s) n (serve-proper (m .queue) (m .memory) s) e)
       go (accept r) e = serve-keeps groups memory answered m st c s r e
   step-keeps (Write s) = go (write (m .queue) (m .memory) s) refl
     where
-      go : (r : Ruled Written) → write (m .queue) (m .memory) s ≡ r → After (Write s) (writeResponse m r)
+      go : (r : Reply Written) → write (m .queue) (m .memory) s ≡ r → After (Write s) (writeResponse m r)
       go (refuse n) e = refused (Write s) n (refusal-not-zero (write (m .queue) (m .memory) s) n (write-proper (m .queue) (m .memory) s) e)
       go (accept r) e = write-keeps groups memory answered m st s r e
   step-keeps (Take p) = go (takeRule (m .queue) p) refl
     where
-      go : (r : Ruled Taken) → takeRule (m .queue) p ≡ r → After (Take p) (takeResponse m r)
+      go : (r : Reply Taken) → takeRule (m .queue) p ≡ r → After (Take p) (takeResponse m r)
       go (refuse n) e = refused (Take p) n (refusal-not-zero (takeRule (m .queue) p) n (take-proper (m .queue) p) e)
       go (accept r) e = take-keeps groups memory answered m st p r e
   step-keeps (Ready kind run) =

@@ -6,18 +6,17 @@ use mathlib.Core.Bool.{true}
 use mathlib.Core.List.{List, [], _∷_, _++_}
 use lib.ListN.{length, replicate}
 use native.Mathlib.Omega.{arith}
-use borrow.Author.Tests.{eqb-true, eqb-false}
 use Rattle.table.specs.declared.Table.{Table}
 use Rattle.number.specs.Basics.{allOf}
 use Rattle.table.specs.Group.{GroupPairs}
-use Rattle.table.specs.Table.{groupsOf, tableFault}
+use Rattle.table.specs.Table.{groupsOf, checkTable}
 use Rattle.counts.specs.declared.Counts.{Counts}
 use Rattle.counts.specs.Counts.{counted}
 use Rattle.queue.specs.declared.Value.the-variants.{Word, Nothing}
 use Rattle.queue.specs.declared.Queue.{Queue}
 use Rattle.queue.specs.declared.Outcome.{Outcome}
 use Rattle.queue.specs.declared.Opened.{Opened}
-use Rattle.queue.specs.Ruled.{Ruled, refuse, accept, number}
+use Rattle.number.specs.Reply.{Reply, refuse, accept, number}
 use Rattle.queue.specs.Contents.{Contents, contentsOf}
 use Rattle.queue.specs.Sound.{sound}
 use Rattle.queue.specs.Open.{opened, openQueue, noQueue, freshFrame, freshQueue}
@@ -33,15 +32,16 @@ use Rattle.number.proofs.Both.{and-left, and-right}
 use Rattle.queue.proofs.SoundLaws.{within-most}
 use Rattle.sequential.specs.Calls.{Call, Activate, Give, Serve, Write, Take, Ready}
 use Rattle.sequential.specs.Answers.{Machine, Response, Answered, moveResponse, serveResponse, writeResponse, takeResponse, step, machine}
-use Rattle.sequential.specs.Records.{answeredWith, Hands, run-none, run-one, machineOf, OpenedRecord}
+use Rattle.sequential.specs.Records.{answeredWith, Hands, run-none, run-one, machineOf}
 use Rattle.sequential.specs.Demand3.{Opening}
 use Rattle.sequential.specs.RunsExist.{bitsFit, argumentFits, StoredEntries, Stored, StoredOutcome, Throughout, SomeRun, RunsExist, OpeningsExist}
 use Rattle.sequential.proofs.Invariant.{Limits, Invariant}
 use Rattle.sequential.proofs.Run.{limits-opened, opening-state, step-keeps}
 use Rattle.sequential.proofs.ReachedSound.{holds-sound}
-use Rattle.sequential.proofs.RecordsDemand3.{Same, hands-same, open-refuses, opening}
+use Rattle.sequential.proofs.RecordsDemand3.{Same, hands-same, open-proper, opening}
 use Rattle.sequential.proofs.Stored.{recordOf, record-holds, record-stored}
 use Rattle.sequential.proofs.Fits.{Fits, Fitting, step-fits}
+use Rattle.number.proofs.ReplyLaws.{accepted-passed, refused-some}
 
 -- ---- one call
 -- something that it may hand over: the queue that follows is the very one, or the record of what the definitions' step leaves
@@ -56,7 +56,7 @@ module _ (q : Queue) (m : List ℕ) where
   abbrev Packed : Response → Type 0
   Packed s = contentsOf (recordOf (q .frame .table) (s .machine .queue)) ≡ s .machine .queue
 
-  moves-next : (rule : Ruled Contents) → Packed (moveResponse (machineOf q m) rule)
+  moves-next : (rule : Reply Contents) → Packed (moveResponse (machineOf q m) rule)
       → Next q (moveResponse (machineOf q m) rule) (λ r left. Moves q rule r × (left ≡ m))
   moves-next (refuse n) p = record { outcome = answered n q; left = m; given = (refl, refl); kept = inl refl }
   moves-next (accept c) p = record {
@@ -66,7 +66,7 @@ module _ (q : Queue) (m : List ℕ) where
     kept = inr refl;
   }
 
-  takes-next : (rule : Ruled Taken) → Packed (takeResponse (machineOf q m) rule)
+  takes-next : (rule : Reply Taken) → Packed (takeResponse (machineOf q m) rule)
       → Next q (takeResponse (machineOf q m) rule) (λ r left. Takes q rule r × (left ≡ m))
   takes-next (refuse n) p = record { outcome = answered n q; left = m; given = (refl, refl); kept = inl refl }
   takes-next (accept t) p = record {
@@ -76,7 +76,7 @@ module _ (q : Queue) (m : List ℕ) where
     kept = inr refl;
   }
 
-  serves-next : (lent : Counts) (rule : Ruled Served) → Packed (serveResponse (machineOf q m) rule)
+  serves-next : (lent : Counts) (rule : Reply Served) → Packed (serveResponse (machineOf q m) rule)
       → Next q (serveResponse (machineOf q m) rule) (λ r left. ((counts : Counts) × Serves q lent rule (withCounts r counts)) × (left ≡ m))
   serves-next lent (refuse n) p = record { outcome = answered n q; left = m; given = ((lent, refl), refl); kept = inl refl }
   serves-next lent (accept s) p = record {
@@ -86,7 +86,7 @@ module _ (q : Queue) (m : List ℕ) where
     kept = inr refl;
   }
 
-  writes-next : (rule : Ruled Written) → Packed (writeResponse (machineOf q m) rule) → Next q (writeResponse (machineOf q m) rule) (Writes q m rule)
+  writes-next : (rule : Reply Written) → Packed (writeResponse (machineOf q m) rule) → Next q (writeResponse (machineOf q m) rule) (Writes q m rule)
   writes-next (refuse n) p = record { outcome = answered n q; left = m; given = record { outcome = refl; memory-is = refl }; kept = inl refl }
   writes-next (accept w) p = record {
     outcome = record { answer = 0; value = Nothing; queue = recordOf (q .frame .table) (w .queue) };
@@ -120,7 +120,7 @@ module _ (groups : List GroupPairs) (memory : List ℕ) (before : List Answered)
   state = step-keeps groups memory before (machineOf q m) st c
 
   fitting : Fitting after
-  fitting = step-fits (machineOf q m) f (eqb-true (tableFault (contentsOf q .groups)) 0 (st .holds .limits .tableRight)) c h
+  fitting = step-fits (machineOf q m) f (accepted-passed (checkTable (contentsOf q .groups)) (st .holds .limits .tableRight)) c h
 
   right : sound (after .machine .queue) ≡ true
   right = holds-sound (after .machine .queue) (after .machine .memory) memory (state .log) (state .holds)
@@ -141,7 +141,8 @@ module _ (groups : List GroupPairs) (memory : List ℕ) (before : List Answered)
   queue-stored : Stored q → Stored (chosen .outcome .queue)
   queue-stored s = go (chosen .kept)
     where
-      go : (chosen .outcome .queue ≡ q) ⊎ (chosen .outcome .queue ≡ recordOf (q .frame .table) (after .machine .queue)) → Stored (chosen .outcome .queue)
+      go : (chosen .outcome .queue ≡ q) ⊎ (chosen .outcome .queue ≡ recordOf (q .frame .table) (after .machine .queue))
+          → Stored (chosen .outcome .queue)
       go (inl e) = rw e s
       go (inr e) =
           rw e
@@ -225,10 +226,10 @@ pub openings-exist : OpeningsExist
 openings-exist table memory loadDepth storeDepth first small accepted =
     go (openQueue (groupsOf table) loadDepth storeDepth first (length memory)) refl accepted
   where
-    go : (rule : Ruled Contents) → openQueue (groupsOf table) loadDepth storeDepth first (length memory) ≡ rule → number rule ≡ 0
+    go : (rule : Reply Contents) → openQueue (groupsOf table) loadDepth storeDepth first (length memory) ≡ rule → number rule ≡ 0
         → (o : Opened) × Opens noQueue (openQueue (groupsOf table) loadDepth storeDepth first (length memory)) o × (o .answer ≡ 0)
         × Stored (o .queue) × (o .queue .frame .table ≡ table)
-    go (refuse n) e z = absurd (eqb-false n 0 (open-refuses (groupsOf table) loadDepth storeDepth first (length memory) n e) z)
+    go (refuse n) e z = absurd (refused-some _ (open-proper (groupsOf table) loadDepth storeDepth first (length memory)) e z)
     go (accept c) e z =
         let (limits, queue-is) = limits-opened (groupsOf table) loadDepth storeDepth first (length memory) c e in
         let fresh : Queue = freshQueue (freshFrame table loadDepth storeDepth first (length memory)) in

@@ -4,14 +4,13 @@ use mathlib.Core.Path.{_≡_, refl, sym, ap, _∙_}
 use mathlib.Core.Bool.{true}
 use mathlib.Core.List.{List}
 use lib.ListN.{length}
-use borrow.Author.Tests.{eqb-false}
 use Rattle.table.specs.declared.Table.{Table}
 use Rattle.table.specs.Table.{groupsOf}
 use Rattle.queue.specs.declared.Queue.{Queue}
 use Rattle.queue.specs.declared.Outcome.{Outcome}
 use Rattle.queue.specs.declared.Readied.{Readied}
 use Rattle.queue.specs.declared.opening.OpenedFrame.{OpenedFrame}
-use Rattle.queue.specs.Ruled.{Ruled, refuse, accept, number}
+use Rattle.number.specs.Reply.{Reply, refuse, accept, number}
 use Rattle.queue.specs.Contents.{Contents, contentsOf}
 use Rattle.queue.specs.Open.{openQueue, freshFrame}
 use Rattle.queue.specs.Outcome.{noValue}
@@ -25,8 +24,9 @@ use Rattle.sequential.specs.RunsExist.{StoredEntries, Stored, StoredOutc
 use Rattle.sequential.specs.RunsOnParts.{onEntries, HandsOnParts, RunsOnParts, parts-none, parts-one, ThroughoutParts}
 use Rattle.sequential.specs.RunsOnParts.{ServeInHands, ReadyInHands, PartsAreRecords, PartsDemand3, RunsOnPartsExist}
 use Rattle.sequential.proofs.Run.{limits-opened}
-use Rattle.sequential.proofs.RecordsDemand3.{open-refuses, opened-frame, frames-demand3}
+use Rattle.sequential.proofs.RecordsDemand3.{open-proper, opened-frame, frames-demand3}
 use Rattle.sequential.proofs.RunsExist.{fresh-stored, runs-exist}
+use Rattle.number.proofs.ReplyLaws.{refused-some}
 
 -- ---- the contracts
 pub serve-in-hands : ServeInHands
@@ -35,7 +35,7 @@ serve-in-hands q after m lent serial s w = ((s .counts, w), refl)
 pub ready-in-hands : ReadyInHands
 ready-in-hands q m run left kind r w = (go (onEntries q (ready kind (contentsOf q) run)) w, refl)
   where
-    go : (rule : Ruled (List ℕ)) → Readies q run rule (readiedOf r q) left → noValue (r .answer) q ≡ noValue (number rule) q
+    go : (rule : Reply (List ℕ)) → Readies q run rule (readiedOf r q) left → noValue (r .answer) q ≡ noValue (number rule) q
     go (refuse n) w = ap (λ (x : Readied). noValue (x .answer) q) (w .outcome)
     go (accept found) w = ap (λ (x : Readied). noValue (x .answer) q) (w .outcome)
 
@@ -102,11 +102,11 @@ frame-stored : (table : Table) (loadDepth storeDepth first : ℕ) (memory : List
 frame-stored table loadDepth storeDepth first memory o small opens accepted l s ls ss =
     go (openQueue (groupsOf table) loadDepth storeDepth first (length memory)) refl opens
   where
-    go : (rule : Ruled Contents) → openQueue (groupsOf table) loadDepth storeDepth first (length memory) ≡ rule
+    go : (rule : Reply Contents) → openQueue (groupsOf table) loadDepth storeDepth first (length memory) ≡ rule
         → OpensFrame (freshFrame table loadDepth storeDepth first (length memory)) rule o → Stored (queueOf (o .frame) l s)
     go (refuse n) e w =
         let n-is : n ≡ 0 = sym (ap (λ (x : OpenedFrame). x .answer) w) ∙ accepted in
-        absurd (eqb-false n 0 (open-refuses (groupsOf table) loadDepth storeDepth first (length memory) n e) n-is)
+        absurd (refused-some _ (open-proper (groupsOf table) loadDepth storeDepth first (length memory)) e n-is)
     go (accept c) e w =
         let (limits, queue-is) = limits-opened (groupsOf table) loadDepth storeDepth first (length memory) c e in
         rw (ap (λ (x : OpenedFrame). x .frame) (w .0)) (fresh-stored table loadDepth storeDepth first (length memory) small limits l s ls ss)

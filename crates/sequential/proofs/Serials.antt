@@ -7,7 +7,7 @@ use mathlib.Core.Option.{some}
 use lib.ListN.{length, getElem?}
 use Rattle.number.specs.Basics.{anyOf}
 use Rattle.table.specs.Group.{GroupPairs}
-use Rattle.queue.specs.Ruled.{Ruled, refuse, accept}
+use Rattle.number.specs.Reply.{Reply, refuse, accept}
 use Rattle.queue.specs.Contents.{Load, Store, Contents, withLoads, updateAt, firstPlace, loadPlace, storePlace}
 use Rattle.queue.specs.Sound.{sound}
 use Rattle.queue.specs.Activate.{room, withGroup, activate}
@@ -16,7 +16,8 @@ use Rattle.queue.specs.Serve.{Served, serve}
 use Rattle.queue.specs.Write.{Written, write}
 use Rattle.queue.specs.Retire.{retire}
 use Rattle.queue.specs.Take.{Taken, untaken, loadTaken, takeRule}
-use Rattle.queue.proofs.Refusals.{need-accepts, have-accepts, give-accepts}
+use Rattle.number.proofs.ReplyLaws.{need-accepts, have-accepts}
+use Rattle.queue.proofs.Refusals.{give-accepts}
 use Rattle.queue.proofs.ServeLaws.{Serving, serve-accepts}
 use Rattle.queue.proofs.WriteLaws.{Writing, write-accepts}
 use Rattle.queue.specs.declared.Kind.the-variants.{Load as load}
@@ -76,27 +77,27 @@ module _ (q : Contents) (m : List ℕ) (f : Small q) where
 step-keeps : (m : Machine) → Small (m .queue) → (c : Call) → Small (step m c .machine .queue)
 step-keeps m f (Activate g) = go (activate (m .queue) g) refl
   where
-    go : (r : Ruled Contents) → activate (m .queue) g ≡ r → Small (moveResponse m r .machine .queue)
+    go : (r : Reply Contents) → activate (m .queue) g ≡ r → Small (moveResponse m r .machine .queue)
     go (refuse n) e = f
     go (accept q) e = activate-keeps (m .queue) (m .memory) f g q e
 step-keeps m f (Give kind p x) = go (give kind (m .queue) p x) refl
   where
-    go : (r : Ruled Contents) → give kind (m .queue) p x ≡ r → Small (moveResponse m r .machine .queue)
+    go : (r : Reply Contents) → give kind (m .queue) p x ≡ r → Small (moveResponse m r .machine .queue)
     go (refuse n) e = f
     go (accept q) e = give-keeps (m .queue) (m .memory) f kind p x q e
 step-keeps m f (Serve c s) = go (serve (m .queue) (m .memory) s) refl
   where
-    go : (r : Ruled Served) → serve (m .queue) (m .memory) s ≡ r → Small (serveResponse m r .machine .queue)
+    go : (r : Reply Served) → serve (m .queue) (m .memory) s ≡ r → Small (serveResponse m r .machine .queue)
     go (refuse n) e = f
     go (accept r) e = serve-keeps (m .queue) (m .memory) f s r e
 step-keeps m f (Write s) = go (write (m .queue) (m .memory) s) refl
   where
-    go : (r : Ruled Written) → write (m .queue) (m .memory) s ≡ r → Small (writeResponse m r .machine .queue)
+    go : (r : Reply Written) → write (m .queue) (m .memory) s ≡ r → Small (writeResponse m r .machine .queue)
     go (refuse n) e = f
     go (accept r) e = write-keeps (m .queue) (m .memory) f s r e
 step-keeps m f (Take p) = go (takeRule (m .queue) p) refl
   where
-    go : (r : Ruled Taken) → takeRule (m .queue) p ≡ r → Small (takeResponse m r .machine .queue)
+    go : (r : Reply Taken) → takeRule (m .queue) p ≡ r → Small (takeResponse m r .machine .queue)
     go (refuse n) e = f
     go (accept r) e = take-keeps (m .queue) (m .memory) f p r e
 step-keeps m f (Ready kind run) = f

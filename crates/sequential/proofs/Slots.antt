@@ -7,7 +7,7 @@ use mathlib.Core.Option.{Option, none, some}
 use lib.Dec.{eqb}
 use Rattle.queue.specs.declared.arguments.Argument.{Argument}
 use Rattle.queue.specs.declared.arguments.Argument.the-variants.{LoadAddress, StoreAddress, StoreData}
-use Rattle.queue.specs.Ruled.{isSome}
+use Rattle.number.specs.Basics.{isSome}
 use Rattle.queue.specs.Contents.{Load}
 use Rattle.queue.specs.Arguments.{loadWithAddress, storeWithAddress, storeWithWord}
 use Rattle.sequential.specs.Plain.{sameKind}
@@ -27,7 +27,8 @@ pub record Slot {A : Type 0} (K : LogKind A) : Type 0 where
   pub cellFilled : (p x : ℕ) (a : A) → given kind p (K .put (fill x a)) ≡ cellFor (eqb (port a) p) (some x)
   pub cellOther : (p : ℕ) (e : LogEntry) → K .own e ≡ none → given kind p e ≡ none
   pub kindSame : sameKind kind kind ≡ true
-  pub kindOther : (k : Argument) → (k ≡ kind) ⊎ ((sameKind kind k ≡ false) × ((p x : ℕ) (a : A) → given k p (K .put a) ≡ given k p (K .put (fill x a))))
+  pub kindOther : (k : Argument)
+      → (k ≡ kind) ⊎ ((sameKind kind k ≡ false) × ((p x : ℕ) (a : A) → given k p (K .put a) ≡ given k p (K .put (fill x a))))
   pub valueSame : (p x : ℕ) (a : A) → valueTaken p (K .put a) ≡ valueTaken p (K .put (fill x a))
   pub accessSame : (x : ℕ) (a : A) → accessOf (K .put (fill x a)) ≡ accessOf (K .put a)
   pub servedSame : (x : ℕ) (a : A) → isServed (K .put (fill x a)) ≡ isServed (K .put a)

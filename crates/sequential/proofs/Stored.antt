@@ -6,17 +6,17 @@ use mathlib.Core.Path.{_≡_, refl, ap, _∙_}
 use mathlib.Core.Bool.{Bool, true, _&&_}
 use mathlib.Core.List.{List, [], _∷_, _++_, map}
 use mathlib.Core.Option.{Option, none, some}
-use lib.Dec.{leb, eqb}
+use lib.Dec.{leb}
 use lib.ListN.{length, replicate, length-append, length-map, length-replicate}
 use lib.Seq.{take-at}
 use borrow.Author.Tests.{leb-true, ltb-true, lt-ltb}
 use Rattle.table.specs.declared.Table.{Table}
 use Rattle.number.specs.Basics.{pick, allOf, held}
-use Rattle.table.specs.Table.{groupsOf, tableFault}
+use Rattle.table.specs.Table.{groupsOf, checkTable}
 use Rattle.table.proofs.CheckLaws.{held-few}
 use Rattle.queue.specs.declared.Entry.{Entry}
 use Rattle.queue.specs.declared.Queue.{Queue}
-use Rattle.queue.specs.Ruled.{isSome}
+use Rattle.number.specs.Basics.{isSome}
 use Rattle.queue.specs.Entry.{numberOf, bit, Small}
 use Rattle.queue.specs.Contents.{Load, Store, Contents, loadOf, storeOf, loadIn, storeIn, contentsOf}
 use Rattle.queue.specs.Sound.{depthRight, memoryRight, addressRight, loadRight, storeRight, sound}
@@ -25,6 +25,7 @@ use Rattle.queue.proofs.Lists.{all-join, all-weaken₂, all-map}
 use Rattle.queue.proofs.EntryLaws.{bit-small, entry-number}
 use Rattle.queue.proofs.SoundLaws.{within-most, Parts, parts}
 use Rattle.sequential.specs.RunsExist.{bitsFit, wordFits, StoredEntries, Stored}
+use Rattle.number.specs.Reply.{accepted}
 
 -- what is true of every entry beside what a sound queue says: its port has five bits, and its word has 32
 abbrev pub loadFits : Load → Bool
@@ -116,7 +117,8 @@ zeros-fit zero = refl
 zeros-fit (suc n) = zeros-fit n
 
 module _ {A : Type 0} (f : A → ℕ) (g : ℕ → A) (p r : A → Bool) where
-  map-back : ((x : A) → p x ≡ true → r x ≡ true → g (f x) ≡ x) → (l : List A) → allOf p l ≡ true → allOf r l ≡ true → map g (map f l) ≡ l
+  map-back : ((x : A) → p x ≡ true → r x ≡ true → g (f x) ≡ x) → (l : List A) → allOf p l ≡ true → allOf r l ≡ true
+      → map g (map f l) ≡ l
   map-back back [] h k = refl
   map-back back (x ∷ l) h k =
       rw (back x (and-left (p x) (allOf p l) h) (and-left (r x) (allOf r l) k), map-back back l (and-right (p x) (allOf p l) h) (and-right (r x) (allOf r l) k))
@@ -128,7 +130,8 @@ module _ {A : Type 0} (f : A → ℕ) (g : ℕ → A) (p r : A → Bool) where
       let m : length l ≤ length (padded (map f l)) = rw (length-append (map f l) (replicate (64 - length (map f l)) 0)) (omega arith) in
       ap (map g) (held-few 0 (length l) (padded (map f l)) m ∙ take-at (map f l) _ (length l) n) ∙ map-back back l h k
 
-  side-stored : ((x : A) → p x ≡ true → r x ≡ true → bitsFit 64 (f x) ≡ true) → (l : List A) → length l ≤ 64 → allOf p l ≡ true → allOf r l ≡ true
+  side-stored : ((x : A) → p x ≡ true → r x ≡ true → bitsFit 64 (f x) ≡ true) → (l : List A) → length l ≤ 64 → allOf p l ≡ true
+      → allOf r l ≡ true
       → StoredEntries (padded (map f l))
   side-stored small l few h k = record {
     places =
@@ -162,7 +165,7 @@ module _ (table : Table) (c : Contents) (right : sound c ≡ true) (loads : allO
       (leb (length (c .stores)) (c .storeDepth))
       (allOf (loadRight (c .memoryLength) (length (c .stores))) (c .loads))
       (allOf (storeRight (c .memoryLength) (length (c .loads))) (c .stores))
-      (eqb (tableFault (c .groups)) 0)
+      (accepted (checkTable (c .groups)))
   unfolding sound
   said = parts _ _ _ _ _ _ _ _ right
 

@@ -14,7 +14,7 @@ use lib.Seq.{take-at}
 use borrow.Author.Tests.{le-leb, leb-true}
 use Rattle.number.specs.Basics.{allOf, frontWhile, afterWhile}
 use Rattle.table.proofs.Order.{frontWhile-afterWhile}
-use Rattle.queue.specs.Ruled.{isSome}
+use Rattle.number.specs.Basics.{isSome}
 use Rattle.queue.specs.Contents.{updateAt}
 use Rattle.queue.proofs.Lists.{false-true, all-left, all-right, all-join, all-take, all-map, all-weaken, all-weaken₂, take-append, take-map}
 use Rattle.queue.proofs.Lists.{getElem?-map, map-same, failing-behind, getElem?-split, getElem?-seam, updateAt-seam}
@@ -70,7 +70,8 @@ pub record Located {A B : Type 0} (K : LogKind A) (K′ : LogKind B) (log : List
   pub before : Before K (take i held) pre
   pub before′ : Before K′ (take number held′) pre
   -- both sides after it is made anew
-  pub anew : (f : A → A) → ((n : ℕ) (a : A) → f (K .remember n a) ≡ K .remember n (f a)) → Windows K K′ (pre ++ K .put (f it) ∷ post) (updateAt f i held) held′
+  pub anew : (f : A → A) → ((n : ℕ) (a : A) → f (K .remember n a) ≡ K .remember n (f a))
+      → Windows K K′ (pre ++ K .put (f it) ∷ post) (updateAt f i held) held′
 
 -- ---- what a test says of the queue's part it says of the log's, and back
 
@@ -272,13 +273,15 @@ module _ {A B : Type 0} (K : LogKind A) (K′ : LogKind B) (opposite : Opposite 
   }
 
   -- of the other side `gone` have left, and the others are queued
-  pub others-queued : (log : List LogEntry) {gone gone′ : ℕ} {held′ : List B} → Window K′ log gone′ gone held′ → others K log ≡ gone′ + length held′
+  pub others-queued : (log : List LogEntry) {gone gone′ : ℕ} {held′ : List B} → Window K′ log gone′ gone held′
+      → others K log ≡ gone′ + length held′
   others-queued log {gone} {gone′} {held′} w =
       others-length log ∙ sym (side-length K′ 0 log) ∙ ap length (w .parts) ∙ length-append (w .old) (w .live)
       ∙ rw (w .many, w .shows, length-map (w .live) (remembering K′ gone))
 
   -- no entry remembers more of the other kind than are held
-  pub remembered-held : (log : List LogEntry) {gone gone′ : ℕ} {held : List A} {held′ : List B} → Window K log gone gone′ held → Window K′ log gone′ gone held′
+  pub remembered-held : (log : List LogEntry) {gone gone′ : ℕ} {held : List A} {held′ : List B} → Window K log gone gone′ held
+      → Window K′ log gone′ gone held′
       → allOf (λ a. leb (K .remembered a) (length held′)) held ≡ true
   remembered-held log {gone} {gone′} {held} {held′} w w′ =
       rw (w .shows)
@@ -297,7 +300,8 @@ module _ {A B : Type 0} (K : LogKind A) (K′ : LogKind B) (opposite : Opposite 
           le-leb (x .before - gone′) (length held′) (omega arith)
 
   -- new entries at the end of the log
-  pub window-append : (log : List LogEntry) {gone gone′ : ℕ} {held : List A} {held′ : List B} → Window K log gone gone′ held → Window K′ log gone′ gone held′
+  pub window-append : (log : List LogEntry) {gone gone′ : ℕ} {held : List A} {held′ : List B} → Window K log gone gone′ held
+      → Window K′ log gone′ gone held′
       → (new : List LogEntry) → Window K (log ++ new) gone gone′ (held ++ map (remembering K gone′) (side K (gone′ + length held′) new))
   window-append log {gone} {gone′} {held} {held′} w w′ new = record {
     old = w .old;

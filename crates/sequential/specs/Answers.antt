@@ -4,7 +4,7 @@
 use Prim.Native.Nat.{ℕ}
 use mathlib.Core.List.{List, [], _∷_}
 use mathlib.Core.Option.{Option, none, some}
-use Rattle.queue.specs.Ruled.{Ruled, refuse, accept, number}
+use Rattle.number.specs.Reply.{Reply, refuse, accept, number}
 use Rattle.queue.specs.Contents.{Contents}
 use Rattle.queue.specs.Activate.{activate}
 use Rattle.queue.specs.Arguments.{give}
@@ -29,24 +29,24 @@ pub record Response : Type 0 where
   pub machine : Machine
 
 -- a call that only moves the queue
-abbrev pub moveResponse : Machine → Ruled Contents → Response
+abbrev pub moveResponse : Machine → Reply Contents → Response
 moveResponse m (refuse n) = record { number = n; value = none; machine = m }
 moveResponse m (accept q) = record { number = 0; value = none; machine = record { queue = q; memory = m .memory } }
 
-abbrev pub serveResponse : Machine → Ruled Served → Response
+abbrev pub serveResponse : Machine → Reply Served → Response
 serveResponse m (refuse n) = record { number = n; value = none; machine = m }
 serveResponse m (accept s) = record { number = 0; value = some (s .value); machine = record { queue = s .queue; memory = m .memory } }
 
-abbrev pub writeResponse : Machine → Ruled Written → Response
+abbrev pub writeResponse : Machine → Reply Written → Response
 writeResponse m (refuse n) = record { number = n; value = none; machine = m }
 writeResponse m (accept w) = record { number = 0; value = none; machine = record { queue = w .queue; memory = w .memory } }
 
-abbrev pub takeResponse : Machine → Ruled Taken → Response
+abbrev pub takeResponse : Machine → Reply Taken → Response
 takeResponse m (refuse n) = record { number = n; value = none; machine = m }
 takeResponse m (accept t) = record { number = 0; value = some (t .value); machine = record { queue = t .queue; memory = m .memory } }
 
 -- a call that leaves the queue as it was
-abbrev pub readyResponse : Machine → Ruled (List ℕ) → Response
+abbrev pub readyResponse : Machine → Reply (List ℕ) → Response
 readyResponse m r = record { number = number r; value = none; machine = m }
 
 abbrev pub step : Machine → Call → Response

@@ -17,7 +17,7 @@ use Rattle.number.specs.Basics.{pick, countWhere}
 use Rattle.table.specs.Group.{GroupPairs, Access, load, store}
 use Rattle.queue.specs.declared.arguments.Argument.{Argument}
 use Rattle.queue.specs.declared.arguments.Argument.the-variants.{LoadAddress, StoreAddress, StoreData}
-use Rattle.queue.specs.Ruled.{accept, number}
+use Rattle.number.specs.Reply.{accept, number}
 use Rattle.queue.specs.Sound.{sound}
 use Rattle.queue.specs.Open.{openQueue}
 use Rattle.queue.specs.Serve.{serve}

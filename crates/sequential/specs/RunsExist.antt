@@ -14,7 +14,7 @@ use Rattle.queue.specs.declared.Side.{Side}
 use Rattle.queue.specs.declared.Queue.{Queue}
 use Rattle.queue.specs.declared.Outcome.{Outcome}
 use Rattle.queue.specs.declared.Opened.{Opened}
-use Rattle.queue.specs.Ruled.{number}
+use Rattle.number.specs.Reply.{number}
 use Rattle.queue.specs.Open.{openQueue, noQueue}
 use Rattle.queue.specs.Outcome.{valueIn, Opens}
 use Rattle.sequential.specs.Calls.{Call, Activate, Give, Serve, Write, Take, Ready}

@@ -16,7 +16,7 @@ use Rattle.queue.specs.declared.Outcome.{Outcome}
 use Rattle.queue.specs.declared.serving.Service.{Service}
 use Rattle.queue.specs.declared.ready.ReadyCount.{ReadyCount}
 use Rattle.queue.specs.declared.opening.OpenedFrame.{OpenedFrame}
-use Rattle.queue.specs.Ruled.{Ruled, number}
+use Rattle.number.specs.Reply.{Reply, number}
 use Rattle.queue.specs.Contents.{contentsOf}
 use Rattle.queue.specs.Open.{openQueue, freshFrame}
 use Rattle.queue.specs.Activate.{activate}
@@ -35,7 +35,7 @@ use Rattle.sequential.specs.Records.{answeredWith, machineOf, Runs}
 use Rattle.sequential.specs.RunsExist.{bitsFit, argumentFits, StoredEntries, StoredOutcome}
 
 -- a rule, on the runs of entries of the record that the parts make
-abbrev pub onEntries : {A : Type 0} → Queue → Ruled A → Ruled A
+abbrev pub onEntries : {A : Type 0} → Queue → Reply A → Reply A
 onEntries q rule = onParts (q .«load_entries») (q .«store_entries») rule
 
 -- What each call on the parts hands over, as its contract says: `Hands`, with each rule on the parts.

@@ -17,12 +17,13 @@ use Rattle.table.specs.Group.{GroupPairs}
 use Rattle.table.specs.Table.{groupsOf}
 use Rattle.queue.specs.declared.Queue.{Queue}
 use Rattle.queue.specs.declared.Outcome.{Outcome}
-use Rattle.queue.specs.Ruled.{Ruled, refuse, accept}
+use Rattle.number.specs.Reply.{Reply, refuse, accept}
 use Rattle.queue.specs.Contents.{contentsOf}
 use Rattle.queue.specs.Take.{Taken, takeRule}
 use Rattle.queue.specs.Outcome.{valueIn, Handed, Takes}
 use Rattle.queue.specs.Parts.{queueOf}
-use Rattle.queue.proofs.Refusals.{proper, refusal-not-zero, take-proper}
+use Rattle.number.proofs.ReplyLaws.{refusal-not-zero}
+use Rattle.queue.proofs.Refusals.{proper, take-proper}
 use Rattle.queue.proofs.Lists.{false-true, length-updateAt}
 use Rattle.queue.proofs.ContentsLaws.{update-set}
 use Rattle.sequential.specs.Calls.{Call, Activate, Give, Serve, Write, Take, Ready}
@@ -192,11 +193,11 @@ module _ (port : ℕ) (rest : List Answered) (same : acceptedTakes port (told re
       let a : Answered = record { call = c; number = number; value = value } in
       acceptedTakes port (told (a ∷ rest)) ≡ length (takenAt port (a ∷ rest))
 
-  counted-take : (m : Machine) (p : ℕ) (rule : Ruled Taken) → proper rule ≡ true
+  counted-take : (m : Machine) (p : ℕ) (rule : Reply Taken) → proper rule ≡ true
       → Counted (Take p) (takeResponse m rule .number) (takeResponse m rule .value)
   counted-take m p rule fine = go (eqb p port) rule fine
     where
-      go : (this : Bool) (rule : Ruled Taken) → proper rule ≡ true
+      go : (this : Bool) (rule : Reply Taken) → proper rule ≡ true
           → pick (this && eqb (takeResponse m rule .number) 0) (suc (acceptedTakes port (told rest))) (acceptedTakes port (told rest)) ≡ length
           (pick this
           (pick (eqb (takeResponse m rule .number) 0) (consOption (takeResponse m rule .value) (takenAt port rest)) (takenAt port rest))
@@ -252,7 +253,7 @@ pages-show groups memory m o calls fill below =
 
 -- What a call hands over with a record kept is what it hands over without, and the record that its answer leaves. A refused take gives no
 -- value, so its answer leaves the record whatever its number is.
-take-kept : (q : Queue) (kept next : ShiftRecord) (p : ℕ) (rule : Ruled Taken) (r : Outcome) → TakesRecorded q kept p rule (withRecord r next)
+take-kept : (q : Queue) (kept next : ShiftRecord) (p : ℕ) (rule : Reply Taken) (r : Outcome) → TakesRecorded q kept p rule (withRecord r next)
     → Takes q rule r × (next ≡ afterCall kept (answeredWith (Take p) r))
 take-kept q kept next p (refuse n) r w =
     let none-given : valueIn (r .value) ≡ none = ap (λ (x : Handed). x .value) (w .outcome) in
@@ -280,7 +281,7 @@ pub records-are-kept : RecordsAreKept
 records-are-kept q m kept calls log last left end run = run-kept run
 
 -- The other way: what a call hands over, beside the record that its answer leaves. So no run of calls is lost by keeping a record.
-take-with-record : (q : Queue) (kept : ShiftRecord) (p : ℕ) (rule : Ruled Taken) (r : Outcome) → Takes q rule r
+take-with-record : (q : Queue) (kept : ShiftRecord) (p : ℕ) (rule : Reply Taken) (r : Outcome) → Takes q rule r
     → TakesRecorded q kept p rule (withRecord r (afterCall kept (answeredWith (Take p) r)))
 take-with-record q kept p (refuse n) r w =
     let none-given : valueIn (r .value) ≡ none = ap (λ (x : Handed). x .value) w in

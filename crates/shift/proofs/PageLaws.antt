@@ -1,5 +1,5 @@
 -- Laws of the page: how wide its fields are, and how they are put one after the other.
-use Prim.Native.Nat.{ℕ, zero, suc, _+_, _-_, _*_, _≤_, _<_, _^_}
+use Prim.Native.Nat.{ℕ, zero, suc, _+_, _-_, _≤_, _<_, _^_}
 use mathlib.Core.Path.{_≡_, refl, sym, ap, _∙_}
 use mathlib.Core.List.{List, [], _∷_, _++_, map, append-assoc, append-nil}
 use native.Mathlib.Omega.{arith}
@@ -10,10 +10,11 @@ use lib.Dec.{eqb}
 use lib.ListN.{length, drop, length-append}
 use Rattle.number.specs.Basics.{pick, flatMap}
 use borrow.Author.Tests.{lt-leb, le-leb}
-use Rattle.number.specs.Number.{Puts, PutIfFits, accepts, unwritten}
+use Rattle.number.specs.Reply.{accept}
+use Rattle.number.specs.Number.{Puts, PutIfFits, unwritten}
 use Rattle.number.specs.Texts.{bytes, decimal}
 use Rattle.number.proofs.SpliceLaws.{put-at}
-use Rattle.number.proofs.PutLaws.{puts-as, puts-length, puts-puts}
+use Rattle.number.proofs.PutLaws.{puts-length, puts-puts}
 use Rattle.number.specs.Refusal.{pageTooShort}
 use Rattle.shift.specs.declared.ShiftRecord.{ShiftRecord}
 use Rattle.shift.specs.Record.{takesOf}
@@ -115,6 +116,6 @@ unfolding pageWritten
 written-short r buffer h = rw (lt-leb pageBytes (length buffer) h)
 
 pub written-fits : (r : ShiftRecord) (buffer : List ℕ) → pageBytes ≤ length buffer
-    → pageWritten r buffer ≡ record { answer = accepts pageBytes; buffer = page r ++ drop pageBytes buffer }
+    → pageWritten r buffer ≡ record { answer = accept pageBytes; buffer = page r ++ drop pageBytes buffer }
 unfolding pageWritten
 written-fits r buffer h = rw (le-leb pageBytes (length buffer) h)

@@ -1,6 +1,6 @@
 -- Laws of the record: what one take changes.
 use Prim.Native.Nat.{ℕ, zero, suc, _+_, _≤_, _<_, _^_}
-use mathlib.Core.Path.{_≡_, refl, sym, ap, ap₂, _∙_}
+use mathlib.Core.Path.{_≡_, refl, ap, ap₂, _∙_}
 use mathlib.Core.Bool.{Bool, true, false}
 use mathlib.Core.List.{List, [], _∷_}
 use native.Mathlib.Omega.{arith}
@@ -11,7 +11,7 @@ use Rattle.number.specs.Basics.{pick, allOf}
 use Rattle.number.proofs.Both.{and-left, and-right}
 use Rattle.counts.specs.Counts.{full}
 use Rattle.queue.specs.declared.Queue.{Queue}
-use Rattle.queue.specs.Ruled.{Ruled, refuse, accept}
+use Rattle.number.specs.Reply.{Reply, refuse, accept}
 use Rattle.queue.specs.Take.{Taken}
 use Rattle.queue.specs.Outcome.{Handed, valueIn, Takes}
 use Rattle.queue.specs.Contents.{updateAt}
@@ -35,13 +35,14 @@ module _ (r : ShiftRecord) (port value : ℕ) where
       recorded-set ∙ ap₂ recordWith (set-out (r .takes) port _ (omega (arith, h))) (set-out (r .values) port value (omega (arith, k)))
 
 -- A take and its value make a take that keeps the record.
-pub takes-recorded : (q : Queue) (kept : ShiftRecord) (port : ℕ) (rule : Ruled Taken) (r : Recorded) → Takes q rule (withoutRecord r)
+pub takes-recorded : (q : Queue) (kept : ShiftRecord) (port : ℕ) (rule : Reply Taken) (r : Recorded) → Takes q rule (withoutRecord r)
     → r .kept ≡ afterTake kept port (valueIn (r .value)) → TakesRecorded q kept port rule r
 takes-recorded q kept port (refuse n) r w e = record { outcome = w; kept-is = e ∙ rw (ap (λ (h : Handed). h .value) w) }
 takes-recorded q kept port (accept t) r w e = record { outcome = w; kept-is = e ∙ rw (w .gives) }
 
 -- ---- a record as a program holds it
-all-update : (f : ℕ → ℕ) (l : List ℕ) (i : ℕ) → ((n : ℕ) → bitsFit 32 n ≡ true → bitsFit 32 (f n) ≡ true) → allOf (bitsFit 32) l ≡ true
+all-update : (f : ℕ → ℕ) (l : List ℕ) (i : ℕ) → ((n : ℕ) → bitsFit 32 n ≡ true → bitsFit 32 (f n) ≡ true)
+    → allOf (bitsFit 32) l ≡ true
     → allOf (bitsFit 32) (updateAt f i l) ≡ true
 all-update f [] zero each h = refl
 all-update f [] (suc i) each h = refl

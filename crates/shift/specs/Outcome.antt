@@ -4,7 +4,7 @@ use mathlib.Core.Path.{_≡_}
 use mathlib.Core.Option.{some}
 use Rattle.queue.specs.declared.Queue.{Queue}
 use Rattle.queue.specs.declared.Outcome.{Outcome}
-use Rattle.queue.specs.Ruled.{Ruled, refuse, accept}
+use Rattle.number.specs.Reply.{Reply, refuse, accept}
 use Rattle.queue.specs.Take.{Taken}
 use Rattle.queue.specs.Outcome.{handed, noValue, Accepted}
 use Rattle.shift.specs.declared.ShiftRecord.{ShiftRecord}
@@ -28,6 +28,6 @@ pub record RecordedWell (kept : ShiftRecord) (port : ℕ) (t : Taken) (r : Recor
   pub outcome : Accepted (some (t .value)) (t .queue) (withoutRecord r)
   pub kept-is : r .kept ≡ recorded port (t .value) kept
 
-abbrev pub TakesRecorded : Queue → ShiftRecord → ℕ → Ruled Taken → Recorded → Type 0
+abbrev pub TakesRecorded : Queue → ShiftRecord → ℕ → Reply Taken → Recorded → Type 0
 TakesRecorded q kept port (refuse n) r = Unrecorded q kept n r
 TakesRecorded q kept port (accept t) r = RecordedWell kept port t r

@@ -7,7 +7,8 @@ use lib.Dec.{eqb, leb}
 use lib.ListN.{length, take, drop, replicate}
 use Rattle.number.specs.Basics.{pick, allOf, flatMap, within}
 use Rattle.number.specs.Refusal.{pageTooShort}
-use Rattle.number.specs.Number.{Wrote, accepts, unwritten}
+use Rattle.number.specs.Reply.{accept}
+use Rattle.number.specs.Number.{Wrote, unwritten}
 use Rattle.number.specs.Texts.{bytes, decimal}
 use Rattle.shift.specs.declared.ShiftRecord.{ShiftRecord}
 use Rattle.shift.specs.Record.{takesOf, lastValueOf, StoredRecord}
@@ -76,7 +77,7 @@ pageBytes = 1394
 unfoldable pub pageWritten : ShiftRecord → List ℕ → Wrote
 pageWritten r buffer =
     pick (leb pageBytes (length buffer))
-    (record { answer = accepts pageBytes; buffer = page r ++ drop pageBytes buffer })
+    (record { answer = accept pageBytes; buffer = page r ++ drop pageBytes buffer })
     (unwritten pageTooShort buffer)
 
 -- ---- what holds of every page; the proofs are proofs/Pages.antt

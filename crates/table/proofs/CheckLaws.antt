@@ -6,22 +6,25 @@ use mathlib.Core.List.{List, [], _∷_, map, append-nil}
 use native.Mathlib.Omega.{arith}
 use native.Mathlib.Nat.{le-trans}
 use lib.Dec.{leb, ltb, eqb}
-use lib.ListN.{length, getD, take, drop, set, length-set, replicate, length-map, List·getD-map, length-append, length-take, length-replicate, drop-of-length-le}
+use lib.ListN.{length, getD, take, drop, set, replicate, length-set, length-map, length-append, length-take, length-replicate}
+use lib.ListN.{List·getD-map, drop-of-length-le}
 use lib.Seq.{getD-take, getD-drop, drop-cons}
 use native.Mathlib.Numerals.{add-one}
-use borrow.Author.Tests.{le-leb, lt-leb, leb-true, leb-false, lt-ltb, le-ltb, ltb-true, ltb-false, eq-eqb, ne-eqb, eqb-true}
+use borrow.Author.Tests.{le-leb, lt-leb, leb-true, leb-false, lt-ltb, le-ltb, ltb-true, ltb-false, eq-eqb, ne-eqb, eqb-true, not-true}
 use Rattle.table.specs.declared.Pair.{Pair}
 use Rattle.table.specs.declared.Group.{Group}
 use Rattle.table.specs.declared.Span.{Span}
 use Rattle.table.specs.declared.Table.{Table}
-use Rattle.number.specs.Refusal.{badGroupCount, badCounts}
-use Rattle.number.specs.Basics.{pick, held, countWhere, within, check, firstFault}
+use Rattle.number.specs.Refusal.{badGroupCount, badCounts, badOffset, badPort, portSeen}
+use Rattle.number.specs.Reply.{passed, number}
+use Rattle.number.specs.Basics.{pick, held, countWhere, within}
 use Rattle.table.specs.Packed.{pairIn, groupIn}
 use Rattle.table.specs.Group.{GroupPairs, blankPair, listOf, Inside, pairsOf, beforeStore}
-use Rattle.table.specs.Table.{spanMeant, groupAt, meantIn, groupsOf, loadRule, storeRule, pairFault, pairsFault, seeing, countsRight, Seen, noneSeen}
-use Rattle.table.specs.Table.{seenAfter, groupFault, groupsFault, tableFault}
+use Rattle.table.specs.Table.{spanMeant, groupAt, meantIn, groupsOf, loadRule, storeRule, checkPair, checkPairs, seeing, countsRight, Seen, noneSeen}
+use Rattle.table.specs.Table.{seenAfter, checkGroup, checkGroups, checkTable}
 use Rattle.table.specs.Internal.{ruleOf, Rising, RuleRight, GroupInside}
 use Rattle.number.proofs.Both.{and-left, and-right}
+use Rattle.number.proofs.ReplyLaws.{need-accepts, both-passed, some-refused}
 
 -- ---- what an array and a count hold, where the count is within the array
 module _ {A : Type 0} (blank : A) (n : ℕ) (l : List A) (h : n ≤ length l) where
@@ -29,9 +32,6 @@ module _ {A : Type 0} (blank : A) (n : ℕ) (l : List A) (h : n ≤ length l) wh
   held-few =
       let e : n - length l ≡ 0 = omega arith in
       rw (e, append-nil)
-
-  pub held-at : (i : ℕ) (d : A) → i < n → getD (held blank n l) i d ≡ getD l i d
-  held-at i d k = rw held-few (getD-take n l i d k)
 
 -- an element that is held is the array's, whatever the array: a blank stands past its end
 blanks : {A : Type 0} (blank : A) (n i : ℕ) → getD (replicate n blank) i blank ≡ blank
@@ -154,110 +154,150 @@ module _ (places : List ℕ) (loads : Span) (n i : ℕ) (r : Rising 0 (listOf pl
       go true e = rw (e, lt-ltb n _ (count-above 0 listed n i r (omega (arith, size)) (leb-true _ _ e)))
       go false e = rw (e, le-ltb n _ (count-below 0 listed n i r (omega (arith, size)) (leb-false _ _ e)))
 
+-- ---- what a check that is passed says, part by part
+pub counts-few : (a b : ℕ) → countsRight a b ≡ true → (a ≤ 16) × (b ≤ 16)
+counts-few a b e = (leb-true a 16 (and-left (leb a 16) _ e), leb-true b 16 (and-right (leb a 16) _ e))
+
+-- a pair: its offset is right, and its port is one of 32 that was not seen
+pub pair-passed : (right : Bool) (seen : List Bool) (port : ℕ) → checkPair right seen port ≡ passed
+    → (right ≡ true) × (port ≤ 31) × (getD seen port false ≡ false)
+pair-passed right seen port e =
+    let (offset, e₁) = need-accepts right badOffset _ e in
+    let (small, e₂) = need-accepts (leb port 31) badPort _ e₁ in
+    let (new, e₃) = need-accepts (not (getD seen port false)) portSeen passed e₂ in
+    (offset, leb-true port 31 small, not-true (getD seen port false) new)
+
+-- the first pair, and the others
+pub pairs-passed : (rule : ℕ → ℕ → ℕ → Bool) (low i : ℕ) (seen : List Bool) (p : Pair) (ps : List Pair)
+    → checkPairs rule low i seen (p ∷ ps) ≡ passed
+    → (rule low i (p .offset) ≡ true) × (p .port ≤ 31) × (getD seen (p .port) false ≡ false)
+    × (checkPairs rule (p .offset) (suc i) (set seen (p .port) true) ps ≡ passed)
+unfolding checkPairs
+pairs-passed rule low i seen p ps e =
+    let (first, others) = both-passed (checkPair (rule low i (p .offset)) seen (p .port)) _ e in
+    let (right, small, new) = pair-passed (rule low i (p .offset)) seen (p .port) first in
+    (right, small, new, others)
+
+-- a group: its counts, its loads, its stores
+pub group-passed : (seen : Seen) (g : GroupPairs) → checkGroup seen g ≡ passed → (length (g .loads) ≤ 16) × (length (g .stores) ≤ 16)
+    × (checkPairs (loadRule (length (g .stores))) 0 0 (seen .loads) (g .loads) ≡ passed)
+    × (checkPairs (storeRule (g .loads)) 0 0 (seen .stores) (g .stores) ≡ passed)
+unfolding checkGroup
+group-passed seen g e =
+    let (counts, pairs) = need-accepts (countsRight (length (g .loads)) (length (g .stores))) badCounts _ e in
+    let (loads, stores) = both-passed (checkPairs (loadRule (length (g .stores))) 0 0 (seen .loads) (g .loads)) _ pairs in
+    let (few, fewer) = counts-few (length (g .loads)) (length (g .stores)) counts in
+    (few, fewer, loads, stores)
+
+pub group-pass : (seen : Seen) (g : GroupPairs) → countsRight (length (g .loads)) (length (g .stores)) ≡ true
+    → checkPairs (loadRule (length (g .stores))) 0 0 (seen .loads) (g .loads) ≡ passed
+    → checkPairs (storeRule (g .loads)) 0 0 (seen .stores) (g .stores) ≡ passed → checkGroup seen g ≡ passed
+unfolding checkGroup
+group-pass seen g counts loads stores = rw (counts, loads, stores)
+
+-- the first group, and the others
+pub groups-passed : (seen : Seen) (g : GroupPairs) (gs : List GroupPairs) → checkGroups seen (g ∷ gs) ≡ passed
+    → (checkGroup seen g ≡ passed) × (checkGroups (seenAfter g seen) gs ≡ passed)
+unfolding checkGroups
+groups-passed seen g gs e = both-passed (checkGroup seen g) _ e
+
+-- a table: how many groups, and the groups
+pub table-passed : (gs : List GroupPairs) → checkTable gs ≡ passed → (1 ≤ length gs) × (length gs ≤ 16) × (checkGroups noneSeen gs ≡ passed)
+unfolding checkTable
+table-passed gs e =
+    let (count, groups) = need-accepts (within 1 16 (length gs)) badGroupCount _ e in
+    (leb-true 1 (length gs) (and-left (leb 1 (length gs)) _ count), leb-true (length gs) 16 (and-right (leb 1 (length gs)) _ count), groups)
+
+pub table-pass : (gs : List GroupPairs) → within 1 16 (length gs) ≡ true → checkGroups noneSeen gs ≡ passed → checkTable gs ≡ passed
+unfolding checkTable
+table-pass gs count groups = rw (count, groups)
+
+-- loads that are passed have offsets that never fall
+pub rising-checked : (stores low i : ℕ) (seen : List Bool) (l : List Pair) → checkPairs (loadRule stores) low i seen l ≡ passed → Rising low l
+rising-checked stores low i seen [] e = tt
+rising-checked stores low i seen (p ∷ ps) e =
+    let (right, small, new, others) = pairs-passed (loadRule stores) low i seen p ps e in
+    (leb-true low (p .offset) (and-left (leb low (p .offset)) _ right), rising-checked stores (p .offset) (suc i) (set seen (p .port) true) ps others)
+
 -- ---- checking pairs one by one
 
--- a pair with no fault has a right offset and a port of the marks
-pub fault-none : (right : Bool) (seen : List Bool) (port : ℕ) → pairFault right seen port ≡ 0 → (right ≡ true) × (port ≤ 31)
-fault-none right seen port e = go right (leb port 31) refl (getD seen port false) e
-  where
-    go : (r t : Bool) → leb port 31 ≡ t → (m : Bool) → check r 8 (check t 6 (check (not m) 7 0)) ≡ 0 → (r ≡ true) × (port ≤ 31)
-    go true true h m f = (refl, leb-true port 31 h)
-    go true false h m f = absurd (omega arith)
-    go false t h m f = absurd (omega arith)
-
-or-else-none : (n m : ℕ) → n ≡ 0 → firstFault n m ≡ m
-or-else-none n m e = rw e
-
-or-else-some : (n m : ℕ) → (n ≡ 0 → ⊥) → firstFault n m ≡ n
-or-else-some n m h = rw (ne-eqb n 0 h)
-
--- the pairs before the ith have no fault, the last of them has the offset `low`, and `marks` are the ports seen after them
+-- the pairs before the ith are passed, the last of them has the offset `low`, and `marks` are the ports seen after them
 pub record Checking (rule : ℕ → ℕ → ℕ → Bool) (seen : List Bool) (l : List Pair) (i low : ℕ) (marks : List Bool) : Type 0 where
-  pub fault : pairsFault rule 0 0 seen l ≡ pairsFault rule low i marks (drop i l)
+  pub is : checkPairs rule 0 0 seen l ≡ checkPairs rule low i marks (drop i l)
   pub seen-are : seeing l seen ≡ seeing (drop i l) marks
   pub long-marks : length marks ≡ length seen
 
 pub checking-none : {rule : ℕ → ℕ → ℕ → Bool} {seen : List Bool} {l : List Pair} → Checking rule seen l 0 0 seen
-checking-none = record { fault = refl; seen-are = refl; long-marks = refl }
+checking-none = record { is = refl; seen-are = refl; long-marks = refl }
 
 module _ {rule : ℕ → ℕ → ℕ → Bool} {seen : List Bool} {l : List Pair} {i low : ℕ} {marks : List Bool} (w : Checking rule seen l i low marks) where
   module _ (h : i < length l) {p : Pair} (is : getD l i blankPair ≡ p) where
     here : drop i l ≡ p ∷ drop (suc i) l
     here = drop-cons l i blankPair h ∙ rw is
 
-    pub checking-stop : {n : ℕ} → n ≡ pairFault (rule low i (p .offset)) marks (p .port) → (n ≡ 0 → ⊥) → n ≡ pairsFault rule 0 0 seen l
-    unfolding pairsFault
-    checking-stop {n} e z = rw (w .fault, here, ← e) (sym (or-else-some n _ z))
+    pub checking-stop : {n : ℕ} → n ≡ number (checkPair (rule low i (p .offset)) marks (p .port)) → (n ≡ 0 → ⊥)
+        → n ≡ number (checkPairs rule 0 0 seen l)
+    unfolding checkPairs
+    checking-stop e z = rw (w .is, here, some-refused (checkPair (rule low i (p .offset)) marks (p .port)) e z)
 
-    pub checking-more : pairFault (rule low i (p .offset)) marks (p .port) ≡ 0 → Checking rule seen l (i + 1) (p .offset) (set marks (p .port) true)
-    unfolding pairsFault seeing
+    pub checking-more : checkPair (rule low i (p .offset)) marks (p .port) ≡ passed → Checking rule seen l (i + 1) (p .offset) (set marks (p .port) true)
+    unfolding checkPairs seeing
     checking-more e = record {
-      fault = w .fault ∙ rw (here, or-else-none _ (pairsFault rule (p .offset) (suc i) (set marks (p .port) true) (drop (suc i) l)) e, add-one);
+      is = w .is ∙ rw (here, e, add-one);
       seen-are = w .seen-are ∙ rw (here, add-one);
       long-marks = length-set marks (p .port) true ∙ w .long-marks;
     }
 
-  pub checking-end : length l ≤ i → (0 ≡ pairsFault rule 0 0 seen l) × (marks ≡ seeing l seen)
-  unfolding pairsFault seeing
-  checking-end h = (rw (w .fault, drop-of-length-le l h), rw (w .seen-are, drop-of-length-le l h))
-
--- loads with no fault have offsets that never fall
-pub rising-checked : (stores low i : ℕ) (seen : List Bool) (l : List Pair) → pairsFault (loadRule stores) low i seen l ≡ 0 → Rising low l
-unfolding pairsFault
-rising-checked stores low i seen [] e = tt
-rising-checked stores low i seen (p ∷ ps) e = go (pairFault (loadRule stores low i (p .offset)) seen (p .port)) refl
-    (λ d. rising-checked stores (p .offset) (suc i) (set seen (p .port) true) ps d) e
-  where
-    go : (n : ℕ) → pairFault (loadRule stores low i (p .offset)) seen (p .port) ≡ n
-        → (pairsFault (loadRule stores) (p .offset) (suc i) (set seen (p .port) true) ps ≡ 0 → Rising (p .offset) ps)
-        → firstFault n (pairsFault (loadRule stores) (p .offset) (suc i) (set seen (p .port) true) ps) ≡ 0 → (low ≤ p .offset) × Rising (p .offset) ps
-    go zero f rest d = (leb-true _ _ (and-left _ _ (fault-none _ seen (p .port) f .0)), rest d)
-    go (suc n) f rest d = let q = or-else-some (suc n) (pairsFault (loadRule stores) (p .offset) (suc i) (set seen (p .port) true) ps)
-        (λ z. omega arith) in absurd (omega arith)
+  pub checking-end : length l ≤ i → (0 ≡ number (checkPairs rule 0 0 seen l)) × (marks ≡ seeing l seen)
+  unfolding checkPairs seeing
+  checking-end h = (rw (w .is, drop-of-length-le l h), rw (w .seen-are, drop-of-length-le l h))
 
 -- ---- checking a group
-pub counts-few : (a b : ℕ) → countsRight a b ≡ true → (a ≤ 16) × (b ≤ 16)
-counts-few a b e = (leb-true a 16 (and-left (leb a 16) _ e), leb-true b 16 (and-right (leb a 16) _ e))
-
 module _ (ls ss : List ℕ) (g : Group) (seen : Seen) where
-  pub group-counts : countsRight (g .loads .count) (g .stores .count) ≡ false → badCounts ≡ groupFault seen (pairsOf ls ss g)
-  unfolding groupFault
+  pub group-counts : countsRight (g .loads .count) (g .stores .count) ≡ false → badCounts ≡ number (checkGroup seen (pairsOf ls ss g))
+  unfolding checkGroup
   group-counts e = rw (view-length ls (g .loads), view-length ss (g .stores), e)
 
   module _ (right : countsRight (g .loads .count) (g .stores .count) ≡ true) where
-    pub group-loads : {n : ℕ} → n ≡ pairsFault (loadRule (g .stores .count)) 0 0 (seen .loads) (listOf ls (g .loads)) → (n ≡ 0 → ⊥)
-        → n ≡ groupFault seen (pairsOf ls ss g)
-    unfolding groupFault
-    group-loads {n} e some = rw (view-length ls (g .loads), view-length ss (g .stores), right, ← e) (sym (or-else-some n _ some))
+    pub group-loads : {n : ℕ} → n ≡ number (checkPairs (loadRule (g .stores .count)) 0 0 (seen .loads) (listOf ls (g .loads))) → (n ≡ 0 → ⊥)
+        → n ≡ number (checkGroup seen (pairsOf ls ss g))
+    unfolding checkGroup
+    group-loads e some = rw (
+      view-length ls (g .loads),
+      view-length ss (g .stores),
+      right,
+      some-refused (checkPairs (loadRule (g .stores .count)) 0 0 (seen .loads) (listOf ls (g .loads))) e some,
+    )
 
-    pub group-stores : {n : ℕ} → pairsFault (loadRule (g .stores .count)) 0 0 (seen .loads) (listOf ls (g .loads)) ≡ 0
-        → n ≡ pairsFault (storeRule (listOf ls (g .loads))) 0 0 (seen .stores) (listOf ss (g .stores)) → n ≡ groupFault seen (pairsOf ls ss g)
-    unfolding groupFault
+    pub group-stores : {n : ℕ} → checkPairs (loadRule (g .stores .count)) 0 0 (seen .loads) (listOf ls (g .loads)) ≡ passed
+        → n ≡ number (checkPairs (storeRule (listOf ls (g .loads))) 0 0 (seen .stores) (listOf ss (g .stores)))
+        → n ≡ number (checkGroup seen (pairsOf ls ss g))
+    unfolding checkGroup
     group-stores d e = rw (view-length ls (g .loads), view-length ss (g .stores), right, d) e
 
 -- ---- checking groups one by one
 pub record Passing (seen : Seen) (gs : List GroupPairs) (i : ℕ) (now : Seen) : Type 0 where
-  pub fault : groupsFault seen gs ≡ groupsFault now (drop i gs)
+  pub is : checkGroups seen gs ≡ checkGroups now (drop i gs)
 
 pub passing-none : {seen : Seen} {gs : List GroupPairs} → Passing seen gs 0 seen
-passing-none = record { fault = refl }
+passing-none = record { is = refl }
 
 module _ {seen : Seen} {gs : List GroupPairs} {i : ℕ} {now : Seen} (w : Passing seen gs i now) where
   module _ (g : GroupPairs) (d : GroupPairs) (h : i < length gs) (is : getD gs i d ≡ g) where
     this : drop i gs ≡ g ∷ drop (suc i) gs
     this = drop-cons gs i d h ∙ rw is
 
-    pub passing-stop : {n : ℕ} → n ≡ groupFault now g → (n ≡ 0 → ⊥) → n ≡ groupsFault seen gs
-    unfolding groupsFault
-    passing-stop {n} e z = rw (w .fault, this, ← e) (sym (or-else-some n _ z))
+    pub passing-stop : {n : ℕ} → n ≡ number (checkGroup now g) → (n ≡ 0 → ⊥) → n ≡ number (checkGroups seen gs)
+    unfolding checkGroups
+    passing-stop e z = rw (w .is, this, some-refused (checkGroup now g) e z)
 
-    pub passing-more : {next : Seen} → groupFault now g ≡ 0 → next ≡ seenAfter g now → Passing seen gs (i + 1) next
-    unfolding groupsFault
-    passing-more e q = record { fault = w .fault ∙ rw (this, or-else-none _ (groupsFault (seenAfter g now) (drop (suc i) gs)) e, q, add-one) }
+    pub passing-more : {next : Seen} → checkGroup now g ≡ passed → next ≡ seenAfter g now → Passing seen gs (i + 1) next
+    unfolding checkGroups
+    passing-more e q = record { is = w .is ∙ rw (this, e, q, add-one) }
 
-  pub passing-end : length gs ≤ i → 0 ≡ groupsFault seen gs
-  unfolding groupsFault
-  passing-end h = rw (w .fault, drop-of-length-le gs h)
+  pub passing-end : length gs ≤ i → 0 ≡ number (checkGroups seen gs)
+  unfolding checkGroups
+  passing-end h = rw (w .is, drop-of-length-le gs h)
 
 -- a table's groups, in its record
 within-any : {A : Type 0} (l : List A) (i : ℕ) (d e : A) → i < length l → getD l i d ≡ getD l i e
@@ -287,12 +327,13 @@ module _ (t : Table) where
     pub group-at : {g : Group} → g ≡ groupAt (t .groups) i → getD (groupsOf t) i d ≡ pairsOf (t .loads) (t .stores) g
     group-at e = groups-at ∙ ap (pairsOf (t .loads) (t .stores)) (sym e)
 
-  pub table-count : within 1 16 (t .count) ≡ false → badGroupCount ≡ tableFault (groupsOf t)
-  unfolding tableFault
+  pub table-count : within 1 16 (t .count) ≡ false → badGroupCount ≡ number (checkTable (groupsOf t))
+  unfolding checkTable
   table-count e = rw (groups-size, e)
 
-  pub table-groups : within 1 16 (t .count) ≡ true → (n : ℕ) → n ≡ groupsFault noneSeen (groupsOf t) → n ≡ tableFault (groupsOf t)
-  unfolding tableFault
+  pub table-groups : within 1 16 (t .count) ≡ true → (n : ℕ) → n ≡ number (checkGroups noneSeen (groupsOf t))
+      → n ≡ number (checkTable (groupsOf t))
+  unfolding checkTable
   table-groups e n d = rw (groups-size, e) d
 
 -- a right offset is at most 16

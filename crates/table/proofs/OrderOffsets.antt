@@ -8,16 +8,14 @@ use mathlib.Core.Bool.{Bool, true, false}
 use mathlib.Core.List.{List, [], _∷_, _++_, map, append-nil}
 use lib.Dec.{leb}
 use lib.ListN.{length, getD, set}
-use borrow.Author.Tests.{le-leb, lt-leb, leb-true, leb-false, eqb-true, ne-eqb}
+use borrow.Author.Tests.{le-leb, lt-leb, leb-true, leb-false, eqb-true}
 use Rattle.table.specs.declared.Pair.{Pair}
-use Rattle.number.specs.Refusal.{badGroupCount, badCounts}
-use Rattle.number.specs.Basics.{pick, countWhere, frontWhile, afterWhile, within, check, firstFault}
-use Rattle.table.specs.Group.{loadPairs, storePairs}
-use Rattle.table.specs.Table.{OffsetsCountOrder}
-use Rattle.table.specs.Group.{GroupPairs, blankPair, Access, store, asLoad, beforeStore, orderFrom, order}
-use Rattle.table.specs.Table.{loadRule, storeRule, pairFault, pairsFault, countsRight, Seen, noneSeen, seenAfter, groupFault, groupsFault, tableFault}
+use Rattle.number.specs.Basics.{pick, countWhere, frontWhile, afterWhile}
+use Rattle.number.specs.Reply.{passed}
+use Rattle.table.specs.Group.{GroupPairs, blankPair, Access, store, asLoad, beforeStore, orderFrom, order, loadPairs, storePairs}
+use Rattle.table.specs.Table.{loadRule, storeRule, checkPairs, Seen, noneSeen, seenAfter, checkGroup, checkGroups, checkTable, OffsetsCountOrder}
 use Rattle.number.proofs.Both.{and-left, and-right}
-use Rattle.table.proofs.CheckLaws.{fault-none, counts-few, count-most}
+use Rattle.table.proofs.CheckLaws.{count-most, pairs-passed, group-passed, groups-passed, table-passed}
 use Rattle.table.proofs.Order.{frontWhile-afterWhile}
 
 -- ---- loads
@@ -43,7 +41,8 @@ between-while : (j low top : ℕ) (ls : List Pair) → j ≤ low → Between low
 between-while j low top [] h b = tt
 between-while j low top (p ∷ ps) h b = go (leb (p .offset) j) refl (between-while j (p .offset) top ps (le-trans h (b .0)) (b .2))
   where
-    go : (t : Bool) → leb (p .offset) j ≡ t → Between j j (frontWhile (beforeStore j) ps) → Between j j (pick t (p ∷ frontWhile (beforeStore j) ps) [])
+    go : (t : Bool) → leb (p .offset) j ≡ t → Between j j (frontWhile (beforeStore j) ps)
+        → Between j j (pick t (p ∷ frontWhile (beforeStore j) ps) [])
     go true e r = let k = leb-true (p .offset) j e in (le-trans h (b .0), k, lower j (p .offset) j (frontWhile (beforeStore j) ps) k r)
     go false e r = tt
 
@@ -126,61 +125,27 @@ stores-from k j low top ls (s ∷ ss) b a =
 
 -- ---- from the check
 
-or-else-left : (n m : ℕ) → firstFault n m ≡ 0 → n ≡ 0
-or-else-left zero m e = refl
-or-else-left (suc n) m e = rw (ne-eqb (suc n) 0 (λ z. omega arith)) at e
-
-or-else-right : (n m : ℕ) → firstFault n m ≡ 0 → m ≡ 0
-or-else-right zero m e = e
-or-else-right (suc n) m e =
-    let z : suc n ≡ 0 = or-else-left (suc n) m e in
-    absurd (omega arith)
-
-check-left : (t : Bool) (n m : ℕ) → (n ≡ 0 → ⊥) → check t n m ≡ 0 → t ≡ true
-check-left true n m z e = refl
-check-left false n m z e = absurd (z e)
-
-check-right : (t : Bool) (n m : ℕ) → (n ≡ 0 → ⊥) → check t n m ≡ 0 → m ≡ 0
-check-right true n m z e = e
-check-right false n m z e = absurd (z e)
-
-module _ (rule : ℕ → ℕ → ℕ → Bool) (low i : ℕ) (seen : List Bool) (p : Pair) (ps : List Pair) (e : pairsFault rule low i seen (p ∷ ps) ≡ 0) where
-  pair-right : rule low i (p .offset) ≡ true
-  unfolding pairsFault
-  pair-right = fault-none (rule low i (p .offset)) seen (p .port) (or-else-left _ (pairsFault rule (p .offset) (suc i) (set seen (p .port) true) ps) e) .0
-
-  port-right : p .port ≤ 31
-  unfolding pairsFault
-  port-right = fault-none (rule low i (p .offset)) seen (p .port) (or-else-left _ (pairsFault rule (p .offset) (suc i) (set seen (p .port) true) ps) e) .1
-
-  rest-right : pairsFault rule (p .offset) (suc i) (set seen (p .port) true) ps ≡ 0
-  unfolding pairsFault
-  rest-right = or-else-right (pairFault (rule low i (p .offset)) seen (p .port)) _ e
-
-loads-checked : (stores low i : ℕ) (seen : List Bool) (ls : List Pair) → pairsFault (loadRule stores) low i seen ls ≡ 0 → Between low stores ls
+loads-checked : (stores low i : ℕ) (seen : List Bool) (ls : List Pair) → checkPairs (loadRule stores) low i seen ls ≡ passed → Between low stores ls
 loads-checked stores low i seen [] e = tt
 loads-checked stores low i seen (p ∷ ps) e =
-    let r = pair-right (loadRule stores) low i seen p ps e in (
-      leb-true _ _ (and-left (leb low (p .offset)) _ r),
-      leb-true _ _ (and-right (leb low (p .offset)) _ r),
-      loads-checked stores (p .offset) (suc i) (set seen (p .port) true) ps (rest-right (loadRule stores) low i seen p ps e),
+    let (right, small, new, others) = pairs-passed (loadRule stores) low i seen p ps e in (
+      leb-true _ _ (and-left (leb low (p .offset)) _ right),
+      leb-true _ _ (and-right (leb low (p .offset)) _ right),
+      loads-checked stores (p .offset) (suc i) (set seen (p .port) true) ps others,
     )
 
-stores-checked : (ls : List Pair) (low i : ℕ) (seen : List Bool) (ss : List Pair) → pairsFault (storeRule ls) low i seen ss ≡ 0 → Agree 0 i ls ss
+stores-checked : (ls : List Pair) (low i : ℕ) (seen : List Bool) (ss : List Pair) → checkPairs (storeRule ls) low i seen ss ≡ passed → Agree 0 i ls ss
 stores-checked ls low i seen [] e = tt
-stores-checked ls low i seen (s ∷ ss) e = (
-  eqb-true _ _ (pair-right (storeRule ls) low i seen s ss e)
-      ∙ sym (zero-add _),
-  stores-checked ls (s .offset) (suc i) (set seen (s .port) true) ss (rest-right (storeRule ls) low i seen s ss e),
-)
+stores-checked ls low i seen (s ∷ ss) e =
+    let (right, small, new, others) = pairs-passed (storeRule ls) low i seen s ss e in
+    (eqb-true _ _ right ∙ sym (zero-add _), stores-checked ls (s .offset) (suc i) (set seen (s .port) true) ss others)
 
--- ports are at most 31
-ports-checked : (rule : ℕ → ℕ → ℕ → Bool) (low i : ℕ) (seen : List Bool) (ps : List Pair) → pairsFault rule low i seen ps ≡ 0 → (j : ℕ)
-    → j < length ps → getD ps j blankPair .port ≤ 31
+ports-checked : (rule : ℕ → ℕ → ℕ → Bool) (low i : ℕ) (seen : List Bool) (ps : List Pair) → checkPairs rule low i seen ps ≡ passed
+    → (j : ℕ) → j < length ps → getD ps j blankPair .port ≤ 31
 ports-checked rule low i seen [] e j h = absurd (not-suc-le-zero h)
-ports-checked rule low i seen (p ∷ ps) e zero h = port-right rule low i seen p ps e
+ports-checked rule low i seen (p ∷ ps) e zero h = pairs-passed rule low i seen p ps e .1
 ports-checked rule low i seen (p ∷ ps) e (suc j) h = ports-checked rule (p .offset) (suc i) (set seen (p .port) true) ps
-    (rest-right rule low i seen p ps e) j (le-of-suc-le-suc h)
+    (pairs-passed rule low i seen p ps e .3) j (le-of-suc-le-suc h)
 
 -- offsets are at most the number of the other kind
 between-at : (low top : ℕ) (ls : List Pair) → Between low top ls → (i : ℕ) → i < length ls → getD ls i blankPair .offset ≤ top
@@ -193,7 +158,7 @@ agree-at j ls [] a i h = absurd (not-suc-le-zero h)
 agree-at j ls (s ∷ ss) a zero h = omega (arith, a .0, count-most (beforeStore j) ls)
 agree-at j ls (s ∷ ss) a (suc i) h = agree-at (suc j) ls ss (a .1) i (le-of-suc-le-suc h)
 
--- what a group with no fault is
+-- what a group that is passed is
 pub record GroupRight (g : GroupPairs) : Type 0 where
   pub few-loads : length (g .loads) ≤ 16
   pub few-stores : length (g .stores) ≤ 16
@@ -204,52 +169,34 @@ pub record GroupRight (g : GroupPairs) : Type 0 where
   pub loads-are : loadPairs 0 (order g) ≡ g .loads
   pub stores-are : storePairs 0 (order g) ≡ g .stores
 
-module _ (seen : Seen) (g : GroupPairs) (e : groupFault seen g ≡ 0) where
-  few : (length (g .loads) ≤ 16) × (length (g .stores) ≤ 16)
-  unfolding groupFault
-  few = counts-few _ _ (check-left (countsRight (length (g .loads)) (length (g .stores))) badCounts _ (λ z. omega arith) e)
+right-group : (seen : Seen) (g : GroupPairs) → checkGroup seen g ≡ passed → GroupRight g
+right-group seen g e =
+    let (few, fewer, ls, ss) = group-passed seen g e in
+    let between : Between 0 (length (g .stores)) (g .loads) = loads-checked (length (g .stores)) 0 0 (seen .loads) (g .loads) ls in
+    let agree : Agree 0 0 (g .loads) (g .stores) = stores-checked (g .loads) 0 0 (seen .stores) (g .stores) ss in
+    record {
+      few-loads = few;
+      few-stores = fewer;
+      load-offset = λ i h. le-trans (between-at 0 (length (g .stores)) (g .loads) between i h) fewer;
+      store-offset = λ i h. le-trans (agree-at 0 (g .loads) (g .stores) agree i h) few;
+      load-port = ports-checked (loadRule (length (g .stores))) 0 0 (seen .loads) (g .loads) ls;
+      store-port = ports-checked (storeRule (g .loads)) 0 0 (seen .stores) (g .stores) ss;
+      loads-are = loads-from 0 (g .loads) (g .stores) (rw (zero-add (length (g .stores))) between);
+      stores-are = stores-from 0 0 0 (length (g .stores)) (g .loads) (g .stores) between agree;
+    }
 
-  pairs-fault : firstFault (pairsFault (loadRule (length (g .stores))) 0 0 (seen .loads) (g .loads))
-      (pairsFault (storeRule (g .loads)) 0 0 (seen .stores) (g .stores)) ≡ 0
-  unfolding groupFault
-  pairs-fault = check-right (countsRight (length (g .loads)) (length (g .stores))) badCounts _ (λ z. omega arith) e
-
-  between : Between 0 (length (g .stores)) (g .loads)
-  between = loads-checked (length (g .stores)) 0 0 (seen .loads) (g .loads) (or-else-left _ _ pairs-fault)
-
-  agree : Agree 0 0 (g .loads) (g .stores)
-  agree = stores-checked (g .loads) 0 0 (seen .stores) (g .stores)
-      (or-else-right (pairsFault (loadRule (length (g .stores))) 0 0 (seen .loads) (g .loads)) _ pairs-fault)
-
-  pub right-group : GroupRight g
-  right-group = record {
-    few-loads = few .0;
-    few-stores = few .1;
-    load-offset = λ i h. le-trans (between-at 0 (length (g .stores)) (g .loads) between i h) (few .1);
-    store-offset = λ i h. le-trans (agree-at 0 (g .loads) (g .stores) agree i h) (few .0);
-    load-port = ports-checked (loadRule (length (g .stores))) 0 0 (seen .loads) (g .loads) (or-else-left _ _ pairs-fault);
-    store-port = ports-checked (storeRule (g .loads)) 0 0 (seen .stores) (g .stores)
-        (or-else-right (pairsFault (loadRule (length (g .stores))) 0 0 (seen .loads) (g .loads)) _ pairs-fault);
-    loads-are = loads-from 0 (g .loads) (g .stores) (rw (zero-add (length (g .stores))) between);
-    stores-are = stores-from 0 0 0 (length (g .stores)) (g .loads) (g .stores) between agree;
-  }
-
-groups-right : (seen : Seen) (gs : List GroupPairs) → groupsFault seen gs ≡ 0 → (i : ℕ) (d : GroupPairs) → i < length gs → GroupRight (getD gs i d)
-unfolding groupsFault
+groups-right : (seen : Seen) (gs : List GroupPairs) → checkGroups seen gs ≡ passed → (i : ℕ) (d : GroupPairs) → i < length gs
+    → GroupRight (getD gs i d)
 groups-right seen [] e i d h = absurd (not-suc-le-zero h)
-groups-right seen (g ∷ gs) e zero d h = right-group seen g (or-else-left _ (groupsFault (seenAfter g seen) gs) e)
-groups-right seen (g ∷ gs) e (suc i) d h = groups-right (seenAfter g seen) gs (or-else-right (groupFault seen g) _ e) i d (le-of-suc-le-suc h)
+groups-right seen (g ∷ gs) e zero d h = right-group seen g (groups-passed seen g gs e .0)
+groups-right seen (g ∷ gs) e (suc i) d h = groups-right (seenAfter g seen) gs (groups-passed seen g gs e .1) i d (le-of-suc-le-suc h)
 
 -- every group of a right table is right, and there are at most 16
-module _ (gs : List GroupPairs) (e : tableFault gs ≡ 0) where
-  pub table-groups-few : length gs ≤ 16
-  unfolding tableFault
-  table-groups-few = leb-true _ _
-      (and-right (leb 1 (length gs)) _ (check-left (within 1 16 (length gs)) badGroupCount (groupsFault noneSeen gs) (λ z. omega arith) e))
+pub table-groups-few : (gs : List GroupPairs) → checkTable gs ≡ passed → length gs ≤ 16
+table-groups-few gs e = table-passed gs e .1
 
-  pub table-group-right : (i : ℕ) (d : GroupPairs) → i < length gs → GroupRight (getD gs i d)
-  unfolding tableFault
-  table-group-right = groups-right noneSeen gs (check-right (within 1 16 (length gs)) badGroupCount (groupsFault noneSeen gs) (λ z. omega arith) e)
+pub table-group-right : (gs : List GroupPairs) → checkTable gs ≡ passed → (i : ℕ) (d : GroupPairs) → i < length gs → GroupRight (getD gs i d)
+table-group-right gs e = groups-right noneSeen gs (table-passed gs e .2)
 
 -- the offsets of a right table say just what its program order says
 pub offsets-count-order : OffsetsCountOrder

@@ -1,7 +1,7 @@
 -- Laws of the record of a table: a right table's accesses have room in it, it holds its groups, and it grows by a group.
 use Prim.Native.Nat.{ℕ, zero, suc, _+_, _-_, _≤_, _<_}
 use mathlib.Core.Path.{_≡_, refl, sym, ap, ap₂, _∙_}
-use mathlib.Core.Bool.{Bool, true, false, not}
+use mathlib.Core.Bool.{Bool, true, false}
 use mathlib.Core.List.{List, [], _∷_, _++_, map, append-nil, append-assoc}
 use native.Mathlib.Omega.{arith}
 use native.Mathlib.Nat.{add-assoc, add-zero, zero-add, sub-zero}
@@ -13,29 +13,18 @@ use lib.Seq.{take-at, drop-at, set-at, append-snoc, drop-append-add, drop-drop}
 use Rattle.table.specs.declared.Pair.{Pair}
 use Rattle.table.specs.declared.read.NewGroup.{NewGroup}
 use Rattle.table.specs.declared.Table.{Table}
-use Rattle.number.specs.Basics.{pick, held, countWhere, flatMap, within, check}
-use Rattle.number.specs.Refusal.{badGroupCount, badCounts}
-use Rattle.table.specs.Packed.{pairIn, packedPair, groupIn, packedGroup, SmallPair, SmallSpan}
+use Rattle.number.specs.Basics.{pick, held, countWhere, flatMap}
+use Rattle.number.specs.Reply.{passed}
+use Rattle.table.specs.Packed.{pairIn, packedPair, groupIn, packedGroup}
 use Rattle.table.specs.Group.{GroupPairs, listOf, beforeStore}
-use Rattle.table.specs.Table.{spanMeant, meantIn, groupsOf, loadRule, storeRule, pairFault, pairsFault, seeing}
-use Rattle.table.specs.Table.{countsRight, Seen, noneSeen, seenAfter, groupFault, groupsFault, tableFault}
+use Rattle.table.specs.Table.{spanMeant, meantIn, loadRule, storeRule, checkPairs, seeing}
+use Rattle.table.specs.Table.{Seen, noneSeen, seenAfter, checkGroup, checkGroups}
 use Rattle.table.specs.TableBytes.{filled, placed, spans, loadsIn, storesIn, pack}
-use Rattle.table.specs.RoundTrip.{AccessesFit}
-use Rattle.table.specs.Internal.{front, packPairs, packGroup, putIn, Grown}
+use Rattle.table.specs.RoundTrip.{AccessesFit, RecordsHoldGroups}
+use Rattle.table.specs.Internal.{packPairs, packGroup, putIn, Grown}
 use Rattle.table.proofs.PackedLaws.{groups-read-back, AllSmall, all-read-back, map-append}
-use Rattle.table.proofs.CheckLaws.{held-few, count-most, fault-none, counts-few}
+use Rattle.table.proofs.CheckLaws.{held-few, count-most, pairs-passed, group-passed, groups-passed, table-passed}
 use Rattle.number.proofs.Both.{and-right}
-use Rattle.table.proofs.WriteLaws.{or-else-both, check-both}
-
--- the parts of a right group
-pub group-fault : (seen : Seen) (g : GroupPairs) → groupFault seen g ≡ 0 → (countsRight (length (g .loads)) (length (g .stores)) ≡ true)
-    × (pairsFault (loadRule (length (g .stores))) 0 0 (seen .loads) (g .loads) ≡ 0)
-    × (pairsFault (storeRule (g .loads)) 0 0 (seen .stores) (g .stores) ≡ 0)
-unfolding groupFault
-group-fault seen g e =
-    let f = check-both (countsRight (length (g .loads)) (length (g .stores))) badCounts _ (λ z. omega arith) e in
-    let h = or-else-both (pairsFault (loadRule (length (g .stores))) 0 0 (seen .loads) (g .loads)) _ (f .1) in
-    (f .0, h .0, h .1)
 
 -- ---- each access takes a port that none has taken, so there are at most 32 of a kind
 
@@ -53,31 +42,21 @@ marked-more (b ∷ seen) (suc port) e h = go b (marked-more seen port e (omega a
     go true d = ap suc d
     go false d = d
 
--- a pair with no fault has a port that was not seen
-pub fault-unseen : (right : Bool) (seen : List Bool) (port : ℕ) → pairFault right seen port ≡ 0 → getD seen port false ≡ false
-fault-unseen right seen port e = go right (leb port 31) (getD seen port false) e
-  where
-    go : (r t m : Bool) → check r 8 (check t 6 (check (not m) 7 0)) ≡ 0 → m ≡ false
-    go true true false f = refl
-    go true true true f = absurd (omega arith)
-    go true false m f = absurd (omega arith)
-    go false t m f = absurd (omega arith)
-
 -- the marks after these pairs are as many as the marks were, and the pairs' own
 pub record Marking (seen : List Bool) (ps : List Pair) : Type 0 where
   pub long : length (seeing ps seen) ≡ length seen
   pub many : marked (seeing ps seen) ≡ marked seen + length ps
 
-pub pairs-marked : (rule : ℕ → ℕ → ℕ → Bool) (low i : ℕ) (seen : List Bool) (ps : List Pair) → length seen ≡ 32 → pairsFault rule low i seen ps ≡ 0
+pub pairs-marked : (rule : ℕ → ℕ → ℕ → Bool) (low i : ℕ) (seen : List Bool) (ps : List Pair) → length seen ≡ 32
+    → checkPairs rule low i seen ps ≡ passed
     → Marking seen ps
-unfolding pairsFault seeing
+unfolding seeing
 pairs-marked rule low i seen [] h e = record { long = refl; many = omega arith }
 pairs-marked rule low i seen (p ∷ ps) h e =
-    let f = or-else-both (pairFault (rule low i (p .offset)) seen (p .port)) _ e in
+    let (right, small, new, others) = pairs-passed rule low i seen p ps e in
     let l = length-set seen (p .port) true in
-    let m = marked-more seen (p .port) (fault-unseen (rule low i (p .offset)) seen (p .port) (f .0))
-    (omega (arith, fault-none (rule low i (p .offset)) seen (p .port) (f .0) .1)) in
-    let w = pairs-marked rule (p .offset) (suc i) (set seen (p .port) true) ps (l ∙ h) (f .1) in
+    let m = marked-more seen (p .port) new (omega (arith, small)) in
+    let w = pairs-marked rule (p .offset) (suc i) (set seen (p .port) true) ps (l ∙ h) others in
     record { long = w .long ∙ l; many = w .many ∙ rw m (omega arith) }
 
 -- how many ports of each kind have been seen
@@ -97,9 +76,9 @@ module _ {seen : Seen} {loads stores : ℕ} (w : Marks seen loads stores) where
     omega (arith, count-most (λ (b : Bool). b) (seen .stores), w .stores-long, w .stores-many),
   )
 
-  pub marks-more : (g : GroupPairs) → groupFault seen g ≡ 0 → Marks (seenAfter g seen) (loads + length (g .loads)) (stores + length (g .stores))
+  pub marks-more : (g : GroupPairs) → checkGroup seen g ≡ passed → Marks (seenAfter g seen) (loads + length (g .loads)) (stores + length (g .stores))
   marks-more g e =
-      let (right, ls, ss) = group-fault seen g e in
+      let (few, fewer, ls, ss) = group-passed seen g e in
       let l = pairs-marked _ _ _ (seen .loads) (g .loads) (w .loads-long) ls in
       let s = pairs-marked _ _ _ (seen .stores) (g .stores) (w .stores-long) ss in
       record {
@@ -109,36 +88,40 @@ module _ {seen : Seen} {loads stores : ℕ} (w : Marks seen loads stores) where
         stores-many = s .many ∙ rw (w .stores-many);
       }
 
-marks-groups : (seen : Seen) (gs : List GroupPairs) {loads stores : ℕ} → Marks seen loads stores → groupsFault seen gs ≡ 0
+marks-groups : (seen : Seen) (gs : List GroupPairs) {loads stores : ℕ} → Marks seen loads stores → checkGroups seen gs ≡ passed
     → (loads + length (loadsIn gs) ≤ 32) × (stores + length (storesIn gs) ≤ 32)
-unfolding groupsFault
 marks-groups seen [] w e = let r = marks-room w in (omega (arith, r .0), omega (arith, r .1))
 marks-groups seen (g ∷ gs) w e =
-    let f = or-else-both (groupFault seen g) _ e in
-    let r = marks-groups (seenAfter g seen) gs (marks-more w g (f .0)) (f .1) in
+    let (first, others) = groups-passed seen g gs e in
+    let r = marks-groups (seenAfter g seen) gs (marks-more w g first) others in
     rw (length-append, length-append) (omega (arith, r .0), omega (arith, r .1))
 
 -- a right table has at most 32 loads and 32 stores
 pub accesses-fit : AccessesFit
-unfolding tableFault
 accesses-fit gs e =
-    let f = check-both (within 1 16 (length gs)) badGroupCount (groupsFault noneSeen gs) (λ z. omega arith) e in
-    let r = marks-groups noneSeen gs marks-none (f .1) in
+    let r = marks-groups noneSeen gs marks-none (table-passed gs e .2) in
     (omega (arith, r .0), omega (arith, r .1))
 
 -- ---- the pairs of a right table have room in a number
 
--- where no right offset is above `top`, the pairs with no fault are small
-pairs-small : (rule : ℕ → ℕ → ℕ → Bool) (top : ℕ) → top < 256 → ((low i offset : ℕ) → rule low i offset ≡ true → offset ≤ top)
-    → (low i : ℕ) (seen : List Bool) (ps : List Pair) → pairsFault rule low i seen ps ≡ 0 → AllSmall ps
-unfolding pairsFault
-pairs-small rule top h most low i seen [] e = tt
-pairs-small rule top h most low i seen (p ∷ ps) e =
-    let f = or-else-both (pairFault (rule low i (p .offset)) seen (p .port)) _ e in
-    let g = fault-none (rule low i (p .offset)) seen (p .port) (f .0) in (
-      record { offset = omega (arith, most low i (p .offset) (g .0)); port = omega (arith, g .1) },
-      pairs-small rule top h most (p .offset) (suc i)
-          (set seen (p .port) true) ps (f .1),
+-- where no right offset is above 16, the pairs that are passed are small
+pairs-small : (rule : ℕ → ℕ → ℕ → Bool) → ((low i offset : ℕ) → rule low i offset ≡ true → offset ≤ 16)
+    → (low i : ℕ) (seen : List Bool) (ps : List Pair) → checkPairs rule low i seen ps ≡ passed → AllSmall ps
+pairs-small rule most low i seen [] e = tt
+pairs-small rule most low i seen (p ∷ ps) e =
+    let (right, small, new, others) = pairs-passed rule low i seen p ps e in (
+      record { offset = omega (arith, most low i (p .offset) right); port = omega (arith, small) },
+      pairs-small rule most (p .offset) (suc i) (set seen (p .port) true) ps others,
+    )
+
+pub group-small : (seen : Seen) (g : GroupPairs) → checkGroup seen g ≡ passed → AllSmall (g .loads) × AllSmall (g .stores)
+group-small seen g e =
+    let (few, fewer, ls, ss) = group-passed seen g e in (
+      pairs-small (loadRule (length (g .stores)))
+          (λ low i offset r. omega (arith, leb-true offset (length (g .stores)) (and-right (leb low offset) _ r), fewer)) 0 0 (seen .loads) (g .loads) ls,
+      pairs-small (storeRule (g .loads))
+          (λ low i offset r. omega (arith, eqb-true offset (countWhere (beforeStore i) (g .loads)) r, count-most (beforeStore i) (g .loads), few))
+          0 0 (seen .stores) (g .stores) ss,
     )
 
 -- the pairs of every group are small
@@ -146,21 +129,12 @@ abbrev SmallGroups : List GroupPairs → Type 0
 SmallGroups [] = Unit {0}
 SmallGroups (g ∷ gs) = AllSmall (g .loads) × AllSmall (g .stores) × SmallGroups gs
 
-groups-small : (seen : Seen) (gs : List GroupPairs) → groupsFault seen gs ≡ 0 → SmallGroups gs
-unfolding groupsFault
+groups-small : (seen : Seen) (gs : List GroupPairs) → checkGroups seen gs ≡ passed → SmallGroups gs
 groups-small seen [] e = tt
 groups-small seen (g ∷ gs) e =
-    let f = or-else-both (groupFault seen g) _ e in
-    let (right, ls, ss) = group-fault seen g (f .0) in
-    let few = counts-few (length (g .loads)) (length (g .stores)) right in (
-      pairs-small (loadRule (length (g .stores))) 16 (omega arith)
-          (λ low i offset r. omega (arith, leb-true offset (length (g .stores)) (and-right (leb low offset) _ r), few .1)) 0 0 (seen .loads)
-          (g .loads) ls,
-      pairs-small (storeRule (g .loads)) 16 (omega arith)
-          (λ low i offset r. omega (arith, eqb-true offset (countWhere (beforeStore i) (g .loads)) r, count-most (beforeStore i) (g .loads), few .0))
-          0 0 (seen .stores) (g .stores) ss,
-      groups-small (seenAfter g seen) gs (f .1),
-    )
+    let (first, others) = groups-passed seen g gs e in
+    let (loads, stores) = group-small seen g first in
+    (loads, stores, groups-small (seenAfter g seen) gs others)
 
 -- ---- the record holds the groups
 
@@ -208,16 +182,14 @@ spans-length : (load store : ℕ) (gs : List GroupPairs) → length (spans load 
 spans-length load store [] = refl
 spans-length load store (g ∷ gs) = ap suc (spans-length (load + length (g .loads)) (store + length (g .stores)) gs)
 
-pub groups-packed : (gs : List GroupPairs) → tableFault gs ≡ 0 → groupsOf (pack gs) ≡ gs
-unfolding tableFault
-groups-packed gs right =
+pub records-hold-groups : RecordsHoldGroups
+records-hold-groups gs right =
     let n = spans-length 0 0 gs in
     let blanks : List ℕ = replicate (16 - length gs) 0 in
     let h : length gs ≤ length (spans 0 0 gs ++ blanks) = rw (length-append, n) (omega arith) in
-    let f = check-both (within 1 16 (length gs)) badGroupCount (groupsFault noneSeen gs) (λ z. omega arith) right in
     ap (map (meantIn (pack gs .loads) (pack gs .stores))) (held-few 0 (length gs) (spans 0 0 gs ++ blanks) h ∙ take-at (spans 0 0 gs) blanks (length gs) n)
     ∙ spans-hold (pack gs .loads) (pack gs .stores) 0 0 gs _ _ refl refl (omega (arith, accesses-fit gs right .0))
-    (omega (arith, accesses-fit gs right .1)) (groups-small noneSeen gs (f .1))
+    (omega (arith, accesses-fit gs right .1)) (groups-small noneSeen gs (table-passed gs right .2))
 
 -- ---- the record with a group more
 
@@ -269,14 +241,16 @@ pub packed-none : {t : Table} → t ≡ pack [] → Packed t 0 0 []
 packed-none e = record { table = e; loads-are = refl; stores-are = refl }
 
 pub packed-more : {t : Table} {loads stores : ℕ} {done : List GroupPairs} {x : NewGroup} {r : Table} → Packed t loads stores done → (g : GroupPairs)
-    → x ≡ packGroup g → length done < 16 → Grown t loads stores x r → Packed r (loads + x .loads .count) (stores + x .stores .count) (done ++ g ∷ [])
+    → x ≡ packGroup g → length done < 16 → Grown t loads stores x r
+    → Packed r (loads + x .loads .count) (stores + x .stores .count) (done ++ g ∷ [])
 packed-more {t} {loads} {stores} {done} {x} {r} w g e h v =
     let ls = flat-snoc (λ (y : GroupPairs). y .loads) done g in
     let ss = flat-snoc (λ (y : GroupPairs). y .stores) done g in
     let n : r .count ≡ length (done ++ g ∷ []) = v .count ∙ rw (w .table, length-append) in
     let a : r .groups ≡ pack (done ++ g ∷ []) .groups = v .groups ∙ rw (w .table, w .loads-are, w .stores-are, e) (spans-more done g h) in
     let b : r .loads ≡ filled (loadsIn (done ++ g ∷ [])) = v .loads-are ∙ rw (w .table, w .loads-are, e, ls) (filled-more (loadsIn done) (g .loads)) in
-    let c : r .stores ≡ filled (storesIn (done ++ g ∷ [])) = v .stores-are ∙ rw (w .table, w .stores-are, e, ss) (filled-more (storesIn done) (g .stores)) in
+    let c : r .stores ≡ filled (storesIn (done ++ g ∷ [])) =
+    v .stores-are ∙ rw (w .table, w .stores-are, e, ss) (filled-more (storesIn done) (g .stores)) in
     record {
       table = ap₂ (λ (n : ℕ) (a : List ℕ). tableMade n a (r .loads) (r .stores)) n a
           ∙ ap₂ (tableMade (length (done ++ g ∷ [])) (pack (done ++ g ∷ []) .groups)) b c;

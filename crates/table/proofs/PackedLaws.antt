@@ -1,11 +1,10 @@
 -- Packing loses nothing: pairs and groups, and the numbers that hold them.
-use Prim.Native.Nat.{ℕ, _+_, _*_, _/_, _%_, _≤_, _<_}
+use Prim.Native.Nat.{ℕ, _+_, _*_, _/_, _%_, _<_}
 use native.Mathlib.Omega.{arith}
-use mathlib.Core.Path.{_≡_, refl, sym, ap, _∙_}
+use mathlib.Core.Path.{_≡_, refl}
 use mathlib.Core.List.{List, [], _∷_, _++_, map}
 use Rattle.table.specs.declared.Pair.{Pair}
 use Rattle.table.specs.declared.Span.{Span}
-use Rattle.table.specs.declared.Group.{Group}
 use Rattle.table.specs.Packed.{pairIn, packedPair, spanIn, packedSpan, groupIn, packedGroup, SmallPair, SmallSpan}
 use Rattle.table.specs.Packed.{PairsReadBack, PackedPairsReadBack, GroupsReadBack, PackedGroupsReadBack}
 

@@ -1,4 +1,4 @@
--- Checking finds no fault in the right tables, and in no others; the statement is specs/RightTables.antt.
+-- Checking passes the right tables, and no others; the statement is specs/RightTables.antt.
 use Prim.Native.Nat.{ℕ, zero, suc, _+_, _≤_, _<_}
 use native.Mathlib.Nat.{add-zero, add-suc, suc-add, zero-add, le-trans}
 use native.Mathlib.Omega.{arith}
@@ -11,18 +11,16 @@ use lib.ListN.{length, getD, set, length-set, getD-replicate}
 use lib.Seq.{getD-set-same, getD-set-other}
 use borrow.Author.Tests.{leb-true, le-leb, eqb-true, eqb-false, eq-eqb, ne-eqb}
 use Rattle.table.specs.declared.Pair.{Pair}
-use Rattle.number.specs.Refusal.{badGroupCount}
-use Rattle.number.specs.Basics.{anyOf, countWhere, within}
+use Rattle.number.specs.Basics.{anyOf, countWhere}
+use Rattle.number.specs.Reply.{passed}
 use Rattle.table.specs.Group.{GroupPairs, blankPair, portOf, beforeStore}
-use Rattle.table.specs.Table.{loadRule, storeRule, pairFault, pairsFault, seeing, countsRight}
-use Rattle.table.specs.Table.{Seen, noneSeen, seenAfter, groupFault, groupsFault, tableFault}
+use Rattle.table.specs.Table.{loadRule, storeRule, checkPairs, seeing, countsRight}
+use Rattle.table.specs.Table.{Seen, noneSeen, seenAfter, checkGroup, checkGroups, checkTable}
 use Rattle.table.specs.TableBytes.{loadsIn, storesIn}
 use Rattle.table.specs.RightTables.{Each, Distinct, NeverFall, offsetOf, RightTable, RightTables}
 use Rattle.table.specs.RightTables.{CountsWithin, LoadsNeverFall, LoadsWithin, StoresAgree}
 use Rattle.number.proofs.Both.{and-left, and-right}
-use Rattle.table.proofs.CheckLaws.{fault-none, counts-few}
-use Rattle.table.proofs.WriteLaws.{or-else-both, check-both}
-use Rattle.table.proofs.PackLaws.{group-fault, fault-unseen}
+use Rattle.table.proofs.CheckLaws.{pairs-passed, group-passed, group-pass, groups-passed, table-passed, table-pass}
 
 -- ---- every element
 module _ {A : Type 0} where
@@ -120,25 +118,22 @@ Offsets rule low i [] = Unit {0}
 Offsets rule low i (p ∷ ps) = (rule low i (p .offset) ≡ true) × Offsets rule (p .offset) (suc i) ps
 
 module _ (rule : ℕ → ℕ → ℕ → Bool) where
-  pairs-fresh : (low i : ℕ) (marks : List Bool) (done : List ℕ) (ps : List Pair) → Marked marks done → pairsFault rule low i marks ps ≡ 0 →
+  pairs-fresh : (low i : ℕ) (marks : List Bool) (done : List ℕ) (ps : List Pair) → Marked marks done → checkPairs rule low i marks ps ≡ passed →
       Offsets rule low i ps × Fresh done (map portOf ps)
-  unfolding pairsFault
   pairs-fresh low i marks done [] w e = (tt, tt)
   pairs-fresh low i marks done (p ∷ ps) w e =
-      let f = or-else-both (pairFault (rule low i (p .offset)) marks (p .port)) _ e in
-      let r = fault-none (rule low i (p .offset)) marks (p .port) (f .0) in
-      let u = fault-unseen (rule low i (p .offset)) marks (p .port) (f .0) in
-      let d = unmarked-differs (p .port) done (sym (w .are (p .port) (r .1)) ∙ u) in
-      let k = pairs-fresh (p .offset) (suc i) (set marks (p .port) true) (p .port ∷ done) ps (marked-more (r .1) w) (f .1) in
-      ((r .0, k .0), (r .1, d, k .1))
+      let (right, small, new, others) = pairs-passed rule low i marks p ps e in
+      let d = unmarked-differs (p .port) done (sym (w .are (p .port) small) ∙ new) in
+      let k = pairs-fresh (p .offset) (suc i) (set marks (p .port) true) (p .port ∷ done) ps (marked-more small w) others in
+      ((right, k .0), (small, d, k .1))
 
-  pairs-faultless : (low i : ℕ) (marks : List Bool) (done : List ℕ) (ps : List Pair) → Marked marks done → Offsets rule low i ps →
-      Fresh done (map portOf ps) → pairsFault rule low i marks ps ≡ 0
-  unfolding pairsFault
-  pairs-faultless low i marks done [] w o f = refl
-  pairs-faultless low i marks done (p ∷ ps) w o f =
+  pairs-right : (low i : ℕ) (marks : List Bool) (done : List ℕ) (ps : List Pair) → Marked marks done → Offsets rule low i ps →
+      Fresh done (map portOf ps) → checkPairs rule low i marks ps ≡ passed
+  unfolding checkPairs
+  pairs-right low i marks done [] w o f = refl
+  pairs-right low i marks done (p ∷ ps) w o f =
       let u : getD marks (p .port) false ≡ false = w .are (p .port) (f .0) ∙ differs-unmarked (p .port) done (f .1) in
-      let k = pairs-faultless (p .offset) (suc i) (set marks (p .port) true) (p .port ∷ done) ps (marked-more (f .0) w) (o .1) (f .2) in
+      let k = pairs-right (p .offset) (suc i) (set marks (p .port) true) (p .port ∷ done) ps (marked-more (f .0) w) (o .1) (f .2) in
       rw (o .0, le-leb (p .port) 31 (f .0), u) k
 
 marked-after : (marks : List Bool) (done : List ℕ) (ps : List Pair) → Marked marks done → Fresh done (map portOf ps) →
@@ -198,14 +193,14 @@ record Done (seen : Seen) (loads stores : List ℕ) : Type 0 where
   pub stores-marked : Marked (seen .stores) stores
 
 module _ (seen : Seen) (g : GroupPairs) {loads stores : List ℕ} (w : Done seen loads stores) where
-  group-right : groupFault seen g ≡ 0 → Shape g × Fresh loads (map portOf (g .loads)) × Fresh stores (map portOf (g .stores))
+  group-right : checkGroup seen g ≡ passed → Shape g × Fresh loads (map portOf (g .loads)) × Fresh stores (map portOf (g .stores))
   group-right e =
-      let (counts, ls, ss) = group-fault seen g e in
+      let (few, fewer, ls, ss) = group-passed seen g e in
       let l = pairs-fresh (loadRule (length (g .stores))) 0 0 (seen .loads) loads (g .loads) (w .loads-marked) ls in
       let s = pairs-fresh (storeRule (g .loads)) 0 0 (seen .stores) stores (g .stores) (w .stores-marked) ss in
       let (above, fall, below) = loads-rise (length (g .stores)) 0 0 (g .loads) (l .0) in (
         record {
-          counts = counts-few (length (g .loads)) (length (g .stores)) counts;
+          counts = (few, fewer);
           never-fall = fall;
           load-offsets = below;
           store-offsets = λ j h. rw zero-add at (stores-count (g .loads) 0 0 (g .stores) (s .0) j h);
@@ -214,15 +209,14 @@ module _ (seen : Seen) (g : GroupPairs) {loads stores : List ℕ} (w : Done seen
         s .1,
       )
 
-  right-group : Shape g → Fresh loads (map portOf (g .loads)) → Fresh stores (map portOf (g .stores)) → groupFault seen g ≡ 0
-  unfolding groupFault
+  right-group : Shape g → Fresh loads (map portOf (g .loads)) → Fresh stores (map portOf (g .stores)) → checkGroup seen g ≡ passed
   right-group r l s =
       let c = right-counts (length (g .loads)) (length (g .stores)) (r .counts) in
       let o = loads-agree (length (g .stores)) 0 0 (g .loads) (each-above (map offsetOf (g .loads))) (r .never-fall) (r .load-offsets) in
       let p = stores-agree (g .loads) 0 0 (g .stores) (λ j h. rw zero-add (r .store-offsets j h)) in
-      let a = pairs-faultless (loadRule (length (g .stores))) 0 0 (seen .loads) loads (g .loads) (w .loads-marked) o l in
-      let b = pairs-faultless (storeRule (g .loads)) 0 0 (seen .stores) stores (g .stores) (w .stores-marked) p s in
-      rw (c, a, b)
+      let a = pairs-right (loadRule (length (g .stores))) 0 0 (seen .loads) loads (g .loads) (w .loads-marked) o l in
+      let b = pairs-right (storeRule (g .loads)) 0 0 (seen .stores) stores (g .stores) (w .stores-marked) p s in
+      group-pass seen g c a b
 
   done-after : Fresh loads (map portOf (g .loads)) → Fresh stores (map portOf (g .stores)) →
       Done (seenAfter g seen) (doneAfter loads (map portOf (g .loads))) (doneAfter stores (map portOf (g .stores)))
@@ -232,14 +226,13 @@ module _ (seen : Seen) (g : GroupPairs) {loads stores : List ℕ} (w : Done seen
   }
 
 -- ---- groups
-groups-right : (seen : Seen) (gs : List GroupPairs) {loads stores : List ℕ} → Done seen loads stores → groupsFault seen gs ≡ 0 →
+groups-right : (seen : Seen) (gs : List GroupPairs) {loads stores : List ℕ} → Done seen loads stores → checkGroups seen gs ≡ passed →
     Each Shape gs × Fresh loads (map portOf (loadsIn gs)) × Fresh stores (map portOf (storesIn gs))
-unfolding groupsFault
 groups-right seen [] w e = (tt, tt, tt)
 groups-right seen (g ∷ gs) {loads} {stores} w e =
-    let f = or-else-both (groupFault seen g) _ e in
-    let (shape, l, s) = group-right seen g w (f .0) in
-    let (shapes, ls, ss) = groups-right (seenAfter g seen) gs (done-after seen g w l s) (f .1) in
+    let (first, others) = groups-passed seen g gs e in
+    let (shape, l, s) = group-right seen g w first in
+    let (shapes, ls, ss) = groups-right (seenAfter g seen) gs (done-after seen g w l s) others in
     ((shape, shapes), joined loads (g .loads) (loadsIn gs) l ls, joined stores (g .stores) (storesIn gs) s ss)
   where
     joined : (done : List ℕ) (ps qs : List Pair) → Fresh done (map portOf ps) → Fresh (doneAfter done (map portOf ps)) (map portOf qs) →
@@ -247,8 +240,8 @@ groups-right seen (g ∷ gs) {loads} {stores} w e =
     joined done ps qs a b = rw (map-append portOf ps qs) (fresh-join done (map portOf ps) (map portOf qs) a b)
 
 right-groups : (seen : Seen) (gs : List GroupPairs) {loads stores : List ℕ} → Done seen loads stores → Each Shape gs →
-    Fresh loads (map portOf (loadsIn gs)) → Fresh stores (map portOf (storesIn gs)) → groupsFault seen gs ≡ 0
-unfolding groupsFault
+    Fresh loads (map portOf (loadsIn gs)) → Fresh stores (map portOf (storesIn gs)) → checkGroups seen gs ≡ passed
+unfolding checkGroups
 right-groups seen [] w r l s = refl
 right-groups seen (g ∷ gs) {loads} {stores} w r l s =
     let ls = parted loads (g .loads) (loadsIn gs) l in
@@ -269,17 +262,16 @@ none-done-yet = record { loads-marked = unmarked; stores-marked = unmarked }
     unmarked = record { long = refl; are = λ n h. getD-replicate 32 n false false (omega arith) }
 
 pub right-tables : RightTables
-unfolding tableFault
 right-tables gs = (to, from)
   where
-    to : tableFault gs ≡ 0 → RightTable gs
+    to : checkTable gs ≡ passed → RightTable gs
     to e =
-        let (count, groups) = check-both (within 1 16 (length gs)) badGroupCount (groupsFault noneSeen gs) (λ z. omega arith) e in
+        let (some, few, groups) = table-passed gs e in
         let (shapes, l, s) = groups-right noneSeen gs none-done-yet groups in
         let loads = fresh-apart [] (map portOf (loadsIn gs)) l in
         let stores = fresh-apart [] (map portOf (storesIn gs)) s in
         record {
-          group-count = (leb-true 1 (length gs) (and-left (leb 1 (length gs)) _ count), leb-true (length gs) 16 (and-right (leb 1 (length gs)) _ count));
+          group-count = (some, few);
           counts = each-map gs (λ g r. r .counts) shapes;
           never-fall = each-map gs (λ g r. r .never-fall) shapes;
           load-offsets = each-map gs (λ g r. r .load-offsets) shapes;
@@ -295,10 +287,10 @@ right-tables gs = (to, from)
     shaped (g ∷ l) a b c d =
         (record { counts = a .0; never-fall = b .0; load-offsets = c .0; store-offsets = d .0 }, shaped l (a .1) (b .1) (c .1) (d .1))
 
-    from : RightTable gs → tableFault gs ≡ 0
+    from : RightTable gs → checkTable gs ≡ passed
     from r =
         let shapes = shaped gs (r .counts) (r .never-fall) (r .load-offsets) (r .store-offsets) in
         let l = once-fresh (map portOf (loadsIn gs)) (r .load-ports) (r .loads-once) in
         let s = once-fresh (map portOf (storesIn gs)) (r .store-ports) (r .stores-once) in
         let g = right-groups noneSeen gs none-done-yet shapes l s in
-        rw (le-leb 1 (length gs) (r .group-count .0), le-leb (length gs) 16 (r .group-count .1), g)
+        table-pass gs (rw (le-leb 1 (length gs) (r .group-count .0), le-leb (length gs) 16 (r .group-count .1))) g

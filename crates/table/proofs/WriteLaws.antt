@@ -1,16 +1,14 @@
 -- Laws of writing tables.
-use Prim.Native.Nat.{ℕ, zero, suc, _+_, _≤_, _<_}
+use Prim.Native.Nat.{ℕ, _+_, _≤_, _<_}
 use mathlib.Core.Path.{_≡_, refl, sym, ap, _∙_}
-use mathlib.Core.Bool.{Bool, true, false}
 use mathlib.Core.List.{List, [], _∷_, _++_, append-nil, append-assoc}
 use native.Mathlib.Omega.{arith}
 use native.Mathlib.Numerals.{add-one}
-use borrow.Author.Tests.{ne-eqb}
 use lib.ListN.{length, getD, take, drop, length-append, take-append-drop}
 use lib.Seq.{take-suc, take-all}
 use Rattle.table.specs.declared.Pair.{Pair}
 use Rattle.table.specs.declared.Group.{Group}
-use Rattle.number.specs.Basics.{flatMap, check, firstFault, splice}
+use Rattle.number.specs.Basics.{flatMap, splice}
 use Rattle.table.specs.Group.{GroupPairs, listOf, pairsOf}
 use Rattle.table.specs.TableBytes.{pairNumbers, groupNumbers, tableNumbers}
 use Rattle.number.specs.Number.{numberBytes, bytesOf}
@@ -22,7 +20,8 @@ flat-append : {A : Type 0} (f : A → List ℕ) (xs ys : List A) → flatMap f (
 flat-append f [] ys = refl
 flat-append f (x ∷ xs) ys = rw (flat-append f xs ys) (sym (append-assoc (f x) (flatMap f xs) (flatMap f ys)))
 
-pub flat-next : {A : Type 0} (f : A → List ℕ) (l : List A) (i : ℕ) (d : A) → i < length l → flatMap f (take (i + 1) l) ≡ flatMap f (take i l) ++ f (getD l i d)
+pub flat-next : {A : Type 0} (f : A → List ℕ) (l : List A) (i : ℕ) (d : A) → i < length l
+    → flatMap f (take (i + 1) l) ≡ flatMap f (take i l) ++ f (getD l i d)
 flat-next f l i d h = rw (add-one, take-suc l i d h, flat-append f, append-nil)
 
 -- the bytes of the first i elements and of the next are among those of all
@@ -44,7 +43,8 @@ pub tallied-more : {A : Type 0} {f : A → List ℕ} {l : List A} {i total n : �
     → n ≡ length (bytesOf (f (getD l i d))) → Tallied f l (i + 1) (total + n)
 tallied-more {f = f} {l = l} {i = i} w d h e = record { is = rw (flat-next f l i d h, bytes-append, length-append, w .is, e) }
 
-pub tallied-end : {A : Type 0} {f : A → List ℕ} {l : List A} {i total : ℕ} → Tallied f l i total → length l ≤ i → total ≡ length (bytesOf (flatMap f l))
+pub tallied-end : {A : Type 0} {f : A → List ℕ} {l : List A} {i total : ℕ} → Tallied f l i total → length l ≤ i
+    → total ≡ length (bytesOf (flatMap f l))
 tallied-end {f = f} {l = l} {i = i} w h = w .is ∙ rw (take-all i l h)
 
 -- ---- the bytes of a pair and of a group, part by part
@@ -55,15 +55,6 @@ pub group-length : (g : GroupPairs)
     → length (bytesOf (groupNumbers g)) ≡ length (numberBytes (length (g .loads))) + length (numberBytes (length (g .stores))) + length
     (bytesOf (flatMap pairNumbers (g .loads))) + length (bytesOf (flatMap pairNumbers (g .stores)))
 group-length g = rw (length-append, length-append, bytes-append (flatMap pairNumbers (g .loads)) (flatMap pairNumbers (g .stores)), length-append) (omega arith)
-
--- ---- parts of a check with no fault
-pub or-else-both : (n m : ℕ) → firstFault n m ≡ 0 → (n ≡ 0) × (m ≡ 0)
-or-else-both zero m e = (refl, e)
-or-else-both (suc n) m e = let q = ne-eqb (suc n) 0 (λ z. omega arith) in let d : suc n ≡ 0 = rw q at e in absurd (omega arith)
-
-pub check-both : (t : Bool) (n m : ℕ) → (n ≡ 0 → ⊥) → check t n m ≡ 0 → (t ≡ true) × (m ≡ 0)
-check-both true n m z e = (refl, e)
-check-both false n m z e = absurd (z e)
 
 -- a group's numbers and bytes, by its record
 module _ (ls ss : List ℕ) (g : Group) where
@@ -82,7 +73,8 @@ module _ (ls ss : List ℕ) (g : Group) where
       → out₂ ≡ splice out end (bytesOf (flatMap pairNumbers (listOf ls (g .loads))))
       → end₂ ≡ end + length (bytesOf (flatMap pairNumbers (listOf ls (g .loads))))
       → out₃ ≡ splice out₂ end₂ (bytesOf (flatMap pairNumbers (listOf ss (g .stores))))
-      → end₃ ≡ end₂ + length (bytesOf (flatMap pairNumbers (listOf ss (g .stores)))) → NumbersPut d place (groupNumbers (pairsOf ls ss g)) out₃ end₃
+      → end₃ ≡ end₂ + length (bytesOf (flatMap pairNumbers (listOf ss (g .stores))))
+      → NumbersPut d place (groupNumbers (pairsOf ls ss g)) out₃ end₃
   put-group {d} {place} w h e₂ f₂ e₃ f₃ =
       let loads = flatMap pairNumbers (listOf ls (g .loads)) in
       let a = g .loads .count ∷ g .stores .count ∷ [] in
@@ -106,7 +98,8 @@ table-size gs n e = table-bytes gs ∙ ap (λ (k : ℕ). length (numberBytes 2) 
 
 -- the head and the groups, put one after the other
 pub put-table : (gs : List GroupPairs) {n : ℕ} {d out : List ℕ} {end : ℕ} {out₂ : List ℕ} {end₂ : ℕ} → length gs ≡ n
-    → NumbersPut d 0 (2 ∷ n ∷ []) out end → NumbersPut out end (flatMap groupNumbers gs) out₂ end₂ → length (bytesOf (tableNumbers gs)) ≤ length d
+    → NumbersPut d 0 (2 ∷ n ∷ []) out end → NumbersPut out end (flatMap groupNumbers gs) out₂ end₂
+    → length (bytesOf (tableNumbers gs)) ≤ length d
     → out₂ ≡ splice d 0 (bytesOf (tableNumbers gs))
 put-table gs {n} {d} e w v h =
     let m : length (bytesOf (2 ∷ n ∷ [])) ≡ length (numberBytes 2) + length (numberBytes n) = length-append (numberBytes 2) (numberBytes n ++ [])

@@ -15,12 +15,13 @@ use Rattle.table.specs.declared.read.NewGroup.{NewGroup}
 use Rattle.table.specs.declared.read.PairsRead.{PairsRead}
 use Rattle.table.specs.declared.read.GroupRead.{GroupRead}
 use Rattle.table.specs.declared.read.GroupsRead.{GroupsRead}
-use Rattle.number.specs.Number.{Got, got, bad, thenRead, readNumber, Reply, accepts, refuses, replyNumber, Reading, reading}
+use Rattle.number.specs.Reply.{Reply, refuse, accept, number}
+use Rattle.number.specs.Number.{Got, got, thenRead, readNumber, Reading, reading}
 use Rattle.table.specs.TableBytes.{filled, pack}
 use Rattle.table.specs.Packed.{packedGroup}
 use Rattle.number.specs.Basics.{pick}
 use Rattle.table.specs.Group.{GroupPairs, listOf, Inside}
-use Rattle.table.specs.Table.{loadRule, storeRule, pairsFault, seeing, Seen, seenAfter, groupFault}
+use Rattle.table.specs.Table.{loadRule, storeRule, checkPairs, seeing, Seen, seenAfter, checkGroup}
 
 -- ---- checking and reading a group's pairs
 
@@ -42,7 +43,7 @@ pub record RuleRight (storing : Bool) (stores : ℕ) (places : List ℕ) (loads 
 
 -- what checking pairs gives: their first fault and, where there is none, the marks after them
 pub record PairsChecked (rule : ℕ → ℕ → ℕ → Bool) (seen : List Bool) (ps : List Pair) (after : List Bool) (r : ℕ) : Type 0 where
-  pub answer : r ≡ pairsFault rule 0 0 seen ps
+  pub answer : r ≡ number (checkPairs rule 0 0 seen ps)
   pub marks : r ≡ 0 → after ≡ seeing ps seen
 
 -- the ports that the marks say were seen
@@ -51,7 +52,7 @@ seenIn loads stores = record { loads = loads; stores = stores }
 
 -- the same of a group
 pub record GroupChecked (seen : Seen) (g : GroupPairs) (after : Seen) (r : ℕ) : Type 0 where
-  pub answer : r ≡ groupFault seen g
+  pub answer : r ≡ number (checkGroup seen g)
   pub marks : r ≡ 0 → after ≡ seenAfter g seen
 
 -- ---- reading a table
@@ -64,26 +65,33 @@ pub record Two : Type 0 where
 abbrev pub twoNumbers : ℕ → ℕ → Two
 twoNumbers x y = record { first = x; second = y }
 
-unfoldable pub readTwo : List ℕ → Got Two
-readTwo s = thenRead (readNumber s) λ x s₁. thenRead (readNumber s₁) λ y s₂. got (twoNumbers x y) s₂
+unfoldable pub readTwo : List ℕ → Reply (Got Two)
+readTwo s = thenRead (readNumber s) λ x s₁. thenRead (readNumber s₁) λ y s₂. accept (got (twoNumbers x y) s₂)
 
 -- the number and the values of each case of `TwoRead`
 abbrev pub twoReply : TwoRead → Reply (Reading Two)
-twoReply (TwoRead.Two x y next) = accepts (reading (twoNumbers x y) next)
-twoReply (TwoRead.NoTwo k) = refuses k
+twoReply (TwoRead.Two x y next) = accept (reading (twoNumbers x y) next)
+twoReply (TwoRead.NoTwo k) = refuse k
 
 -- its number: 0 where both were read
 abbrev pub twoRefusal : TwoRead → ℕ
-twoRefusal read = replyNumber (twoReply read)
+twoRefusal read = number (twoReply read)
 
 -- the ports that a record of marks says were seen
 abbrev pub seenOf : Ports → Seen
 seenOf p = seenIn (p .loads) (p .stores)
 
--- a refusal: its number, which is not 0
-pub record IsRefusal (k answer : ℕ) : Type 0 where
-  pub is : answer ≡ k
-  pub some : k ≡ 0 → ⊥
+-- what was read, and where the bytes after it begin
+pub record Finds {A : Type 0} (g : Reply (Got A)) (s : List ℕ) (next : ℕ) (Found : A → Type 0) : Type 0 where
+  pub what : A
+  pub is : g ≡ accept (got what (drop next s))
+  pub inside : next ≤ length s
+  pub found : Found what
+
+-- what a call that reads in s tells, where the bytes give `g`: the number of the refusal, or 0 and what was found
+pub record Tells {A : Type 0} (g : Reply (Got A)) (s : List ℕ) (answer next : ℕ) (Found : A → Type 0) : Type 0 where
+  pub refused : (answer ≡ 0 → ⊥) → g ≡ refuse answer
+  pub given : answer ≡ 0 → Finds g s next Found
 
 -- pairs that were read stand from the first place on
 abbrev pub front : ℕ → Span
@@ -99,18 +107,14 @@ packPairs ps = record { count = length ps; places = filled ps }
 abbrev pub packGroup : GroupPairs → NewGroup
 packGroup g = record { loads = packPairs (g .loads); stores = packPairs (g .stores) }
 
--- what reading pairs gives, by what their bytes say
-pub record PairsFound (s : List ℕ) (seen : List Bool) (ps : List Pair) (rest : List ℕ) (r : PairsRead) : Type 0 where
-  pub answer : r .answer ≡ 0
+-- the record of the pairs that were read, and the marks after them
+pub record PairsFound (seen : List Bool) (r : PairsRead) (ps : List Pair) : Type 0 where
   pub pairs : r .pairs ≡ packPairs ps
   pub holds : pairsIn (r .pairs) ≡ ps
   pub marks : r .seen ≡ seeing ps seen
-  pub rest-is : rest ≡ drop (r .next) s
-  pub inside : r .next ≤ length s
 
-pub data PairsResult (s : List ℕ) (seen : List Bool) : Got (List Pair) → PairsRead → Type 0 where
-  found : {ps : List Pair} {rest : List ℕ} {r : PairsRead} → PairsFound s seen ps rest r → PairsResult s seen (got ps rest) r
-  pairs-none : {k : ℕ} {r : PairsRead} → IsRefusal k (r .answer) → PairsResult s seen (bad k) r
+abbrev pub PairsResult : List ℕ → List Bool → Reply (Got (List Pair)) → PairsRead → Type 0
+PairsResult s seen g r = Tells g s (r .answer) (r .next) (PairsFound seen r)
 
 -- the record of a group, made of what reading its loads and its stores gave
 abbrev pub groupMade : PairsRead → PairsRead → GroupRead
@@ -121,26 +125,15 @@ groupMade l t = record {
   seen = record { loads = l .seen; stores = t .seen };
 }
 
-pub record GroupFound (s : List ℕ) (seen : Seen) (g : GroupPairs) (rest : List ℕ) (r : GroupRead) : Type 0 where
-  pub answer : r .answer ≡ 0
+pub record GroupFound (seen : Seen) (r : GroupRead) (g : GroupPairs) : Type 0 where
   pub group : r .group ≡ packGroup g
   pub marks : seenOf (r .seen) ≡ seenAfter g seen
-  pub rest-is : rest ≡ drop (r .next) s
-  pub inside : r .next ≤ length s
 
-pub data GroupResult (s : List ℕ) (seen : Seen) : Got GroupPairs → GroupRead → Type 0 where
-  group-found : {g : GroupPairs} {rest : List ℕ} {r : GroupRead} → GroupFound s seen g rest r → GroupResult s seen (got g rest) r
-  group-none : {k : ℕ} {r : GroupRead} → IsRefusal k (r .answer) → GroupResult s seen (bad k) r
+abbrev pub GroupResult : List ℕ → Seen → Reply (Got GroupPairs) → GroupRead → Type 0
+GroupResult s seen g r = Tells g s (r .answer) (r .next) (GroupFound seen r)
 
-pub record GroupsFound (s : List ℕ) (gs : List GroupPairs) (rest : List ℕ) (r : GroupsRead) : Type 0 where
-  pub answer : r .answer ≡ 0
-  pub table : r .table ≡ pack gs
-  pub rest-is : rest ≡ drop (r .next) s
-  pub inside : r .next ≤ length s
-
-pub data GroupsResult (s : List ℕ) : Got (List GroupPairs) → GroupsRead → Type 0 where
-  groups-found : {gs : List GroupPairs} {rest : List ℕ} {r : GroupsRead} → GroupsFound s gs rest r → GroupsResult s (got gs rest) r
-  groups-none : {k : ℕ} {r : GroupsRead} → IsRefusal k (r .answer) → GroupsResult s (bad k) r
+abbrev pub GroupsResult : List ℕ → Reply (Got (List GroupPairs)) → GroupsRead → Type 0
+GroupsResult s g r = Tells g s (r .answer) (r .next) (λ gs. r .table ≡ pack gs)
 
 -- there is room for a group behind those of a table, which have `loads` loads and `stores` stores
 pub record Growing (t : Table) (loads stores : ℕ) (g : NewGroup) : Type 0 where

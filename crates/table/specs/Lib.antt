@@ -5,5 +5,6 @@ pub mod Table
 pub mod TableBytes
 pub mod RightTables
 pub mod RoundTrip
+pub mod NumbersFirst
 pub mod EmptyGroups
 pub mod Internal

@@ -7,8 +7,9 @@ use mathlib.Core.List.{List, [], _∷_, map}
 use lib.ListN.{length, getD}
 use Rattle.table.specs.declared.Pair.{Pair}
 use Rattle.number.specs.Basics.{countWhere}
+use Rattle.number.specs.Reply.{passed}
 use Rattle.table.specs.Group.{GroupPairs, blankPair, portOf, beforeStore}
-use Rattle.table.specs.Table.{tableFault}
+use Rattle.table.specs.Table.{checkTable}
 use Rattle.table.specs.TableBytes.{loadsIn, storesIn}
 
 -- every element has the property
@@ -70,4 +71,4 @@ pub record RightTable (gs : List GroupPairs) : Type 0 where
 
 -- Checking finds no fault in the right tables, and in no others.
 abbrev pub RightTables : Type 0
-RightTables = (gs : List GroupPairs) → (tableFault gs ≡ 0) ↔ RightTable gs
+RightTables = (gs : List GroupPairs) → (checkTable gs ≡ passed) ↔ RightTable gs

@@ -1,6 +1,7 @@
 -- When a table is right. Document 01, "Bytes and tables", and the numbers 4 to 8 in the order of checking.
 use Prim.Native.Nat.{ℕ, suc, _+_, _<_}
 use mathlib.Core.Path.{_≡_}
+use mathlib.Core.Logic.{_↔_}
 use mathlib.Core.Bool.{Bool, true, false, not, _&&_, _||_}
 use mathlib.Core.List.{List, [], _∷_, map}
 use lib.Dec.{leb, eqb}
@@ -9,7 +10,8 @@ use Rattle.table.specs.declared.Pair.{Pair}
 use Rattle.table.specs.declared.Group.{Group}
 use Rattle.table.specs.declared.Span.{Span}
 use Rattle.table.specs.declared.Table.{Table}
-use Rattle.number.specs.Basics.{pick, held, countWhere, within, check, firstFault}
+use Rattle.number.specs.Basics.{pick, held, countWhere, within}
+use Rattle.number.specs.Reply.{Reply, need, number, passed, both}
 use Rattle.number.specs.Refusal.{badGroupCount, badCounts, badOffset, badPort, portSeen}
 use Rattle.table.specs.Packed.{groupIn}
 use Rattle.table.specs.Group.{GroupPairs, pairsOf, beforeStore, order, loadPairs, storePairs}
@@ -50,16 +52,20 @@ storeRule loads low i offset = eqb offset (countWhere (beforeStore i) loads)
 abbrev pub noPorts : List Bool
 noPorts = replicate 32 false
 
--- A pair's faults in the order of checking: 8 offset, 6 port above 31, 7 port seen in the table among its kind.
-abbrev pub pairFault : Bool → List Bool → ℕ → ℕ
-pairFault offsetRight seen port = check offsetRight badOffset (check (leb port 31) badPort (check (not (getD seen port false)) portSeen 0))
+-- A pair is checked in this order: 8 offset, 6 port above 31, 7 port seen in the table among its kind.
+abbrev pub checkPair : Bool → List Bool → ℕ → Reply (Unit {0})
+checkPair offsetRight seen port =
+    need offsetRight badOffset
+    (need (leb port 31) badPort
+    (need (not (getD seen port false)) portSeen
+    passed))
 
--- The first fault of a group's pairs of one kind, from the ith on, or 0.
-unfoldable pub pairsFault : (ℕ → ℕ → ℕ → Bool) → ℕ → ℕ → List Bool → List Pair → ℕ
-pairsFault rule low i seen [] = 0
-pairsFault rule low i seen (p ∷ ps) =
-    firstFault (pairFault (rule low i (p .offset)) seen (p .port))
-    (pairsFault rule (p .offset) (suc i) (set seen (p .port) true) ps)
+-- A group's pairs of one kind, from the ith on: the first refusal that one of them meets.
+unfoldable pub checkPairs : (ℕ → ℕ → ℕ → Bool) → ℕ → ℕ → List Bool → List Pair → Reply (Unit {0})
+checkPairs rule low i seen [] = passed
+checkPairs rule low i seen (p ∷ ps) =
+    both (checkPair (rule low i (p .offset)) seen (p .port))
+    (checkPairs rule (p .offset) (suc i) (set seen (p .port) true) ps)
 
 -- the marks after these pairs
 unfoldable pub seeing : List Pair → List Bool → List Bool
@@ -82,21 +88,26 @@ noneSeen = record { loads = noPorts; stores = noPorts }
 abbrev pub seenAfter : GroupPairs → Seen → Seen
 seenAfter g seen = record { loads = seeing (g .loads) (seen .loads); stores = seeing (g .stores) (seen .stores) }
 
--- The first fault of a group: 5 counts, then its loads, then its stores.
-unfoldable pub groupFault : Seen → GroupPairs → ℕ
-groupFault seen g =
-    check (countsRight (length (g .loads)) (length (g .stores))) badCounts
-    (firstFault (pairsFault (loadRule (length (g .stores))) 0 0 (seen .loads) (g .loads))
-    (pairsFault (storeRule (g .loads)) 0 0 (seen .stores) (g .stores)))
+-- A group: 5 counts, then its loads, then its stores.
+unfoldable pub checkGroup : Seen → GroupPairs → Reply (Unit {0})
+checkGroup seen g =
+    need (countsRight (length (g .loads)) (length (g .stores))) badCounts
+    (both (checkPairs (loadRule (length (g .stores))) 0 0 (seen .loads) (g .loads))
+    (checkPairs (storeRule (g .loads)) 0 0 (seen .stores) (g .stores)))
 
--- The first fault of groups, one after the other: "a port stands once in a table".
-unfoldable pub groupsFault : Seen → List GroupPairs → ℕ
-groupsFault seen [] = 0
-groupsFault seen (g ∷ gs) = firstFault (groupFault seen g) (groupsFault (seenAfter g seen) gs)
+-- Groups, one after the other: "a port stands once in a table".
+unfoldable pub checkGroups : Seen → List GroupPairs → Reply (Unit {0})
+checkGroups seen [] = passed
+checkGroups seen (g ∷ gs) = both (checkGroup seen g) (checkGroups (seenAfter g seen) gs)
 
--- The first of 4, 5, 8, 6, 7 that a table meets, or 0: the table is right.
-unfoldable pub tableFault : List GroupPairs → ℕ
-tableFault gs = check (within 1 16 (length gs)) badGroupCount (groupsFault noneSeen gs)
+-- A table: the first of 4, 5, 8, 6, 7 that it meets, or it is right.
+unfoldable pub checkTable : List GroupPairs → Reply (Unit {0})
+checkTable gs = need (within 1 16 (length gs)) badGroupCount (checkGroups noneSeen gs)
+
+-- A call that answers by the number of the check answers 0 just where the table is right: no refusal is 0. The proof is
+-- proofs/Among.antt.
+abbrev pub ZeroMeansRight : Type 0
+ZeroMeansRight = (gs : List GroupPairs) → (number (checkTable gs) ≡ 0) ↔ (checkTable gs ≡ passed)
 
 -- A right table's groups stand within the places of its record, of whatever record with the arrays' lengths; a span of no
 -- access is within them. The proof is proofs/WithinPlaces.antt.
@@ -108,12 +119,12 @@ groupWithin g = spanWithin (g .loads) && spanWithin (g .stores)
 
 abbrev pub GroupsWithinPlaces : Type 0
 GroupsWithinPlaces =
-    (t : Table) → length (t .groups) ≡ 16 → length (t .loads) ≡ 32 → length (t .stores) ≡ 32 → tableFault (groupsOf t) ≡ 0
+    (t : Table) → length (t .groups) ≡ 16 → length (t .loads) ≡ 32 → length (t .stores) ≡ 32 → checkTable (groupsOf t) ≡ passed
     → (i : ℕ) → i < t .count → groupWithin (groupIn (getD (t .groups) i 0)) ≡ true
 
 -- "A load's offset counts the group's stores before it; a store's counts the loads before it": along the program order of each
 -- group of a right table stand just its loads and its stores, at their offsets. The proof is proofs/OrderOffsets.antt.
 abbrev pub OffsetsCountOrder : Type 0
 OffsetsCountOrder =
-    (gs : List GroupPairs) → tableFault gs ≡ 0 → (i : ℕ) (d : GroupPairs) → i < length gs →
+    (gs : List GroupPairs) → checkTable gs ≡ passed → (i : ℕ) (d : GroupPairs) → i < length gs →
     (loadPairs 0 (order (getD gs i d)) ≡ getD gs i d .loads) × (storePairs 0 (order (getD gs i d)) ≡ getD gs i d .stores)

@@ -2,8 +2,9 @@
 ghost use mathlib.Core.Path.{_≡_};
 ghost use lib.Dec.{ltb};
 ghost use Rattle.number.specs.Basics.{countWhere};
+ghost use Rattle.number.specs.Reply.{number};
 ghost use Rattle.table.specs.Group.{listOf, pairsOf, beforeStore, Inside};
-ghost use Rattle.table.specs.Table.{countsRight, pairFault, tableFault, groupsIn, groupsOf};
+ghost use Rattle.table.specs.Table.{countsRight, checkPair, checkTable, groupsIn, groupsOf};
 ghost use Rattle.table.specs.Internal.{ruleOf, Rising, RuleRight, PairsChecked, seenIn, GroupChecked, GroupInside};
 use crate::Group;
 use crate::Span;
@@ -59,7 +60,7 @@ pub(crate) fn offset_right(
 
 // A pair's first fault, or 0. The marks are lent: a copy for each pair would cost more than the test.
 pub(crate) fn pair_fault(right: bool, seen: &[bool; 32], port: u32) -> u8
-    ensures { λ r. ⌜ r ≡ pairFault right (now (seen .entry)) port ⌝ }
+    ensures { λ r. ⌜ r ≡ number (checkPair right (now (seen .entry)) port) ⌝ }
 {
     if !right {
         return BAD_OFFSET;
@@ -152,7 +153,7 @@ pub fn fault_in<'a>(
     loads: &'a [u16; 32],
     stores: &'a [u16; 32],
 ) -> u8
-    ensures { λ r. ⌜ r ≡ tableFault (groupsIn count (now (groups .entry)) (now (loads .entry)) (now (stores .entry))) ⌝ }
+    ensures { λ r. ⌜ r ≡ number (checkTable (groupsIn count (now (groups .entry)) (now (loads .entry)) (now (stores .entry)))) ⌝ }
 {
     let many = count as usize;
     if many < 1 {
@@ -177,7 +178,7 @@ pub fn fault_in<'a>(
 
 // The same of a table's record.
 pub fn table_fault(table: Table) -> u8
-    ensures { λ r. ⌜ r ≡ tableFault (groupsOf table) ⌝ }
+    ensures { λ r. ⌜ r ≡ number (checkTable (groupsOf table)) ⌝ }
 {
     fault_in(table.count, &table.groups, &table.loads, &table.stores)
 }

@@ -7,7 +7,8 @@ ghost use Rattle.table.specs.Internal.{readTwo, twoReply, twoRefusal, ru
 ghost use Rattle.table.specs.Internal.{seenOf, groupMade, GroupResult, putIn, Growing, Grown, GroupsResult};
 ghost use mathlib.Core.List.{[]};
 ghost use Rattle.table.specs.Table.{noneSeen};
-ghost use Rattle.number.specs.Number.{readIn, bad};
+ghost use Rattle.number.specs.Reply.{refuse};
+ghost use Rattle.number.specs.Number.{readIn};
 use crate::Group;
 use crate::Pair;
 use crate::Span;
@@ -372,7 +373,7 @@ fn read_groups(bytes: &[u8], at: usize, count: u32) -> GroupsRead
 
 // A refused table.
 fn refused(answer: u8) -> TableRead
-    ensures { λ r. ⌜ r ≡ tableAnswer (bad answer) ⌝ }
+    ensures { λ r. ⌜ r ≡ tableAnswer (refuse answer) ⌝ }
 {
     TableRead {
         answer,

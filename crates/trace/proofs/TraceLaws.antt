@@ -4,10 +4,10 @@ use mathlib.Core.Path.{_≡_}
 use mathlib.Core.List.{List}
 use lib.ListN.{length, drop, drop-of-length-le}
 use lib.Seq.{drop-cons}
-use Rattle.number.specs.Number.{accepts}
+use Rattle.number.specs.Reply.{accept}
 use Rattle.trace.specs.Event.{atEnd, eventReadIn, eventAt, readEvent}
 
-pub event-at-end : (s : List ℕ) (place : ℕ) → length s ≤ place → eventAt s place ≡ accepts atEnd
+pub event-at-end : (s : List ℕ) (place : ℕ) → length s ≤ place → eventAt s place ≡ accept atEnd
 unfolding eventAt
 event-at-end s place h = rw (drop-of-length-le s h)
 

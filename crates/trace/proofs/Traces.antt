@@ -1,56 +1,23 @@
--- Whole traces are read back; the statements are specs/RoundTrip.antt.
-use Prim.Native.Nat.{ℕ, zero, suc, _+_, _≤_, _<_}
+-- Whole traces: they are read just where their numbers are, one after the other, to the end of the bytes. The statements are
+-- specs/RoundTrip.antt.
+use Prim.Native.Nat.{ℕ, zero, suc, _≤_, _<_}
 use mathlib.Core.Path.{_≡_, refl, sym, ap, _∙_}
-use mathlib.Core.List.{List, [], _∷_, _++_, append-nil, append-assoc}
+use mathlib.Core.List.{List, [], _∷_, append-nil}
 use native.Mathlib.Omega.{arith}
-use lib.ListN.{length, drop, length-append}
-use lib.Seq.{drop-at, drop-append-seam}
+use lib.ListN.{length, length-append}
 use Rattle.trace.specs.declared.Event.{Event}
 use Rattle.trace.specs.declared.Event.the-variants.{Activate, LoadAddress, StoreAddress, StoreData, Serve, Write, Take}
 use Rattle.trace.specs.declared.Header.{Header}
 use Rattle.number.specs.Basics.{flatMap}
-use Rattle.number.specs.Number.{Got, got, bad, thenRead, placeOf, spells, accepts, reading, readIn, before, Spelled}
-use Rattle.number.specs.Number.{spells-none, spells-one, Fit, fit-none, fit-one}
-use Rattle.trace.specs.Event.{eventNumbers, readEvent, eventAt, eventBytes, eventsBytes, headerNumbers, headerBytes, readHeader, yielded}
-use Rattle.trace.specs.Trace.{Trace, eventsUpTo, readEvents, readTrace, traceBytes}
-use Rattle.trace.specs.RoundTrip.{TracesAreSpelled, OnlySpelledTraces, TracesReadBack}
-use Rattle.number.proofs.RoundTrip.{written}
-use Rattle.trace.proofs.RoundTrip.{events-are-spelled, only-spelled-events, headers-are-spelled, only-spelled-headers}
-
--- ---- numbers that are spelled one after the other
-pub record Split (s a b : List ℕ) : Type 0 where
-  pub front : List ℕ
-  pub rest : List ℕ
-  pub whole : s ≡ front ++ rest
-  pub first : Spelled front a
-  pub others : Spelled rest b
-
-spelled-split : {s : List ℕ} (a : List ℕ) {b : List ℕ} → Spelled s (a ++ b) → Split s a b
-spelled-split {s} [] w = record { front = []; rest = s; whole = refl; first = spells-none; others = w }
-spelled-split (n ∷ ns) (spells-one bytes {rest} e w) =
-    let k = spelled-split ns w in
-    record {
-      front = bytes ++ k .front;
-      rest = k .rest;
-      whole = ap (λ (l : List ℕ). bytes ++ l) (k .whole) ∙ sym (append-assoc bytes (k .front) (k .rest));
-      first = spells-one bytes e (k .first);
-      others = k .others;
-    }
-
-spelled-append : {s t a b : List ℕ} → Spelled s a → Spelled t b → Spelled (s ++ t) (a ++ b)
-spelled-append spells-none w = w
-spelled-append {t = t} (spells-one bytes {rest} e k) w = rw (append-assoc bytes rest t) (spells-one bytes e (spelled-append k w))
-
-fit-split : (a : List ℕ) {b : List ℕ} → Fit (a ++ b) → Fit a × Fit b
-fit-split [] w = (fit-none, w)
-fit-split (n ∷ ns) (fit-one h w) = let k = fit-split ns w in (fit-one h (k .0), k .1)
-
--- a number is spelled by a byte at least
-spelled-few : {s ns : List ℕ} → Spelled s ns → length ns ≤ length s
-unfolding spells
-spelled-few spells-none = omega arith
-spelled-few (spells-one [] e w) = let z : _≡_ {A = ℕ} 0 1 = cc in absurd (omega arith)
-spelled-few (spells-one (b ∷ bs) {rest} e w) = omega (arith, spelled-few w, length-append bs rest)
+use Rattle.number.specs.Reply.{Reply, refuse, accept}
+use Rattle.number.specs.Number.{Got, got, thenRead, bytesOf, Fit}
+use Rattle.trace.specs.Event.{eventNumbers, readEvent, eventsBytes, headerNumbers, readHeader}
+use Rattle.trace.specs.Trace.{Trace, withFirst, eventsUpTo, readEvents, readTrace, traceNumbers, traceBytes}
+use Rattle.trace.specs.RoundTrip.{TracesAreWritten, EqualTracesEqualBytes, TracesReadBack}
+use Rattle.number.proofs.ReplyLaws.{refused-accepted, andThen-accepts, thenRead-accepts}
+use Rattle.number.proofs.SpliceLaws.{bytes-append}
+use Rattle.number.proofs.RoundTrip.{Left, Reads, reads-none, reads-append, reads-split, written-reads, reads-written, reads-left}
+use Rattle.trace.proofs.RoundTrip.{reads-event, event-reads, reads-header, header-reads}
 
 numbers-some : (e : Event) → 0 < length (eventNumbers e)
 numbers-some (Activate g) = omega arith
@@ -61,28 +28,14 @@ numbers-some (Serve s) = omega arith
 numbers-some (Write s) = omega arith
 numbers-some (Take p) = omega arith
 
-event-some : (e : Event) {bytes : List ℕ} → Spelled bytes (eventNumbers e) → 0 < length bytes
-event-some e w = omega (arith, numbers-some e, spelled-few w)
-
 -- an event that is read takes a byte at least, and what is left is the last part of the bytes
-pub record Shorter (s rest : List ℕ) : Type 0 where
-  pub front : ℕ
-  pub some : 0 < front
-  pub whole : length s ≡ front + length rest
-  pub is : drop front s ≡ rest
-
-pub event-shorter : (s rest : List ℕ) (e : Event) → readEvent s ≡ got e rest → Shorter s rest
-event-shorter s rest e h =
-    let (bytes, is, spelled) = only-spelled-events s rest e h in
-    record {
-      front = length bytes;
-      some = event-some e spelled;
-      whole = ap length is ∙ length-append bytes rest;
-      is = ap (drop (length bytes)) is ∙ drop-at bytes rest (length bytes) refl;
-    }
+pub event-left : (s : List ℕ) {rest : List ℕ} {e : Event} → readEvent s ≡ accept (got e rest) → Left s rest 1
+event-left s {e = e} h =
+    let w = reads-left (event-reads s h) in
+    record { front = w .front; many = omega (arith, w .many, numbers-some e); whole = w .whole; is = w .is }
 
 -- ---- reading events to the end: at the end there is none, however many there might be
-pub events-end : (most : ℕ) → eventsUpTo most [] ≡ got [] []
+pub events-end : (most : ℕ) → eventsUpTo most [] ≡ accept []
 unfolding eventsUpTo
 events-end zero = refl
 events-end (suc most) = refl
@@ -91,149 +44,129 @@ events-end (suc most) = refl
 abbrev Enough : ℕ → Type 0
 Enough m = (n : ℕ) (s : List ℕ) → length s ≤ m → length s ≤ n → eventsUpTo m s ≡ eventsUpTo n s
 
-enough-step : (m n : ℕ) (s : List ℕ) → Enough m → length s ≤ suc m → length s ≤ n → eventsUpTo (suc m) s ≡ eventsUpTo n s
-unfolding eventsUpTo
-enough-step m n [] ih h k = sym (events-end n)
-enough-step m zero (b ∷ s) ih h k = absurd (omega arith)
-enough-step m (suc n) (b ∷ s) ih h k = go (readEvent (b ∷ s)) refl
-  where
-    upTo : ℕ → Event → List ℕ → Got (List Event)
-    upTo most e rest = before e (eventsUpTo most rest)
-
-    go : (g : Got Event) → readEvent (b ∷ s) ≡ g → thenRead g (upTo m) ≡ thenRead g (upTo n)
-    go (bad k) d = refl
-    go (got e rest) d =
-        let w = event-shorter (b ∷ s) rest e d in
-        ap (before e) (ih n rest (omega (arith, w .some, w .whole)) (omega (arith, w .some, w .whole)))
-
-none-left : (n : ℕ) (s : List ℕ) → length s ≤ 0 → eventsUpTo 0 s ≡ eventsUpTo n s
-none-left n [] h = events-end 0 ∙ sym (events-end n)
-none-left n (b ∷ s) h = absurd (omega arith)
-
 events-enough : (m : ℕ) → Enough m
-events-enough zero n s h k = none-left n s h
-events-enough (suc m) n s h k = enough-step m n s (events-enough m) h k
+unfolding eventsUpTo
+events-enough zero n [] h k = sym (events-end n)
+events-enough zero n (b ∷ s) h k = absurd (omega arith)
+events-enough (suc m) n [] h k = sym (events-end n)
+events-enough (suc m) zero (b ∷ s) h k = absurd (omega arith)
+events-enough (suc m) (suc n) (b ∷ s) h k = go (readEvent (b ∷ s)) refl (events-enough m)
+  where
+    upTo : ℕ → Event → List ℕ → Reply (List Event)
+    upTo most e rest = withFirst e (eventsUpTo most rest)
+
+    go : (r : Reply (Got Event)) → readEvent (b ∷ s) ≡ r → Enough m → thenRead r (upTo m) ≡ thenRead r (upTo n)
+    go (refuse k) d ih = refl
+    go (accept (got e rest)) d ih =
+        let w = event-left (b ∷ s) d in
+        ap (withFirst e) (ih n rest (omega (arith, w .many, w .whole)) (omega (arith, w .many, w .whole)))
 
 -- one event more
-pub events-more : (s rest : List ℕ) (e : Event) → readEvent s ≡ got e rest → readEvents s ≡ before e (readEvents rest)
+pub events-more : (s : List ℕ) {rest : List ℕ} {e : Event} → readEvent s ≡ accept (got e rest) → readEvents s ≡ withFirst e (readEvents rest)
 unfolding eventsUpTo
-events-more [] rest e h = absurd (omega (arith, event-shorter [] rest e h .some, event-shorter [] rest e h .whole))
-events-more (b ∷ s) rest e h =
-    let w = event-shorter (b ∷ s) rest e h in
-    rw h (ap (before e) (events-enough (length s) (length rest) rest (omega (arith, w .some, w .whole)) (omega arith)))
+events-more [] h = absurd (omega (arith, event-left [] h .many, event-left [] h .whole))
+events-more (b ∷ s) {rest} {e} h =
+    let w = event-left (b ∷ s) h in
+    rw h (ap (withFirst e) (events-enough (length s) (length rest) rest (omega (arith, w .many, w .whole)) (omega arith)))
 
-pub events-bad : (b : ℕ) (s : List ℕ) (k : ℕ) → readEvent (b ∷ s) ≡ bad k → readEvents (b ∷ s) ≡ bad k
+pub events-refused : (b : ℕ) (s : List ℕ) {k : ℕ} → readEvent (b ∷ s) ≡ refuse k → readEvents (b ∷ s) ≡ refuse k
 unfolding eventsUpTo
-events-bad b s k h = rw h
+events-refused b s h = rw h
 
--- ---- events that are spelled are read
-spelled-events-read : (es : List Event) {s : List ℕ} → Spelled s (flatMap eventNumbers es) → readEvents s ≡ got es []
-spelled-events-read [] spells-none = events-end 0
-spelled-events-read (e ∷ es) {s} w =
-    let k = spelled-split (eventNumbers e) w in
-    rw (k .whole) (more (k .front) (k .rest) (events-are-spelled e (k .front) (k .rest) (k .first)) (spelled-events-read es (k .others)))
+-- ---- events are read just where their numbers are
+reads-events : (es : List Event) {s : List ℕ} → Reads s (flatMap eventNumbers es) [] → readEvents s ≡ accept es
+reads-events [] reads-none = events-end 0
+reads-events (e ∷ es) {s} w =
+    let (rest, a, b) = reads-split (eventNumbers e) w in
+    events-more s (reads-event e a) ∙ ap (withFirst e) (reads-events es b)
+
+abbrev ReadUpTo : ℕ → Type 0
+ReadUpTo most = (s : List ℕ) (es : List Event) → eventsUpTo most s ≡ accept es → Reads s (flatMap eventNumbers es) []
+
+none-read : (es : List Event) → accept [] ≡ accept es → Reads [] (flatMap eventNumbers es) []
+none-read [] h = reads-none
+none-read (e ∷ es) h = let z : _≡_ {A = ℕ} 0 1 = cc in absurd (omega arith)
+
+events-read : (most : ℕ) → ReadUpTo most
+unfolding eventsUpTo
+events-read zero [] es h = none-read es h
+events-read zero (b ∷ s) es h = refused-accepted h
+events-read (suc most) [] es h = none-read es h
+events-read (suc most) (b ∷ s) es h = go (events-read most) (thenRead-accepts (readEvent (b ∷ s)) (λ e rest. withFirst e (eventsUpTo most rest)) h)
   where
-    more : (front rest : List ℕ) → readEvent (front ++ rest) ≡ got e rest → readEvents rest ≡ got es [] → readEvents (front ++ rest) ≡ got (e ∷ es) []
-    more front rest a b = events-more (front ++ rest) rest e a ∙ ap (before e) b
+    more : {l : List Event} → l ≡ es → Reads (b ∷ s) (flatMap eventNumbers l) [] → Reads (b ∷ s) (flatMap eventNumbers es) []
+    more d w = rw d at w
 
--- and events that were read were spelled, to the end of the bytes
-pub record EventsPut (s : List ℕ) (es : List Event) (rest : List ℕ) : Type 0 where
-  pub left : rest ≡ []
-  pub spelled : Spelled s (flatMap eventNumbers es)
-
-put-none : (most : ℕ) {es : List Event} {rest : List ℕ} → eventsUpTo most [] ≡ got es rest → EventsPut [] es rest
-put-none most {es} {rest} h =
-    let d : got [] [] ≡ got es rest = sym (events-end most) ∙ h in
-    let x : [] ≡ es = cc in
-    record { left = cc; spelled = rw (← x) spells-none }
-
-abbrev PutUpTo : ℕ → Type 0
-PutUpTo most = (s : List ℕ) (es : List Event) (rest : List ℕ) → eventsUpTo most s ≡ got es rest → EventsPut s es rest
-
-put-events : (most : ℕ) → PutUpTo most
-unfolding eventsUpTo
-put-events zero [] es rest h = put-none 0 h
-put-events zero (b ∷ s) es rest h = let z : _≡_ {A = ℕ} 0 1 = cc in absurd (omega arith)
-put-events (suc most) [] es rest h = put-none (suc most) h
-put-events (suc most) (b ∷ s) es rest h = go (readEvent (b ∷ s)) refl (put-events most) h
-  where
-    more : (e : Event) (t : List ℕ) → readEvent (b ∷ s) ≡ got e t → (g : Got (List Event)) →
-        ((fs : List Event) (r : List ℕ) → g ≡ got fs r → EventsPut t fs r) → before e g ≡ got es rest → EventsPut (b ∷ s) es rest
-    more e t d (bad k) ih f = let z : _≡_ {A = ℕ} 0 1 = cc in absurd (omega arith)
-    more e t d (got fs r) ih f =
-        let (bytes, is, spelled) = only-spelled-events (b ∷ s) t e d in
-        let w = ih fs r refl in
-        let x : e ∷ fs ≡ es = cc in
-        let y : r ≡ rest = cc in
-        record { left = sym y ∙ w .left; spelled = rw (← x, is) (spelled-append spelled (w .spelled)) }
-
-    go : (g : Got Event) → readEvent (b ∷ s) ≡ g → PutUpTo most →
-        thenRead g (λ e t. before e (eventsUpTo most t)) ≡ got es rest → EventsPut (b ∷ s) es rest
-    go (bad k) d ih f = let z : _≡_ {A = ℕ} 0 1 = cc in absurd (omega arith)
-    go (got e t) d ih f = more e t d (eventsUpTo most t) (ih t) f
-
-pub read-events-spelled : (s rest : List ℕ) (es : List Event) → readEvents s ≡ got es rest → EventsPut s es rest
-read-events-spelled s rest es h = put-events (length s) s es rest h
+    go : ReadUpTo most
+        → (e : Event) × (rest : List ℕ) × (readEvent (b ∷ s) ≡ accept (got e rest)) × (withFirst e (eventsUpTo most rest) ≡ accept es)
+        → Reads (b ∷ s) (flatMap eventNumbers es) []
+    go ih (e, rest, a, h₁) =
+        let (fs, c, h₂) = andThen-accepts (eventsUpTo most rest) (λ l. accept (e ∷ l)) h₁ in
+        let d : e ∷ fs ≡ es = cc in
+        more d (reads-append (event-reads (b ∷ s) a) (ih rest fs c))
 
 -- there are no more events than bytes
-pub events-few : (s : List ℕ) {es : List Event} {rest : List ℕ} → readEvents s ≡ got es rest → length es ≤ length s
-events-few s {es} {rest} h = omega (arith, spelled-few (read-events-spelled s rest es h .spelled), go es)
+pub events-few : (s : List ℕ) {es : List Event} → readEvents s ≡ accept es → length es ≤ length s
+events-few s {es} h = let w = reads-left (events-read (length s) s es h) in omega (arith, w .many, w .whole, go es)
   where
     go : (l : List Event) → length l ≤ length (flatMap eventNumbers l)
     go [] = omega arith
     go (e ∷ l) = omega (arith, length-append (eventNumbers e) (flatMap eventNumbers l), numbers-some e, go l)
 
 -- ---- traces
--- what a trace that was read is: its leading numbers, and the events of the rest
-pub record TraceParts (s : List ℕ) (t : Trace) : Type 0 where
-  pub rest : List ℕ
-  pub header : readHeader s ≡ got (t .header) rest
-  pub events : readEvents rest ≡ got (t .events) []
-
 abbrev pub traceOf : Header → List Event → Trace
 traceOf h es = record { header = h; events = es }
 
-pub trace-of-parts : (s rest : List ℕ) (h : Header) (es : List Event) → readHeader s ≡ got h rest → readEvents rest ≡ got es [] →
-    readTrace s ≡ got (traceOf h es) []
+-- what a trace that was read is: its leading numbers, and the events of the rest
+pub record TraceParts (s : List ℕ) (t : Trace) : Type 0 where
+  pub rest : List ℕ
+  pub header : readHeader s ≡ accept (got (t .header) rest)
+  pub events : readEvents rest ≡ accept (t .events)
+
+pub trace-of-parts : (s rest : List ℕ) (h : Header) (es : List Event) → readHeader s ≡ accept (got h rest) → readEvents rest ≡ accept es
+    → readTrace s ≡ accept (traceOf h es)
 unfolding readTrace
 trace-of-parts s rest h es a b = rw (a, b)
 
-pub trace-parts : (s left : List ℕ) (t : Trace) → readTrace s ≡ got t left → TraceParts s t × (left ≡ [])
+pub trace-parts : (s : List ℕ) (t : Trace) → readTrace s ≡ accept t → TraceParts s t
 unfolding readTrace
-trace-parts s left t e = go (readHeader s) refl e
+trace-parts s t e₀ =
+    let (h, rest, a, e₁) = thenRead-accepts (readHeader s) _ e₀ in
+    let (es, b, e₂) = andThen-accepts (readEvents rest) (λ l. accept (traceOf h l)) e₁ in
+    let x : traceOf h es ≡ t = cc in
+    made x (record { rest = rest; header = a; events = b })
   where
-    more : (h : Header) (rest : List ℕ) → readHeader s ≡ got h rest → (g : Got (List Event)) → readEvents rest ≡ g →
-        (thenRead g λ es l. got (traceOf h es) l) ≡ got t left → TraceParts s t × (left ≡ [])
-    more h rest d (bad k) f q = let z : _≡_ {A = ℕ} 0 1 = cc in absurd (omega arith)
-    more h rest d (got es l) f q =
-        let n : l ≡ [] = read-events-spelled rest l es f .left in
-        let x : traceOf h es ≡ t = cc in
-        let y : l ≡ left = cc in
-        (rw (← x) (record { rest = rest; header = d; events = f ∙ ap (got es) n }), sym y ∙ n)
+    made : {u : Trace} → u ≡ t → TraceParts s u → TraceParts s t
+    made x w = rw x at w
 
-    go : (g : Got Header) → readHeader s ≡ g →
-        (thenRead g λ h rest. thenRead (readEvents rest) λ es l. got (traceOf h es) l) ≡ got t left → TraceParts s t × (left ≡ [])
-    go (bad k) d f = let z : _≡_ {A = ℕ} 0 1 = cc in absurd (omega arith)
-    go (got h rest) d f = more h rest d (readEvents rest) refl f
+reads-trace : {s : List ℕ} (t : Trace) → Reads s (traceNumbers t) [] → readTrace s ≡ accept t
+reads-trace {s} t w =
+    let (rest, a, b) = reads-split (headerNumbers (t .header)) w in
+    trace-of-parts s rest (t .header) (t .events) (reads-header (t .header) a) (reads-events (t .events) b)
 
-pub traces-are-spelled : TracesAreSpelled
-traces-are-spelled t bytes w =
-    let k = spelled-split (headerNumbers (t .header)) w in
-    let h = headers-are-spelled (t .header) (k .front) (k .rest) (k .first) in
-    rw (k .whole) (trace-of-parts (k .front ++ k .rest) (k .rest) (t .header) (t .events) h (spelled-events-read (t .events) (k .others)))
+trace-reads : (s : List ℕ) (t : Trace) → readTrace s ≡ accept t → Reads s (traceNumbers t) []
+trace-reads s t e =
+    let w = trace-parts s t e in
+    reads-append (header-reads s (w .header)) (events-read (length (w .rest)) (w .rest) (t .events) (w .events))
 
-pub only-spelled-traces : OnlySpelledTraces
-only-spelled-traces s rest t e =
-    let (w, n) = trace-parts s rest t e in
-    let (bytes, is, spelled) = only-spelled-headers s (w .rest) (t .header) (w .header) in
-    (n, rw is (spelled-append spelled (read-events-spelled (w .rest) [] (t .events) (w .events) .spelled)))
+-- what is written of a trace is the bytes of its numbers
+events-bytes : (es : List Event) → eventsBytes es ≡ bytesOf (flatMap eventNumbers es)
+events-bytes [] = refl
+events-bytes (e ∷ es) = rw (events-bytes es) (sym (bytes-append (eventNumbers e) (flatMap eventNumbers es)))
 
--- ---- the writer spells
-events-written : (es : List Event) → Fit (flatMap eventNumbers es) → Spelled (eventsBytes es) (flatMap eventNumbers es)
-events-written [] f = spells-none
-events-written (e ∷ es) f = let k = fit-split (eventNumbers e) f in spelled-append (written (k .0)) (events-written es (k .1))
+trace-bytes : (t : Trace) → traceBytes t ≡ bytesOf (traceNumbers t)
+trace-bytes t = rw (events-bytes (t .events)) (sym (bytes-append (headerNumbers (t .header)) (flatMap eventNumbers (t .events))))
 
 pub traces-read-back : TracesReadBack
-traces-read-back t f =
-    let k = fit-split (headerNumbers (t .header)) f in
-    traces-are-spelled t (traceBytes t) (spelled-append (written (k .0)) (events-written (t .events) (k .1)))
+traces-read-back t f = reads-trace t (rw (trace-bytes t, ← append-nil (bytesOf (traceNumbers t))) (written-reads [] f))
+
+pub traces-are-written : TracesAreWritten
+traces-are-written s t a = (there, λ w. ap readTrace (w .1) ∙ traces-read-back t (w .0))
+  where
+    there : readTrace s ≡ accept t → Fit (traceNumbers t) × (s ≡ traceBytes t)
+    there e =
+        let (fit, whole) = reads-written a (trace-reads s t e) in
+        (fit, whole ∙ append-nil (bytesOf (traceNumbers t)) ∙ sym (trace-bytes t))
+
+pub equal-traces-equal-bytes : EqualTracesEqualBytes
+equal-traces-equal-bytes s₁ s₂ t a b e f = traces-are-written s₁ t a .0 e .1 ∙ sym (traces-are-written s₂ t b .0 f .1)

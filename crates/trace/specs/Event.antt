@@ -16,8 +16,8 @@ use Rattle.trace.specs.declared.EventRead.the-variants.{Found, End, NoEv
 use Rattle.trace.specs.declared.Stepped.{Stepped}
 use Rattle.number.specs.Basics.{pick, flatMap, within}
 use Rattle.number.specs.Refusal.{badKind}
-use Rattle.number.specs.Number.{Got, got, bad, thenRead, require, readNumber, placeOf, Reply, accepts, refuses, Reading, reading, bytesOf, Wrote, wrote}
-use Rattle.number.specs.Number.{unwritten}
+use Rattle.number.specs.Reply.{Reply, refuse, accept, need, passed}
+use Rattle.number.specs.Number.{Got, got, thenRead, readNumber, placeOf, Reading, reading, bytesOf, Wrote, wroteIf}
 use Rattle.trace.specs.declared.reading.Reader.{Reader}
 
 -- "0 activate (group), 1 load address (port, address), 2 store address (port, address), 3 store data (port, word), 4 serve
@@ -46,17 +46,18 @@ eventOf kind x y =
     (pick (eqb kind 5) (Write x)
     (Take x))))))
 
--- what follows an event's kind: "35 kind above 6, 1 or 2 for the rest"
-abbrev pub readKind : ℕ → List ℕ → Got Event
+-- what follows an event's kind: "35 kind above 6, 1 or 2 for the rest", and 42 for it by S-4
+abbrev pub readKind : ℕ → List ℕ → Reply (Got Event)
 readKind kind s =
-    require (leb kind 6) badKind
+    need (leb kind 6) badKind
     (thenRead (readNumber s) λ x s₁.
     pick (hasSecond kind)
-    (thenRead (readNumber s₁) λ y s₂. got (eventOf kind x y) s₂)
-    (got (eventOf kind x 0) s₁))
+    (thenRead (readNumber s₁) λ y s₂. accept (got (eventOf kind x y) s₂))
+    (accept (got (eventOf kind x 0) s₁)))
 
--- "Reading an event: 1 or 2 for the kind, 35 kind above 6, 1 or 2 for the rest."
-unfoldable pub readEvent : List ℕ → Got Event
+-- "Reading an event: 1 or 2 for the kind, 35 kind above 6, 1 or 2 for the rest." S-4: and 42, after 1 and 2 of each number; a padded
+-- kind above 6 gets 42.
+unfoldable pub readEvent : List ℕ → Reply (Got Event)
 readEvent s = thenRead (readNumber s) readKind
 
 -- what a reader yields: an event and the place after it, or the end
@@ -66,18 +67,17 @@ pub data Yield : Type 0 where
 
 -- the number and the values of each case of `EventRead`; the paper gives "end" no number, and here it is accepted
 abbrev pub eventReply : EventRead → Reply Yield
-eventReply (Found e next) = accepts (yielded e next)
-eventReply End = accepts atEnd
-eventReply (NoEvent k) = refuses k
+eventReply (Found e next) = accept (yielded e next)
+eventReply End = accept atEnd
+eventReply (NoEvent k) = refuse k
 
 -- the reply of a call that reads an event in s
-abbrev pub eventReadIn : List ℕ → Got Event → Reply Yield
-eventReadIn s (got e rest) = accepts (yielded e (placeOf s rest))
-eventReadIn s (bad k) = refuses k
+abbrev pub eventReadIn : List ℕ → Reply (Got Event) → Reply Yield
+eventReadIn s r = thenRead r λ e rest. accept (yielded e (placeOf s rest))
 
 -- the same at a part of s: "at the end of the bytes it answers "end""
 abbrev pub eventIn : List ℕ → List ℕ → Reply Yield
-eventIn s [] = accepts atEnd
+eventIn s [] = accept atEnd
 eventIn s (b ∷ rest) = eventReadIn s (readEvent (b ∷ rest))
 
 -- at a place of s: "a place past the end counts as the end"
@@ -86,9 +86,9 @@ eventAt s place = eventIn s (drop place s)
 
 -- where a reader stands after it has read: past the event, or where it was
 abbrev pub placeAfter : ℕ → Reply Yield → ℕ
-placeAfter place (accepts (yielded e next)) = next
-placeAfter place (accepts atEnd) = place
-placeAfter place (refuses k) = place
+placeAfter place (accept (yielded e next)) = next
+placeAfter place (accept atEnd) = place
+placeAfter place (refuse k) = place
 
 -- one step of a reader at a place of s: what it yields, and where it stands then
 pub record Steps (s : List ℕ) (place : ℕ) (r : Stepped) : Type 0 where
@@ -105,7 +105,7 @@ eventBytes e = bytesOf (eventNumbers e)
 
 -- writing an event by its kind and its numbers: 35 kind above 6, then 10; a kind with one number leaves the second alone
 abbrev pub wroteEventOf : ℕ → ℕ → ℕ → List ℕ → Wrote
-wroteEventOf kind x y buffer = pick (leb kind 6) (wrote (eventBytes (eventOf kind x y)) buffer) (unwritten badKind buffer)
+wroteEventOf kind x y = wroteIf (need (leb kind 6) badKind passed) (eventBytes (eventOf kind x y))
 
 abbrev pub eventsBytes : List Event → List ℕ
 eventsBytes = flatMap eventBytes
@@ -117,15 +117,15 @@ headerNumbers h = h .«load_depth» ∷ h .«store_depth» ∷ h .first ∷ h .�
 abbrev pub headerBytes : Header → List ℕ
 headerBytes h = bytesOf (headerNumbers h)
 
-unfoldable pub readHeader : List ℕ → Got Header
+unfoldable pub readHeader : List ℕ → Reply (Got Header)
 readHeader s =
     thenRead (readNumber s) λ loads s₁.
     thenRead (readNumber s₁) λ stores s₂.
     thenRead (readNumber s₂) λ serial s₃.
     thenRead (readNumber s₃) λ words s₄.
-    got (record { «load_depth» = loads; «store_depth» = stores; first = serial; «memory_length» = words }) s₄
+    accept (got (record { «load_depth» = loads; «store_depth» = stores; first = serial; «memory_length» = words }) s₄)
 
 -- the number and the values of each case of `HeaderRead`
 abbrev pub headerReply : HeaderRead → Reply (Reading Header)
-headerReply (Leading h next) = accepts (reading h next)
-headerReply (NoHeader k) = refuses k
+headerReply (Leading h next) = accept (reading h next)
+headerReply (NoHeader k) = refuse k

@@ -2,4 +2,5 @@
 pub mod Event
 pub mod Trace
 pub mod RoundTrip
+pub mod NumbersFirst
 pub mod Internal

@@ -1,11 +1,11 @@
 -- Each test on the way is a step of the rule; the counts that a replay hands back are stored, and a refused one hands back those it was lent.
 use Prim.Native.Nat.{ℕ}
 use mathlib.Core.Path.{_≡_}
-use mathlib.Core.List.{List, []}
-use Rattle.number.specs.Number.{got}
+use mathlib.Core.List.{List}
+use Rattle.number.specs.Reply.{accept}
 use Rattle.table.specs.Table.{groupsOf}
 use Rattle.table.specs.TableBytes.{readTable}
-use Rattle.replay.proofs.TableLaws.{table-refused, table-got}
+use Rattle.table.proofs.RoundTrip.{table-refused, table-given}
 use Rattle.exports.specs.Replay.{Lent, lent}
 use Rattle.exports.proofs.ReplayLaws.{lent-table, lent-short, answered-refused, answered-lent}
 use borrow.Author.Needs.{needs}
@@ -24,8 +24,8 @@ lentAt t =
     let a = t .before .before .before .before .before .before .before .before .args in
     lent (a .memory .now) (a .counts .now) (a .answers .now) (a .given .now) (a .values .now)
 
-table-right : (e : tie.Else1) → readTable (bytesAt (e .before .before)) ≡ got (groupsOf (e .before .before .read-table .result .table)) []
-table-right e = table-got (bytesAt (e .before .before)) (e .before .before .read-table .result) (e .before .before .read-table .ensures) (e .if1 .left) .is
+table-right : (e : tie.Else1) → readTable (bytesAt (e .before .before)) ≡ accept (groupsOf (e .before .before .read-table .result .table))
+table-right e = table-given (bytesAt (e .before .before)) (e .before .before .read-table .result) (e .before .before .read-table .ensures) (e .if1 .left)
 
 returns : tie.Need-returns
 returns c =

@@ -1,5 +1,5 @@
 -- The table is refused, or read; then the trace is made ready on the groups that were read.
-use Rattle.replay.proofs.TableLaws.{table-refused, table-got}
+use Rattle.table.proofs.RoundTrip.{table-refused, table-given}
 use Rattle.exports.proofs.PreparedLaws.{tells-table, tells-trace}
 use borrow.Author.Needs.{needs}
 use Rattle.exports.proofs.make_ready.Statement.{statement}
@@ -18,7 +18,7 @@ returns-2 c =
     let t = e .before .before in
     let a = t .before .before .before .args in
     tells-trace (a .table .now) (a .trace .now) (c .prepare .result)
-    (table-got (a .table .now) (t .read-table .result) (t .read-table .ensures) (e .if1 .left) .is) (c .prepare .ensures)
+    (table-given (a .table .now) (t .read-table .result) (t .read-table .ensures) (e .if1 .left)) (c .prepare .ensures)
 
 pub make-ready-spec : {M : Type 1} → statement M
 make-ready-spec =

@@ -13,13 +13,13 @@ use Rattle.table.specs.Group.{portOf, GroupPairs, Access, load, store, order}
 use Rattle.table.proofs.Order.{loadPorts, storePorts, order-loads, order-stores}
 use Rattle.queue.specs.declared.arguments.Argument.{Argument}
 use Rattle.queue.specs.declared.arguments.Argument.the-variants.{LoadAddress, StoreAddress, StoreData}
-use Rattle.queue.specs.Ruled.{accept}
+use Rattle.number.specs.Reply.{accept}
 use Rattle.queue.specs.Contents.{Contents}
 use Rattle.queue.specs.Sound.{sound}
 use Rattle.queue.specs.Activate.{newLoads, newStores, room, withGroup, activate}
 use Rattle.number.proofs.Both.{and-left, and-right}
 use Rattle.queue.proofs.Lists.{all-join, count-append}
-use Rattle.queue.proofs.Refusals.{need-accepts, have-accepts}
+use Rattle.number.proofs.ReplyLaws.{need-accepts, have-accepts}
 use Rattle.sequential.specs.Calls.{Activate}
 use Rattle.sequential.specs.Answers.{Machine, Answered}
 use Rattle.sequential.specs.Plain.{rowsOf}
@@ -39,7 +39,8 @@ new-loads out n (store p ∷ new) = new-loads out (suc n) new ∙ ap (λ (k : �
 
 new-stores : (out n : ℕ) (new : List Access) → newStores n new ≡ map (remembering stores out) (side stores (out + n) (map fresh new))
 new-stores out n [] = refl
-new-stores out n (load p ∷ new) = new-stores out (suc n) new ∙ ap (λ (k : ℕ). map (remembering stores out) (side stores k (map fresh new))) (add-suc out n)
+new-stores out n (load p ∷ new) =
+    new-stores out (suc n) new ∙ ap (λ (k : ℕ). map (remembering stores out) (side stores k (map fresh new))) (add-suc out n)
 new-stores out n (store p ∷ new) = rw (add-sub-cancel-left out n, new-stores out n new)
 
 length-newLoads : (n : ℕ) (new : List Access) → length (newLoads n new) ≡ length (loadPorts new)
@@ -178,4 +179,5 @@ activate-keeps groups memory answered m st group q′ h₀ =
     q = m .queue
 
     Goal : Contents → Type 0
-    Goal q₁ = Invariant groups memory (answered ++ record { call = Activate group; number = 0; value = none } ∷ []) (record { queue = q₁; memory = m .memory })
+    Goal q₁ =
+        Invariant groups memory (answered ++ record { call = Activate group; number = 0; value = none } ∷ []) (record { queue = q₁; memory = m .memory })

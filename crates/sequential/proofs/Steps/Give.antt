@@ -13,7 +13,8 @@ use Rattle.number.specs.Basics.{pick, anyOf, allOf, countWhere}
 use Rattle.table.specs.Group.{GroupPairs}
 use Rattle.queue.specs.declared.arguments.Argument.{Argument}
 use Rattle.queue.specs.declared.arguments.Argument.the-variants.{LoadAddress, StoreAddress, StoreData}
-use Rattle.queue.specs.Ruled.{accept, isSome}
+use Rattle.number.specs.Basics.{isSome}
+use Rattle.number.specs.Reply.{accept}
 use Rattle.queue.specs.Contents.{Load, Store, Contents, withLoads, withStores, updateAt, firstPlace}
 use Rattle.queue.specs.Arguments.{inRange, waits, loadLacksAddress, loadWithAddress, storeWithAddress, storeWithWord, argumentGiven, give}
 use Rattle.number.proofs.Both.{and-left, and-right}
@@ -134,7 +135,8 @@ module _ {A B : Type 0} (K : LogKind A) (K′ : LogKind B) (opposite : Opposite 
 right-load-filled : (words x : ℕ) (l : Load) → ltb x words ≡ true → rightLoad words l ≡ true → rightLoad words (loadWithAddress x l) ≡ true
 right-load-filled words x l low h = and-both (taken-served words l h) (and-both (or-right (not (isSome (l .value))) true refl) low)
 
-right-store-addressed : (words x : ℕ) (s : Store) → ltb x words ≡ true → rightStore words s ≡ true → rightStore words (storeWithAddress x s) ≡ true
+right-store-addressed : (words x : ℕ) (s : Store) → ltb x words ≡ true → rightStore words s ≡ true
+    → rightStore words (storeWithAddress x s) ≡ true
 right-store-addressed words x s low h = and-both (go (s .written) (isSome (s .address)) (isSome (s .word)) (written-full words s h)) low
   where
     go : (w a d : Bool) → implies w (a && d) ≡ true → implies w (true && d) ≡ true
@@ -167,7 +169,8 @@ module _ (groups : List GroupPairs) (memory : List ℕ) (answered : List Answere
     (table : q .groups ≡ groups) (h : Holds q m memory log) (seen : LogSeen groups answered log) (p x : ℕ) where
   -- the state with this argument joined
   Joined : Argument → Contents → Type 0
-  Joined kind q′ = Invariant groups memory (answered ++ record { call = Give kind p x; number = 0; value = none } ∷ []) (record { queue = q′; memory = m })
+  Joined kind q′ =
+      Invariant groups memory (answered ++ record { call = Give kind p x; number = 0; value = none } ∷ []) (record { queue = q′; memory = m })
 
   load-given : ltb x (q .memoryLength) ≡ true → Waiting loads stores loadAddresses log (q .loads) (q .stores) p
       → Joined LoadAddress (withLoads q (updateAt (loadWithAddress x) (firstPlace (loadLacksAddress p) (q .loads)) (q .loads)))

@@ -9,7 +9,8 @@ use borrow.Author.Tests.{ltb-true}
 use Rattle.number.specs.Basics.{allOf}
 use Rattle.table.specs.Group.{GroupPairs}
 use Rattle.counts.specs.declared.Counts.{Counts}
-use Rattle.queue.specs.Ruled.{accept, isSome}
+use Rattle.number.specs.Basics.{isSome}
+use Rattle.number.specs.Reply.{accept}
 use Rattle.queue.specs.Contents.{Load, Store, Contents, loadPlace}
 use Rattle.queue.specs.Sound.{addressRight}
 use Rattle.queue.specs.Serve.{Served, fromMemory, hasAddress, source, loadWithValue, serve}

@@ -13,7 +13,8 @@ use Rattle.table.specs.Group.{GroupPairs}
 use Rattle.queue.specs.declared.Kind.the-variants.{Load as load}
 use Rattle.queue.specs.declared.arguments.Argument.{Argument}
 use Rattle.queue.specs.declared.arguments.Argument.the-variants.{LoadAddress, StoreAddress, StoreData}
-use Rattle.queue.specs.Ruled.{accept, isSome}
+use Rattle.number.specs.Basics.{isSome}
+use Rattle.number.specs.Reply.{accept}
 use Rattle.queue.specs.Contents.{Load, Contents, withLoads, updateAt, firstPlace}
 use Rattle.queue.specs.Sound.{sound}
 use Rattle.queue.specs.Arguments.{namesPort}
@@ -21,7 +22,7 @@ use Rattle.queue.specs.Retire.{retire}
 use Rattle.queue.specs.Take.{Taken, untaken, loadTaken, takeRule}
 use Rattle.number.proofs.Both.{and-left, and-right}
 use Rattle.queue.proofs.Lists.{false-true, and-both, implies, all-left, all-middle, all-weaken₂, first-passes, first-before}
-use Rattle.queue.proofs.Refusals.{need-accepts, have-accepts}
+use Rattle.number.proofs.ReplyLaws.{need-accepts, have-accepts}
 use Rattle.sequential.specs.Calls.{Take}
 use Rattle.sequential.specs.Answers.{Machine, Answered}
 use Rattle.sequential.specs.Plain.{rowsOf}
@@ -58,7 +59,8 @@ take-cell : (l : Load) (port v : ℕ) → eqb (l .port) port ≡ true → l .val
 take-cell l port v e f = rw (e, f)
 
 -- a load that is taken, or of another port, does not wait to be taken
-waits-not : (words port : ℕ) (l : Load) → not (untaken port l) ≡ true → rightLoad words l ≡ true → not (lacking (valueTaken port (ofLoad l))) ≡ true
+waits-not : (words port : ℕ) (l : Load) → not (untaken port l) ≡ true → rightLoad words l ≡ true
+    → not (lacking (valueTaken port (ofLoad l))) ≡ true
 waits-not words port l t r = go (eqb (l .port) port) (l .taken) (l .value) t (taken-served words l r)
   where
     go : (same taken : Bool) (value : Option ℕ) → not (same && not taken) ≡ true → implies taken (isSome value) ≡ true

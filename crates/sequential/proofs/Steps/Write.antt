@@ -10,7 +10,8 @@ use Rattle.number.specs.Basics.{allOf}
 use Rattle.table.specs.Group.{GroupPairs}
 use Rattle.queue.specs.declared.arguments.Argument.{Argument}
 use Rattle.queue.specs.declared.arguments.Argument.the-variants.{LoadAddress, StoreAddress, StoreData}
-use Rattle.queue.specs.Ruled.{accept, isSome}
+use Rattle.number.specs.Basics.{isSome}
+use Rattle.number.specs.Reply.{accept}
 use Rattle.queue.specs.Contents.{Store, Contents, storePlace}
 use Rattle.queue.specs.Write.{Written, addressApart, noLoadConflict, noStoreConflict, storeDone, write}
 use Rattle.queue.proofs.Lists.{and-both, or-left, implied, all-left, all-middle}
@@ -101,7 +102,8 @@ write-keeps groups memory answered m st serial r h = at (write-accepts q (m .mem
     i = storePlace q serial
 
     Goal : Type 0
-    Goal = Invariant groups memory (answered ++ record { call = Write serial; number = 0; value = none } ∷ []) (record { queue = r .queue; memory = r .memory })
+    Goal =
+        Invariant groups memory (answered ++ record { call = Write serial; number = 0; value = none } ∷ []) (record { queue = r .queue; memory = r .memory })
 
     found : (s : Store) → getElem? (q .stores) i ≡ some s → Writing q (m .memory) i r s
         → (pre : List LogEntry) × (it : Store) × (post : List LogEntry) × Located stores loads (st .log) (q .stores) (q .loads) i pre it post → Goal

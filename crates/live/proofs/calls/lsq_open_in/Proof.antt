@@ -7,7 +7,7 @@ use Rattle.table.specs.declared.TableRead.{TableRead}
 use Rattle.queue.specs.declared.Frame.{Frame}
 use Rattle.queue.specs.Open.{openQueue, freshFrame}
 use Rattle.queue.specs.Parts.{OpensFrame}
-use Rattle.replay.proofs.TableLaws.{table-refused, table-got}
+use Rattle.table.proofs.RoundTrip.{table-refused, table-given}
 use Rattle.live.proofs.CallLaws.{no-table-no-frame}
 use borrow.Author.Needs.{needs}
 use Rattle.live.proofs.calls.lsq_open_in.Statement.{statement}
@@ -34,7 +34,7 @@ returns-2 c =
     let t = o .before .before in
     let a = t .before .before .args in
     let r = t .read-table .result in
-    let is = table-got (a .table .now) r (t .read-table .ensures) (i .if1 .left) .is in
+    let is = table-given (a .table .now) r (t .read-table .ensures) (i .if1 .left) in
     let same : r .table ≡ pack (groupsOf (r .table)) = ap (λ (x : TableRead). x .table) (t .read-table .ensures ∙ ap tableAnswer is) in
     rw is
     (subst (λ (x : Table). OpensFrame (freshFrame x (a .load-depth) (a .store-depth) (a .first) (a .memory-length))

@@ -4,7 +4,8 @@ use mathlib.Core.Path.{_≡_, refl, ap}
 use native.Mathlib.Omega.{arith}
 use lib.ListN.{length}
 use borrow.Author.Needs.{needs}
-use Rattle.number.specs.Number.{accepts, numberBytes}
+use Rattle.number.specs.Reply.{accept}
+use Rattle.number.specs.Number.{numberBytes}
 use Rattle.number.proofs.SpliceLaws.{wrote-short, wrote-fits}
 use Rattle.number.proofs.writing.write_number.Statement.{statement}
 use Rattle.number.proofs.writing.write_number.Tie as tie
@@ -27,7 +28,7 @@ returns-2 : tie.Need-returns-2
 returns-2 c =
     let e = c .before .before .before .before in
     rw (wrote-fits (numberBytes (e .before .before .before .args .value)) (e .before .before .before .args .out .now) (fits e))
-    (ap accepts (long (e .before)), c .before .before .put-fitting .ensures .is)
+    (ap accept (long (e .before)), c .before .before .put-fitting .ensures .is)
 
 pub write-number-spec : {M : Type 1} → statement M
 write-number-spec =

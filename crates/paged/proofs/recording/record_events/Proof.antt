@@ -12,7 +12,7 @@ use Rattle.trace.specs.declared.EventRead.{EventRead}
 use Rattle.trace.specs.declared.EventRead.the-variants.{Found, End, NoEvent}
 use Rattle.trace.proofs.EventRead.{the-type}
 use Rattle.trace.specs.Event.{eventReply}
-use Rattle.number.specs.Number.{got}
+use Rattle.number.specs.Reply.{accept}
 use Rattle.replay.specs.Events.{eventsFrom}
 use Rattle.trace.proofs.TraceSteps.{EventGot, event-got, event-end, event-fault}
 use Rattle.paged.proofs.BufferLaws.{Along, along-none, along-given-end, along-values-end, along-end, along-no-fault, along-more}
@@ -30,11 +30,11 @@ loop-holds c = along-none (c .before .before .before .pre)
 
 -- no event was read, and none is bad: the bytes end there
 ended : (c : tie.At-match-keys2 Inv-loop μ-loop)
-    → let l = c .before .before .before .before in eventsFrom (l .before .before .before .before .args .trace .now) (l .loop .place) ≡ got [] []
+    → let l = c .before .before .before .before in eventsFrom (l .before .before .before .before .args .trace .now) (l .loop .place) ≡ accept []
 ended c = go (c .before .read-event .result) refl (c .match .keys2)
   where
     go : (r : EventRead) → c .before .read-event .result ≡ r → OneOf (1 ∷ 2 ∷ []) (tagOf the-type r)
-        → let l = c .before .before .before .before in eventsFrom (l .before .before .before .before .args .trace .now) (l .loop .place) ≡ got [] []
+        → let l = c .before .before .before .before in eventsFrom (l .before .before .before .before .args .trace .now) (l .loop .place) ≡ accept []
     go (Found e n) is (inl z) = let y : _≡_ {A = ℕ} 0 1 = z in absurd (omega arith)
     go (Found e n) is (inr z) = let y : _≡_ {A = ℕ} 0 2 = z in absurd (omega arith)
     go End is k = event-end _ _ (sym (c .before .read-event .ensures) ∙ ap eventReply is)

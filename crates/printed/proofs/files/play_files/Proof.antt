@@ -3,7 +3,7 @@ use mathlib.Core.Bool.{true}
 use borrow.Author.Tests.{not-true, not-false}
 use Rattle.replay.specs.Replay.{Buffers}
 use Rattle.replay.proofs.ReplayLaws.{buffers}
-use Rattle.replay.proofs.TableLaws.{table-refused, table-got}
+use Rattle.table.proofs.RoundTrip.{table-refused, table-given}
 use Rattle.printed.specs.Files.{Files, files}
 use Rattle.printed.specs.Played.{hasRoom}
 use Rattle.printed.proofs.FilesLaws.{has-room, table-long, table-fault, table-right, told-as, told-table, told-short, told-in}
@@ -60,7 +60,7 @@ returns-4 c =
     let t = right .before .before in
     let e = t .before .before in
     let s = startAt (e .before) in
-    let is = table-got (s .args .table .now) (t .read-table .result) (t .read-table .ensures) (right .if3 .left) .is in
+    let is = table-given (s .args .table .now) (t .read-table .result) (t .read-table .ensures) (right .if3 .left) in
     told-in (s .args .memory .now) (lent s) (filesAt s) (room e)
     (told-as (s .args .memory .now) (lent s) (table-right (s .args .table .now) (s .args .trace .now) (t .before .if2 .left) is)
     (p .play-trace .ensures))

@@ -1,6 +1,6 @@
 use mathlib.Core.Path.{_≡_, sym, ap, _∙_}
 use mathlib.Core.List.{List}
-use Rattle.number.specs.Number.{Got}
+use Rattle.number.specs.Reply.{Reply}
 use Rattle.table.specs.Table.{groupsOf}
 use Rattle.trace.specs.declared.Event.{Event}
 use Rattle.trace.specs.Event.{readHeader}
@@ -40,10 +40,10 @@ returns-2 c =
 abbrev openedAt : tie.After-count-events → tie.After-open-trace
 openedAt n = n .before .before .before .before
 
-abbrev filesAt : tie.After-count-events → Got (List Event) → Files
+abbrev filesAt : tie.After-count-events → Reply (List Event) → Files
 filesAt n g = startFiles (startOf (contentsOf (openedAt n .open-trace .result .queue)) g)
 
-abbrev eventsAt : tie.After-count-events → Got (List Event)
+abbrev eventsAt : tie.After-count-events → Reply (List Event)
 eventsAt n = let o = openedAt n in eventsFrom (startAt o .args .trace .now) (o .open-trace .result .at)
 
 opened : (n : tie.After-count-events)

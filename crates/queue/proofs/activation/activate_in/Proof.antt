@@ -16,7 +16,7 @@ use mathlib.Core.Option.{none}
 use Rattle.queue.specs.declared.answering.Step.{Step}
 use Rattle.queue.specs.Contents.{contentsOf}
 use Rattle.number.specs.Refusal.{noPlace}
-use Rattle.queue.specs.Ruled.{accept, need}
+use Rattle.number.specs.Reply.{accept, need}
 use Rattle.queue.specs.Activate.{room, withGroup, activate}
 use Rattle.queue.specs.Internal.{PairsFit}
 use Rattle.queue.proofs.SoundLaws.{table-right, loads-few, stores-few}

@@ -3,8 +3,8 @@ use mathlib.Core.Path.{_≡_, sym, ap, _∙_}
 use mathlib.Core.Bool.{true}
 use native.Mathlib.Nat.{zero-sub}
 use native.Mathlib.Omega.{arith}
-use borrow.Author.Tests.{not-true, not-false, ne-eqb}
-use Rattle.table.specs.Table.{groupsOf, tableFault}
+use borrow.Author.Tests.{not-true, not-false}
+use Rattle.table.specs.Table.{groupsOf, checkTable}
 use Rattle.queue.specs.declared.Frame.{Frame}
 use Rattle.queue.specs.Contents.{contentsOf}
 use Rattle.queue.specs.Sound.{depthRight, memoryRight}
@@ -14,9 +14,12 @@ use Rattle.queue.proofs.GroupLaws.{groups-few}
 use borrow.Author.Needs.{needs}
 use Rattle.queue.proofs.opening.open_in.Statement.{statement}
 use Rattle.queue.proofs.opening.open_in.Tie as tie
+use Rattle.number.specs.Reply.{passed}
+use Rattle.number.proofs.ReplyLaws.{some-refused}
+use Rattle.table.proofs.Among.{table-zero}
 
-table-right : (c : tie.Else1) → tableFault (groupsOf (c .before .before .args .table)) ≡ 0
-table-right c = sym (c .before .table-fault .ensures) ∙ c .if1 .left
+table-right : (c : tie.Else1) → checkTable (groupsOf (c .before .before .args .table)) ≡ passed
+table-right c = table-zero (groupsOf (c .before .before .args .table)) (sym (c .before .table-fault .ensures) ∙ c .if1 .left)
 
 load-depth : (c : tie.Else2) → depthRight (c .before .before .before .before .args .load-depth) ≡ true
 load-depth c = sym (c .before .depth-right .ensures) ∙ not-false _ (c .if2 .left)
@@ -31,10 +34,7 @@ returns : tie.Need-returns
 unfolding openQueue
 returns c =
     let t = c .before .before in
-    rw (
-      ne-eqb (tableFault (groupsOf (t .before .args .table))) 0 (λ z. c .before .if1 .taken (t .table-fault .ensures ∙ z)),
-      ← t .table-fault .ensures,
-    ) (c .refused .ensures)
+    rw (some-refused (checkTable (groupsOf (t .before .args .table))) (t .table-fault .ensures) (c .before .if1 .taken)) (c .refused .ensures)
 
 returns-2 : tie.Need-returns-2
 unfolding openQueue

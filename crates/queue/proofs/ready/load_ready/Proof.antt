@@ -3,7 +3,7 @@ use mathlib.Core.List.{List, []}
 use borrow.Author.Tests.{not-true, not-false}
 use borrow.Author.Needs.{needs}
 use Rattle.queue.specs.declared.serving.Source as coded
-use Rattle.queue.specs.Ruled.{accepted}
+use Rattle.number.specs.Reply.{accepted}
 use Rattle.queue.specs.Contents.{Store, loadOf}
 use Rattle.queue.specs.Serve.{loadedFrom}
 use Rattle.queue.specs.Internal.{storesHeld}

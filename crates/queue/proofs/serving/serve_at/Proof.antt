@@ -12,7 +12,7 @@ use Rattle.queue.specs.declared.Entry.{Entry}
 use Rattle.queue.specs.declared.Queue.{Queue}
 use Rattle.queue.specs.declared.serving.Service.{Service}
 use Rattle.queue.specs.declared.serving.Source as coded
-use Rattle.queue.specs.Ruled.{Ruled, accept, andThen}
+use Rattle.number.specs.Reply.{Reply, accept, andThen}
 use Rattle.queue.specs.Contents.{Store, loadOf, contentsOf}
 use Rattle.queue.specs.Serve.{Served, Loaded, loadedFrom, mayServe, servedWith, serveAt}
 use Rattle.queue.specs.Outcome.{handedCounts}
@@ -58,7 +58,7 @@ in-memory c a =
     (load-address (queueIn s) (s .pre .0 .right) (s .args .place) (held c .if1 .left)) a)
 
 -- what the rule says, once the place is one of the queue, and once the load's source is known
-abbrev byRule : Table → tie.After-unpack → Ruled Loaded → Ruled Served
+abbrev byRule : Table → tie.After-unpack → Reply Loaded → Reply Served
 byRule t u x = andThen x λ v. accept (servedWith (contentsOf (queueWith t (start (held u)))) (start (held u) .args .place) v)
 
 abbrev before : tie.After-unpack → List Store

@@ -1,11 +1,14 @@
 -- Each test that is left behind makes one part of the check true; the test that fails makes the whole false.
 use Prim.Native.Nat.{ℕ}
 use mathlib.Core.List.{List}
-use mathlib.Core.Path.{_≡_, sym, _∙_}
+use mathlib.Core.Path.{_≡_, refl, sym, _∙_}
 use mathlib.Core.Bool.{true, _&&_}
 use lib.Dec.{leb}
 use borrow.Author.Tests.{not-true, not-false}
 use Rattle.number.specs.Basics.{allOf}
+use Rattle.number.proofs.ReplyLaws.{accepted-number, notZero}
+use Rattle.table.specs.Table.{groupsOf, checkTable}
+use Rattle.table.proofs.Among.{check-table-among}
 use Rattle.queue.specs.declared.Queue.{Queue}
 use Rattle.queue.specs.Sound.{depthRight, memoryRight}
 use Rattle.queue.specs.Parts.{frameOf, queueOf, whole}
@@ -76,7 +79,8 @@ returns-2 c = let a = c .before .before .before .before .args in
     rw (stores-not-whole (a .load-entries .now) (a .store-entries .now) (c .before .if1 .left) (c .if2 .taken))
 
 returns-3 : tie.Need-returns-3
-returns-3 c = rw (full (c .before .before .before .before), sound-sides (queue (c .before)), sym (c .before .side-right .ensures) ∙ not-true _ (c .if3 .taken))
+returns-3 c =
+    rw (full (c .before .before .before .before), sound-sides (queue (c .before)), sym (c .before .side-right .ensures) ∙ not-true _ (c .if3 .taken))
 
 returns-4 : tie.Need-returns-4
 returns-4 c =
@@ -151,7 +155,7 @@ returns-8 c =
       loads r,
       stores z,
       c .fault-in .ensures,
-    )
+    ) (let gs = groupsOf (at5 z .frame .table) in accepted-number (checkTable gs) (check-table-among notZero refl gs))
 
 pub sound-in-spec : {M : Type 1} → statement M
 sound-in-spec =

@@ -11,7 +11,7 @@ use Rattle.queue.specs.declared.Queue.{Queue}
 use mathlib.Core.Option.{none}
 use Rattle.queue.specs.declared.answering.Step.{Step}
 use Rattle.queue.specs.Entry.{entryOf, numberOf}
-use Rattle.queue.specs.Ruled.{accept, andThen}
+use Rattle.number.specs.Reply.{accept, andThen}
 use Rattle.queue.specs.Contents.{storeOf, storeIn, contentsOf}
 use Rattle.queue.specs.Write.{storeDone, writtenWith, writeAt}
 use Rattle.queue.specs.Retire.{retire}

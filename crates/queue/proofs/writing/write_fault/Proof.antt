@@ -7,7 +7,7 @@ use borrow.Author.Tests.{not-true, not-false}
 use Rattle.number.specs.Basics.{allOf}
 use Rattle.queue.specs.declared.Entry.{Entry}
 use Rattle.queue.specs.declared.entries.Mark.the-variants.{Filled, Finished}
-use Rattle.queue.specs.Ruled.{number}
+use Rattle.number.specs.Reply.{number}
 use Rattle.queue.specs.Contents.{Load, Store, loadOf, storeOf}
 use Rattle.queue.specs.Write.{noLoadConflict, noStoreConflict, mayWrite}
 use Rattle.queue.specs.Internal.{loadsHeld, storesHeld}

@@ -1,7 +1,9 @@
 use mathlib.Core.Path.{sym, ap, _∙_}
 use borrow.Author.Needs.{needs}
 use Rattle.trace.specs.Event.{headerReply}
-use Rattle.trace.proofs.TraceSteps.{header-got, header-bad}
+use Rattle.number.proofs.RoundTrip.{read-refused}
+use Rattle.trace.specs.Event.{readHeader}
+use Rattle.trace.proofs.TraceSteps.{header-got}
 use Rattle.replay.proofs.preparing.open_trace.Statement.{statement}
 use Rattle.replay.proofs.preparing.open_trace.Tie as tie
 
@@ -15,7 +17,8 @@ returns c =
 returns-2 : tie.Need-returns-2
 returns-2 c =
     let h = c .before .before .before .before in
-    let b = header-bad (h .before .before .args .trace .now) (sym (h .read-header .ensures) ∙ ap headerReply (c .before .before .read2 .given .1)) in
+    let trace = h .before .before .args .trace .now in
+    let b = read-refused trace (readHeader trace) (sym (ap headerReply (c .before .before .read2 .given .1)) ∙ h .read-header .ensures) in
     record { opens = rw (b, c .unopened .ensures); at = rw (b, c .unopened .ensures) }
 
 pub open-trace-spec : {M : Type 1} → statement M

@@ -12,13 +12,12 @@ use Rattle.trace.specs.declared.EventRead.{EventRead}
 use Rattle.trace.specs.declared.EventRead.the-variants.{Found, End, NoEvent}
 use Rattle.trace.proofs.EventRead.{the-type}
 use Rattle.trace.specs.Event.{eventReply}
-use Rattle.number.specs.Number.{got}
+use Rattle.number.specs.Reply.{accept}
 use Rattle.queue.specs.Contents.{contentsOf}
 use Rattle.queue.specs.Parts.{frameOf, queueOf}
 use Rattle.queue.proofs.PartsLaws.{both-whole}
 use Rattle.replay.specs.Events.{eventsFrom}
 use Rattle.replay.specs.Playing.{playing}
-use Rattle.replay.specs.Internal.{playedOf}
 use Rattle.trace.proofs.TraceSteps.{EventGot, event-got, event-end, event-fault}
 use Rattle.replay.proofs.ReplayLaws.{buffers, Walk, walk-none, Room, walk-room, walk-lengths, walk-more, walk-end, walk-no-fault}
 use Rattle.replay.proofs.replaying.play_all.Statement.{statement}
@@ -108,12 +107,12 @@ loop-again c =
 ended : (c : tie.At-match-keys2 Inv-loop μ-loop)
     → let l = c .before .before in
     let start = l .before .before .before .before .before .before .before .before .before .before in
-    eventsFrom (start .args .trace .now) (l .loop .place) ≡ got [] []
+    eventsFrom (start .args .trace .now) (l .loop .place) ≡ accept []
 ended c = go (c .before .read-event .result) refl (c .match .keys2)
   where
     go : (r : EventRead) → c .before .read-event .result ≡ r → OneOf (1 ∷ 2 ∷ []) (tagOf the-type r)
         → let l = c .before .before in
-        eventsFrom (l .before .before .before .before .before .before .before .before .before .before .args .trace .now) (l .loop .place) ≡ got [] []
+        eventsFrom (l .before .before .before .before .before .before .before .before .before .before .args .trace .now) (l .loop .place) ≡ accept []
     go (Found e n) is (inl z) = let y : _≡_ {A = ℕ} 0 1 = z in absurd (omega arith)
     go (Found e n) is (inr z) = let y : _≡_ {A = ℕ} 0 2 = z in absurd (omega arith)
     go End is k = event-end _ _ (sym (c .before .read-event .ensures) ∙ ap eventReply is)

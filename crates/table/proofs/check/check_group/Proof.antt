@@ -9,6 +9,7 @@ use Rattle.table.specs.declared.Group.{Group}
 use Rattle.table.specs.Table.{countsRight, Seen}
 use Rattle.table.specs.Internal.{seenIn, GroupInside}
 use Rattle.table.proofs.CheckLaws.{counts-few, rising-checked, group-counts, group-loads, group-stores}
+use Rattle.table.proofs.Among.{pairs-zero}
 use borrow.Author.Needs.{needs}
 use Rattle.table.proofs.check.check_group.Statement.{statement}
 use Rattle.table.proofs.check.check_group.Tie as tie
@@ -71,7 +72,7 @@ check-pairs-requires-2 c κs =
         few = f .0;
         few-stores = f .1;
         rising =
-            λ e. rising-checked _ _ _ _ _ (sym (p .check-pairs .ensures .answer) ∙ c .before .if2 .left);
+            λ e. rising-checked _ _ _ _ _ (pairs-zero _ _ _ _ _ (sym (p .check-pairs .ensures .answer) ∙ c .before .if2 .left));
       },
       i .1,
     )
@@ -83,7 +84,8 @@ returns-3 c =
     let k = e .before in
     let d = c .before .before .if2 .left in
     record {
-      answer = group-stores (loadsIn k) (storesIn k) (groupIn k) (seenBefore k) (right e) (sym (p .check-pairs .ensures .answer) ∙ d)
+      answer = group-stores (loadsIn k) (storesIn k) (groupIn k) (seenBefore k) (right e)
+          (pairs-zero _ _ _ _ _ (sym (p .check-pairs .ensures .answer) ∙ d))
           (c .check-pairs2 .ensures .answer);
       marks = λ z. rw (p .check-pairs .ensures .marks d, c .check-pairs2 .ensures .marks z);
     }

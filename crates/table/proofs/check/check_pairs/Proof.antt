@@ -1,5 +1,5 @@
--- The pairs passed have no fault; what is left to check is the rest, with the marks and the last offset so far.
-use Prim.Native.Nat.{ℕ, _+_, _≤_, _<_, _-_}
+-- The pairs before the ith are passed; what is left to check is the rest, with the marks and the last offset so far.
+use Prim.Native.Nat.{_≤_, _<_, _-_}
 use mathlib.Core.Path.{_≡_, sym, ap, _∙_}
 use mathlib.Core.Bool.{Bool}
 use mathlib.Core.List.{List}
@@ -8,9 +8,11 @@ use lib.ListN.{length, getD}
 use borrow.Author.Needs.{needs}
 use Rattle.table.specs.declared.Pair.{Pair}
 use Rattle.table.specs.Group.{listOf, blankPair}
-use Rattle.table.specs.Table.{pairFault}
+use Rattle.number.specs.Reply.{Reply, number, passed}
+use Rattle.table.specs.Table.{checkPair}
 use Rattle.table.specs.Internal.{ruleOf}
-use Rattle.table.proofs.CheckLaws.{view-length, view-at, fault-none, Checking, checking-none, checking-stop, checking-more, checking-end}
+use Rattle.table.proofs.CheckLaws.{view-length, view-at, pair-passed, Checking, checking-none, checking-stop, checking-more, checking-end}
+use Rattle.table.proofs.Among.{pair-zero}
 use Rattle.table.proofs.check.check_pairs.Statement.{statement}
 use Rattle.table.proofs.check.check_pairs.Tie as tie
 
@@ -42,29 +44,31 @@ this u =
     let s = start (l .before) in
     view-at (s .args .places .now) (s .args .pairs) (l .before .loop .i) (l .loop-test .taken) ∙ sym (u .unpack-pair .ensures)
 
--- its offset by the rule, and its fault
+-- its offset by the rule, and its check
 abbrev rightOf : tie.After-unpack-pair Inv-loop μ-loop → Bool
 rightOf u =
     let l = u .before .before .before in
     let a = start l .args in
     ruleOf (a .storing) (a .stores) (listOf (a .load-places .now) (a .loads)) (l .loop .low) (l .loop .i) (u .unpack-pair .result .offset)
 
-abbrev faultOf : tie.After-unpack-pair Inv-loop μ-loop → Bool → ℕ
-faultOf u right = pairFault right (u .before .before .before .loop .seen) (u .unpack-pair .result .port)
+abbrev checkOf : tie.After-unpack-pair Inv-loop μ-loop → Bool → Reply (Unit {0})
+checkOf u right = checkPair right (u .before .before .before .loop .seen) (u .unpack-pair .result .port)
 
 abbrev turn : tie.After-pair-fault Inv-loop μ-loop → tie.After-unpack-pair Inv-loop μ-loop
 turn c = c .before .before .before .before .before
 
-fault : (c : tie.After-pair-fault Inv-loop μ-loop) → c .pair-fault .result ≡ faultOf (turn c) (rightOf (turn c))
-fault c = c .pair-fault .ensures ∙ ap (faultOf (turn c)) (c .before .before .offset-right .ensures)
+fault : (c : tie.After-pair-fault Inv-loop μ-loop) → c .pair-fault .result ≡ number (checkOf (turn c) (rightOf (turn c)))
+fault c = c .pair-fault .ensures ∙ ap (λ (right : Bool). number (checkOf (turn c) right)) (c .before .before .offset-right .ensures)
 
-no-fault : (c : tie.Else1 Inv-loop μ-loop) → faultOf (turn (c .before)) (rightOf (turn (c .before))) ≡ 0
-no-fault c = sym (fault (c .before)) ∙ c .if1 .left
+no-fault : (c : tie.Else1 Inv-loop μ-loop) → checkOf (turn (c .before)) (rightOf (turn (c .before))) ≡ passed
+no-fault c =
+    let u = turn (c .before) in
+    pair-zero (rightOf u) (u .before .before .before .loop .seen) (u .unpack-pair .result .port) (sym (fault (c .before)) ∙ c .if1 .left)
 
 port-low : (c : tie.Else1 Inv-loop μ-loop) → turn (c .before) .unpack-pair .result .port ≤ 31
 port-low c =
     let u = turn (c .before) in
-    fault-none (rightOf u) (u .before .before .before .loop .seen) (u .unpack-pair .result .port) (no-fault c) .1
+    pair-passed (rightOf u) (u .before .before .before .loop .seen) (u .unpack-pair .result .port) (no-fault c) .1
 
 loop-holds : tie.Need-loop-holds Inv-loop μ-loop
 loop-holds c = (search needs, checking-none)

@@ -1,4 +1,4 @@
--- The groups passed have no fault; what is left to check is the rest, with the ports seen so far.
+-- The groups before the ith are passed; what is left to check is the rest, with the ports seen so far.
 use Prim.Native.Nat.{_≤_, _-_}
 use mathlib.Core.Path.{_≡_, sym, _∙_}
 use mathlib.Core.Bool.{true}
@@ -13,6 +13,7 @@ use Rattle.table.specs.Table.{groupsIn, groupsOf, noneSeen}
 use Rattle.table.specs.Internal.{seenIn}
 use Rattle.table.proofs.CheckLaws.{Passing, passing-none, passing-stop, passing-more, passing-end, groups-size}
 use Rattle.table.proofs.CheckLaws.{group-inside, group-at, table-count, table-groups}
+use Rattle.table.proofs.Among.{group-zero}
 use Rattle.table.proofs.check.fault_in.Statement.{statement}
 use Rattle.table.proofs.check.fault_in.Tie as tie
 
@@ -48,7 +49,8 @@ groupOf c =
     let t = tableAt (c .before .before .before) in
     pairsOf (t .loads) (t .stores) (c .group-at .result)
 
-this : (c : tie.After-group-at Inv-loop μ-loop) → getD (groupsOf (tableAt (c .before .before .before))) (c .before .before .loop .i) (groupOf c) ≡ groupOf c
+this : (c : tie.After-group-at Inv-loop μ-loop)
+    → getD (groupsOf (tableAt (c .before .before .before))) (c .before .before .loop .i) (groupOf c) ≡ groupOf c
 this c =
     let l = c .before in
     let e = l .before .before in
@@ -80,7 +82,8 @@ loop-again c =
     let t = tableAt (l .before .before) in (
       omega (arith, l .loop-test .taken),
       passing-more (l .before .loop .inv .1) (groupOf g) (groupOf g)
-          (omega (arith, groups-size t, l .loop-test .taken)) (this g) (sym (k .check-group .ensures .answer) ∙ c .if3 .left)
+          (omega (arith, groups-size t, l .loop-test .taken)) (this g)
+          (group-zero _ _ (sym (k .check-group .ensures .answer) ∙ c .if3 .left))
           (k .check-group .ensures .marks (c .if3 .left)),
     )
 

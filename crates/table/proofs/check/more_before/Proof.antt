@@ -1,4 +1,3 @@
-use mathlib.Core.Path.{_≡_}
 use native.Mathlib.Omega.{arith}
 use Rattle.table.proofs.CheckLaws.{none-more, more-at}
 use borrow.Author.Needs.{needs}

@@ -1,8 +1,5 @@
-use mathlib.Core.Path.{_∙_, ap}
 use borrow.Author.Needs.{needs}
-use Rattle.table.specs.declared.Group.{Group}
-use Rattle.table.specs.Packed.{groupIn}
-use Rattle.table.specs.Table.{groupMeant, groupAt}
+use Rattle.table.specs.Table.{groupAt}
 use Rattle.table.proofs.parts.group_at.Statement.{statement}
 use Rattle.table.proofs.parts.group_at.Tie as tie
 

@@ -1,6 +1,6 @@
-use mathlib.Core.Path.{_≡_, sym}
+use mathlib.Core.Path.{sym}
 use native.Mathlib.Omega.{arith}
-use lib.ListN.{length, take, List·getD-eq-default, length-take}
+use lib.ListN.{take, List·getD-eq-default, length-take}
 use lib.Seq.{getD-take}
 use borrow.Author.Needs.{needs}
 use Rattle.table.proofs.parts.number_at.Statement.{statement}

@@ -4,12 +4,13 @@ use mathlib.Core.Path.{_≡_, refl}
 use native.Mathlib.Omega.{arith}
 use lib.ListN.{drop}
 use borrow.Author.Needs.{needs}
-use Rattle.table.specs.Table.{groupFault}
+use Rattle.number.specs.Reply.{passed}
+use Rattle.table.specs.Table.{checkGroup}
 use Rattle.table.specs.TableBytes.{readGroup}
-use Rattle.table.specs.Internal.{seenOf, Growing, groups-none, groups-found}
-use Rattle.table.proofs.ReadLaws.{group-bad, GroupGot, group-got, PairsGathering, gathering-none}
-use Rattle.table.proofs.ReadLaws.{gathering-refused, gathering-room, gathering-more, gathering-end}
-use Rattle.table.proofs.RoundTrip.{put-group}
+use Rattle.table.specs.Internal.{seenOf, Finds, GroupFound, Growing}
+use Rattle.table.proofs.ReadLaws.{PairsGathering, gathering-none, gathering-refused, gathering-room, gathering-more, gathering-end}
+use Rattle.table.proofs.ReadLaws.{tells-refused, tells-given}
+use Rattle.table.proofs.RoundTrip.{group-written}
 use Rattle.table.proofs.read.read_groups.Statement.{statement}
 use Rattle.table.proofs.read.read_groups.Tie as tie
 
@@ -27,16 +28,16 @@ returns : tie.Need-returns Inv-loop μ-loop
 returns c =
     let k = c .before .before in
     let l = k .before in
-    rw (gathering-refused (l .before .loop .inv .1) (l .loop-test .taken) (group-bad (k .read-group .ensures) (c .if1 .taken)))
-    (groups-none (record { is = refl; some = c .if1 .taken }))
+    tells-refused (gathering-refused (l .before .loop .inv .1) (l .loop-test .taken) (k .read-group .ensures .refused (c .if1 .taken))) refl (c .if1 .taken)
 
 -- the group that was read, for which there is room
 group : (c : tie.Else1 Inv-loop μ-loop) → let l = c .before .before .before .before in let s = l .before .before .before .args .bytes .now in
-    GroupGot s (seenOf (l .loop .seen)) (readGroup (seenOf (l .loop .seen)) (drop (l .loop .place) s)) (c .before .before .read-group .result)
-group c = group-got (c .before .before .read-group .ensures) (c .if1 .left)
+    let r = c .before .before .read-group .result in
+    Finds (readGroup (seenOf (l .loop .seen)) (drop (l .loop .place) s)) s (r .next) (GroupFound (seenOf (l .loop .seen)) r)
+group c = c .before .before .read-group .ensures .given (c .if1 .left)
 
-right : (c : tie.Else1 Inv-loop μ-loop) → groupFault (seenOf (c .before .before .before .before .loop .seen)) (group c .group) ≡ 0
-right c = put-group _ _ _ _ (group c .is) .right
+right : (c : tie.Else1 Inv-loop μ-loop) → checkGroup (seenOf (c .before .before .before .before .loop .seen)) (group c .what) ≡ passed
+right c = group-written _ _ (group c .is) .right
 
 room : (c : tie.Else1 Inv-loop μ-loop)
     → let l = c .before .before .before .before in
@@ -68,7 +69,7 @@ returns-2 : tie.Need-returns-2 Inv-loop μ-loop
 returns-2 c =
     let w = c .before .loop .inv in
     let e = gathering-end (w .1) (c .loop-test .left) in
-    rw (e .0) (groups-found (record { answer = refl; table = e .1; rest-is = refl; inside = w .1 .inside }))
+    tells-given refl (record { what = w .1 .done; is = e .0; inside = w .1 .inside; found = e .1 })
 
 pub read-groups-spec : {M : Type 1} → statement M
 read-groups-spec =

@@ -1,20 +1,24 @@
 -- i pairs have been read into the array; what is left to read is the rest, with the marks and the last offset so far.
-use Prim.Native.Nat.{ℕ, _≤_, _<_, _-_}
+use Prim.Native.Nat.{_≤_, _<_, _-_}
 use mathlib.Core.Path.{_≡_, refl, sym, ap, _∙_}
 use mathlib.Core.Bool.{Bool}
+use mathlib.Core.List.{map}
 use native.Mathlib.Omega.{arith}
 use borrow.Author.Needs.{needs}
-use lib.ListN.{length}
+use lib.ListN.{take, drop}
 use Rattle.table.specs.declared.read.Pairs.{Pairs}
-use Rattle.table.specs.Packed.{SmallPair}
+use Rattle.table.specs.Packed.{SmallPair, pairIn}
 use Rattle.table.specs.Group.{listOf}
-use Rattle.table.specs.Table.{pairFault}
+use Rattle.number.specs.Reply.{Reply, number, passed}
+use Rattle.table.specs.Table.{checkPair}
 use Rattle.table.specs.TableBytes.{pair}
-use Rattle.table.specs.Internal.{ruleOf, front, twoReply, twoRefusal}
-use Rattle.table.proofs.CheckLaws.{fault-none, rule-small}
-use Rattle.table.proofs.ReadLaws.{TwoGot, two-answer, two-bad, two-refused, PairsReading, reading-none}
-use Rattle.table.proofs.ReadLaws.{reading-refused, reading-fault, reading-more, reading-end, packed, held-pairs}
-use Rattle.table.proofs.ReadLaws.{pairs-refused, pairs-found}
+use Rattle.table.specs.Internal.{ruleOf, front, readTwo, twoReply, twoRefusal}
+use Rattle.number.proofs.RoundTrip.{read-refused}
+use Rattle.number.proofs.ReplyLaws.{some-refused, refused-some}
+use Rattle.table.proofs.Among.{pair-zero}
+use Rattle.table.proofs.CheckLaws.{pair-passed, rule-small}
+use Rattle.table.proofs.ReadLaws.{TwoGot, two-answer, two-among, PairsReading, reading-none, reading-refused, reading-fault}
+use Rattle.table.proofs.ReadLaws.{reading-more, reading-end, packed, held-pairs, tells-refused, tells-given}
 use Rattle.table.proofs.read.read_pairs.Statement.{statement}
 use Rattle.table.proofs.read.read_pairs.Tie as tie
 
@@ -35,10 +39,11 @@ returns : tie.Need-returns Inv-loop μ-loop
 returns c =
     let t = c .before .before in
     let l = t .before .before .before in
-    let e = two-bad (start (l .before) .args .bytes .now) (l .before .loop .place) (sym (ap twoReply (t .enum-told .given .1))
+    let s = start (l .before) .args .bytes .now in
+    let e = read-refused s (readTwo (drop (l .before .loop .place) s)) (sym (ap twoReply (t .enum-told .given .1))
     ∙ t .before .before .read-two .ensures) in
-    pairs-refused (reading-refused (l .before .loop .inv .1) (l .loop-test .taken) e) (c .no-pairs-read .ensures ∙ c .before .two-refusal .ensures
-    ∙ ap twoRefusal (t .enum-told .given .1)) (two-refused _ e)
+    tells-refused (reading-refused (l .before .loop .inv .1) (l .loop-test .taken) e) (c .no-pairs-read .ensures ∙ c .before .two-refusal .ensures
+    ∙ ap twoRefusal (t .enum-told .given .1)) (refused-some (readTwo (drop (l .before .loop .place) s)) (two-among _) e)
 
 offset-right-requires : tie.Need-offset-right-requires Inv-loop μ-loop
 offset-right-requires c κs = start (c .before .before .before .before .before .before) .pre .2
@@ -48,39 +53,41 @@ two : (c : tie.After-read Inv-loop μ-loop)
     (c .read .given .0 .1 .0) (c .read .given .0 .1 .1 .0)
 two c = two-answer _ _ (sym (ap twoReply (c .read .given .1)) ∙ c .before .before .read-two .ensures)
 
--- the pair's offset by the rule, and its fault
+-- the pair's offset by the rule, and its check
 abbrev rightOf : tie.After-read Inv-loop μ-loop → Bool
 rightOf g =
     let l = g .before .before .before .before in
     let a = start l .args in
     ruleOf (a .storing) (a .stores) (listOf (a .loads .places) (front (a .loads .count))) (l .loop .low) (l .loop .i) (g .read .given .0 .0)
 
-abbrev faultOf : tie.After-read Inv-loop μ-loop → Bool → ℕ
-faultOf g right = pairFault right (g .before .before .before .before .loop .marks) (g .read .given .0 .1 .0)
+abbrev checkOf : tie.After-read Inv-loop μ-loop → Bool → Reply (Unit {0})
+checkOf g right = checkPair right (g .before .before .before .before .loop .marks) (g .read .given .0 .1 .0)
 
 abbrev turn : tie.After-pair-fault Inv-loop μ-loop → tie.After-read Inv-loop μ-loop
 turn c = c .before .before .before .before .before
 
-fault : (c : tie.After-pair-fault Inv-loop μ-loop) → c .pair-fault .result ≡ faultOf (turn c) (rightOf (turn c))
-fault c = c .pair-fault .ensures ∙ ap (faultOf (turn c)) (c .before .before .offset-right .ensures)
+fault : (c : tie.After-pair-fault Inv-loop μ-loop) → c .pair-fault .result ≡ number (checkOf (turn c) (rightOf (turn c)))
+fault c = c .pair-fault .ensures ∙ ap (λ (right : Bool). number (checkOf (turn c) right)) (c .before .before .offset-right .ensures)
 
 returns-2 : tie.Need-returns-2 Inv-loop μ-loop
 returns-2 c =
     let f = c .before .before in
     let g = turn f in
     let l = g .before .before .before in
-    pairs-refused (reading-fault (l .before .loop .inv .1) (l .loop-test .taken) (two g) (fault f) (c .before .if1 .taken))
-    (c .no-pairs-read2 .ensures) (c .before .if1 .taken)
+    let e = some-refused (checkOf g (rightOf g)) (fault f) (c .before .if1 .taken) in
+    tells-refused (reading-fault (l .before .loop .inv .1) (l .loop-test .taken) (two g) e) (c .no-pairs-read2 .ensures) (c .before .if1 .taken)
 
-no-fault : (c : tie.Else1 Inv-loop μ-loop) → faultOf (turn (c .before)) (rightOf (turn (c .before))) ≡ 0
-no-fault c = sym (fault (c .before)) ∙ c .if1 .left
+no-fault : (c : tie.Else1 Inv-loop μ-loop) → checkOf (turn (c .before)) (rightOf (turn (c .before))) ≡ passed
+no-fault c =
+    let g = turn (c .before) in
+    pair-zero (rightOf g) (g .before .before .before .before .loop .marks) (g .read .given .0 .1 .0) (sym (fault (c .before)) ∙ c .if1 .left)
 
 small : (c : tie.Else1 Inv-loop μ-loop) → (turn (c .before) .read .given .0 .0 ≤ 16) × (turn (c .before) .read .given .0 .1 .0 ≤ 31)
 small c =
     let g = turn (c .before) in
     let l = g .before .before .before .before in
     let s = start l in
-    let f = fault-none (rightOf g) (l .loop .marks) (g .read .given .0 .1 .0) (no-fault c) in (
+    let f = pair-passed (rightOf g) (l .loop .marks) (g .read .given .0 .1 .0) (no-fault c) in (
       rule-small (s .args .storing) (s .args .stores) (s .args .loads .places) (front (s .args .loads .count)) (l .loop .low) (l .loop .i)
           (g .read .given .0 .0) (s .pre .2) (f .0),
       f .1,
@@ -142,13 +149,15 @@ returns-3 c =
     let places = c .before .loop .pairs .places in
     let e = reading-end w (a .pre .0) (c .loop-test .left) (c .before .loop .inv .0) in
     let n : a .args .count ≡ i = omega (arith, c .loop-test .left, c .before .loop .inv .0) in
-    pairs-found (e .0) (record {
-      answer = refl;
-      pairs = packed _ i places n (e .2) (e .1) (w .packs);
-      holds = held-pairs _ i places n (e .2) (omega (arith, w .long, n, a .pre .0));
-      marks = w .marks-are;
-      rest-is = refl;
+    tells-given refl (record {
+      what = map pairIn (take i places);
+      is = e .0;
       inside = w .inside;
+      found = record {
+        pairs = packed _ i places n (e .2) (e .1) (w .packs);
+        holds = held-pairs _ i places n (e .2) (omega (arith, w .long, n, a .pre .0));
+        marks = w .marks-are;
+      };
     })
 
 pub read-pairs-spec : {M : Type 1} → statement M

@@ -1,7 +1,9 @@
 use mathlib.Core.Path.{sym, ap, _∙_}
-use Rattle.number.specs.Number.{numberReply, numberRefusal}
+use lib.ListN.{drop}
+use Rattle.number.specs.Number.{readNumber, numberReply, numberRefusal}
 use Rattle.table.specs.Internal.{readTwo}
-use Rattle.number.proofs.NumberLaws.{place-drop, NumberGot, number-got, number-bad}
+use Rattle.number.proofs.NumberLaws.{place-drop}
+use Rattle.number.proofs.RoundTrip.{NumberGot, number-got, read-refused}
 use borrow.Author.Needs.{needs}
 use Rattle.table.proofs.read.read_two.Statement.{statement}
 use Rattle.table.proofs.read.read_two.Tie as tie
@@ -13,12 +15,14 @@ first-got c = number-got _ _ (sym (ap numberReply (c .read .given .1)) ∙ c .be
 
 returns : tie.Need-returns
 unfolding readTwo
-returns c = rw (
-  c .number-refusal .ensures
-      ∙ ap numberRefusal (c .before .enum-told .given .1),
-  number-bad _ _ (sym (ap numberReply (c .before .enum-told .given .1))
-      ∙ c .before .before .before .read-number .ensures),
-)
+returns c =
+    let t = c .before in
+    let a = t .before .before .before .before .args in
+    rw (
+      c .number-refusal .ensures ∙ ap numberRefusal (t .enum-told .given .1),
+      read-refused (a .bytes .now) (readNumber (drop (a .at) (a .bytes .now)))
+          (sym (ap numberReply (t .enum-told .given .1)) ∙ t .before .before .read-number .ensures),
+    )
 
 second-got : (c : tie.After-read2) →
     let start = c .before .before .before .before .before .before .before .before in
@@ -27,12 +31,16 @@ second-got c = number-got _ _ (sym (ap numberReply (c .read2 .given .1)) ∙ c .
 
 returns-2 : tie.Need-returns-2
 unfolding readTwo
-returns-2 c = rw (
-  c .number-refusal2 .ensures
-      ∙ ap numberRefusal (c .before .enum-told2 .given .1),
-  first-got (c .before .before .before .before .before) .is,
-  number-bad _ _ (sym (ap numberReply (c .before .enum-told2 .given .1)) ∙ c .before .before .before .read-number2 .ensures),
-)
+returns-2 c =
+    let t = c .before in
+    let g = t .before .before .before .before in
+    let bytes = g .before .before .before .before .args .bytes .now in
+    rw (
+      c .number-refusal2 .ensures ∙ ap numberRefusal (t .enum-told2 .given .1),
+      first-got g .is,
+      read-refused bytes (readNumber (drop (g .read .given .0 .1 .0) bytes))
+          (sym (ap numberReply (t .enum-told2 .given .1)) ∙ t .before .before .read-number2 .ensures),
+    )
 
 returns-3 : tie.Need-returns-3
 unfolding readTwo

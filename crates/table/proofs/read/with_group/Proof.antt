@@ -1,5 +1,4 @@
 use mathlib.Core.Path.{refl}
-use native.Mathlib.Omega.{arith}
 use borrow.Author.Needs.{needs}
 use Rattle.table.proofs.read.with_group.Statement.{statement}
 use Rattle.table.proofs.read.with_group.Tie as tie

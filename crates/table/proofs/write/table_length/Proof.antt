@@ -1,7 +1,5 @@
 use Prim.Native.Nat.{_≤_, _*_, _-_}
-use mathlib.Core.Path.{_≡_}
 use native.Mathlib.Omega.{arith}
-use lib.ListN.{length}
 use borrow.Author.Needs.{needs}
 use Rattle.table.specs.declared.Table.{Table}
 use Rattle.table.specs.Group.{pairsOf}
@@ -14,7 +12,8 @@ use Rattle.table.proofs.write.table_length.Statement.{statement}
 use Rattle.table.proofs.write.table_length.Tie as tie
 
 abbrev Inv-loop : tie.InvT-loop
-Inv-loop count groups loads stores many total₀ i₀ total i = (i ≤ count) × (total ≤ 650 * i) × Tallied groupNumbers (groupsIn count groups loads stores) i total
+Inv-loop count groups loads stores many total₀ i₀ total i =
+    (i ≤ count) × (total ≤ 650 * i) × Tallied groupNumbers (groupsIn count groups loads stores) i total
 
 abbrev μ-loop : tie.MeasureT-loop
 μ-loop count groups loads stores many total₀ i₀ total i = count - i

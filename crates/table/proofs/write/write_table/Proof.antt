@@ -2,19 +2,20 @@
 use Prim.Native.Nat.{_≤_}
 use mathlib.Core.Path.{_≡_, refl, sym, ap, _∙_}
 use native.Mathlib.Omega.{arith}
-use borrow.Author.Tests.{eq-eqb, ne-eqb}
-use Rattle.number.specs.Number.{accepts}
-use Rattle.table.specs.Table.{groupsOf, tableFault}
+use Rattle.number.specs.Reply.{accept, passed}
+use Rattle.table.specs.Table.{groupsOf, checkTable}
 use Rattle.table.specs.TableBytes.{tableBytes, wroteTable}
 use Rattle.table.proofs.CheckLaws.{groups-size}
 use Rattle.number.proofs.SpliceLaws.{wrote-short, wrote-fits}
+use Rattle.number.proofs.ReplyLaws.{some-refused}
+use Rattle.table.proofs.Among.{table-zero}
 use Rattle.table.proofs.OrderOffsets.{table-groups-few}
 use borrow.Author.Needs.{needs}
 use Rattle.table.proofs.write.write_table.Statement.{statement}
 use Rattle.table.proofs.write.write_table.Tie as tie
 
-right : (c : tie.Else1) → tableFault (groupsOf (c .before .before .before .args .t1)) ≡ 0
-right c = sym (c .before .table-fault .ensures) ∙ c .if1 .left
+right : (c : tie.Else1) → checkTable (groupsOf (c .before .before .before .args .t1)) ≡ passed
+right c = table-zero _ (sym (c .before .table-fault .ensures) ∙ c .if1 .left)
 
 few : (c : tie.Else1) → c .before .before .before .args .t1 .count ≤ 16
 few c =
@@ -25,8 +26,7 @@ returns : tie.Need-returns
 unfolding wroteTable
 returns c =
     let t = c .before in
-    let e = t .before .before .args in
-    rw (ne-eqb (tableFault (groupsOf (e .t1))) 0 (λ z. c .if1 .taken (t .table-fault .ensures ∙ z)), t .table-fault .ensures) (refl, refl)
+    rw (some-refused (checkTable (groupsOf (t .before .before .args .t1))) (t .table-fault .ensures) (c .if1 .taken)) (refl, refl)
 
 table-length-requires : tie.Need-table-length-requires
 table-length-requires c κs = few (c .before .before .before .before)
@@ -37,7 +37,7 @@ returns-2 c =
     let e = c .before .before .before .before .before .before in
     let a = e .before .before .before .args in
     rw (
-      eq-eqb (tableFault (groupsOf (a .t1))) 0 (right e),
+      right e,
       wrote-short (tableBytes (groupsOf (a .t1))) (a .out .now)
           (omega (arith, c .before .table-length .ensures)),
     ) (refl, refl)
@@ -55,10 +55,10 @@ returns-3 c =
     let e = l .before .before .before .before .before in
     let a = e .before .before .before .args in
     rw (
-      eq-eqb (tableFault (groupsOf (a .t1))) 0 (right e),
+      right e,
       wrote-fits (tableBytes (groupsOf (a .t1))) (a .out .now)
           (omega (arith, l .table-length .ensures)),
-    ) (ap accepts (l .table-length .ensures), p .put-table .ensures)
+    ) (ap accept (l .table-length .ensures), p .put-table .ensures)
 
 pub write-table-spec : {M : Type 1} → statement M
 write-table-spec =

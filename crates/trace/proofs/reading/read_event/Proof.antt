@@ -1,7 +1,7 @@
 use mathlib.Core.Path.{sym, ap, _∙_}
 use Rattle.number.specs.Number.{numberReply, numberRefusal}
 use Rattle.trace.specs.Event.{readEvent}
-use Rattle.number.proofs.NumberLaws.{NumberGot, number-got, number-bad}
+use Rattle.number.proofs.RoundTrip.{NumberGot, number-got, number-refused}
 use Rattle.trace.proofs.TraceLaws.{event-at-end, event-at-inside}
 use native.Mathlib.Omega.{arith}
 use borrow.Author.Needs.{needs}
@@ -24,7 +24,7 @@ returns-2 c =
       event-at-inside _ _ (r .before .if1 .left),
       c .number-refusal .ensures
           ∙ ap numberRefusal (c .before .enum-told .given .1),
-      number-bad _ _ (sym (ap numberReply (c .before .enum-told .given .1))
+      number-refused _ _ (sym (ap numberReply (c .before .enum-told .given .1))
           ∙ r .read-number .ensures),
     )
 

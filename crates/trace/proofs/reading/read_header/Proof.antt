@@ -2,7 +2,8 @@
 use mathlib.Core.Path.{sym, ap, _∙_}
 use Rattle.number.specs.Number.{numberReply, numberRefusal}
 use Rattle.trace.specs.Event.{readHeader}
-use Rattle.number.proofs.NumberLaws.{place-drop, NumberGot, number-got, number-bad}
+use Rattle.number.proofs.NumberLaws.{place-drop}
+use Rattle.number.proofs.RoundTrip.{NumberGot, number-got, number-refused}
 use borrow.Author.Needs.{needs}
 use Rattle.trace.proofs.reading.read_header.Statement.{statement}
 use Rattle.trace.proofs.reading.read_header.Tie as tie
@@ -15,7 +16,7 @@ unfolding readHeader
 returns c = rw (
   c .number-refusal .ensures
       ∙ ap numberRefusal (c .before .enum-told .given .1),
-  number-bad (c .before .before .before .before .before .args .bytes .now) 0
+  number-refused (c .before .before .before .before .before .args .bytes .now) 0
       (sym (ap numberReply (c .before .enum-told .given .1)) ∙ c .before .before .before .read-number .ensures),
 )
 
@@ -30,7 +31,7 @@ returns-2 c = rw (
   c .number-refusal2 .ensures
       ∙ ap numberRefusal (c .before .enum-told2 .given .1),
   first-got (c .before .before .before .before .before) .is,
-  number-bad _ _ (sym (ap numberReply (c .before .enum-told2 .given .1)) ∙ c .before .before .before .read-number2 .ensures),
+  number-refused _ _ (sym (ap numberReply (c .before .enum-told2 .given .1)) ∙ c .before .before .before .read-number2 .ensures),
 )
 
 third-got : (c : tie.After-third) →
@@ -45,7 +46,7 @@ returns-3 c = rw (
       ∙ ap numberRefusal (c .before .enum-told3 .given .1),
   first-got (c .before .before .before .before .before .before .before .before .before) .is,
   second-got (c .before .before .before .before .before) .is,
-  number-bad _ _ (sym (ap numberReply (c .before .enum-told3 .given .1))
+  number-refused _ _ (sym (ap numberReply (c .before .enum-told3 .given .1))
       ∙ c .before .before .before .read-number3 .ensures),
 )
 
@@ -62,7 +63,7 @@ returns-4 c = rw (
   first-got (c .before .before .before .before .before .before .before .before .before .before .before .before .before) .is,
   second-got (c .before .before .before .before .before .before .before .before .before) .is,
   third-got (c .before .before .before .before .before) .is,
-  number-bad _ _ (sym (ap numberReply (c .before .enum-told4 .given .1))
+  number-refused _ _ (sym (ap numberReply (c .before .enum-told4 .given .1))
       ∙ c .before .before .before .read-number4 .ensures),
 )
 

@@ -2,7 +2,8 @@
 use mathlib.Core.Path.{sym, ap, _∙_}
 use borrow.Author.Tests.{le-leb, lt-leb}
 use Rattle.number.specs.Number.{numberReply, numberRefusal}
-use Rattle.number.proofs.NumberLaws.{place-drop, NumberGot, number-got, number-bad}
+use Rattle.number.proofs.NumberLaws.{place-drop}
+use Rattle.number.proofs.RoundTrip.{NumberGot, number-got, number-refused}
 use borrow.Author.Needs.{needs}
 use Rattle.trace.proofs.reading.read_kind.Statement.{statement}
 use Rattle.trace.proofs.reading.read_kind.Tie as tie
@@ -21,7 +22,7 @@ returns-2 c =
     rw (
       c .number-refusal .ensures ∙ ap numberRefusal (c .before .enum-told .given .1),
       le-leb _ _ (r .before .if1 .left),
-      number-bad _ _ (sym (ap numberReply (c .before .enum-told .given .1)) ∙ r .read-number .ensures),
+      number-refused _ _ (sym (ap numberReply (c .before .enum-told .given .1)) ∙ r .read-number .ensures),
     )
 
 returns-3 : tie.Need-returns-3
@@ -63,7 +64,7 @@ returns-5 c =
       first-got g .is,
       le-leb _ _ (r .before .before .if2 .left),
       le-leb _ _ (r .before .if3 .left),
-      number-bad _ _ (sym (ap numberReply (c .before .enum-told2 .given .1)) ∙ r .read-number2 .ensures),
+      number-refused _ _ (sym (ap numberReply (c .before .enum-told2 .given .1)) ∙ r .read-number2 .ensures),
     )
 
 returns-6 : tie.Need-returns-6

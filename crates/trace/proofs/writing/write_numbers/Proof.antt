@@ -1,6 +1,7 @@
 use mathlib.Core.Path.{refl, ap}
 use native.Mathlib.Omega.{arith}
-use Rattle.number.specs.Number.{accepts, bytesOf}
+use Rattle.number.specs.Reply.{accept}
+use Rattle.number.specs.Number.{bytesOf}
 use Rattle.trace.specs.Internal.{numbersListed}
 use Rattle.number.proofs.SpliceLaws.{wrote-short, wrote-fits}
 use borrow.Author.Needs.{needs}
@@ -15,7 +16,7 @@ returns-2 : tie.Need-returns-2
 returns-2 c =
     let e = c .before .before .before .before in
     rw (wrote-fits (bytesOf (numbersListed (e .before .before .before .args .numbers))) (e .before .before .before .args .out .now) (omega arith))
-    (ap accepts (e .before .numbers-length .ensures), c .before .before .put-numbers .ensures)
+    (ap accept (e .before .numbers-length .ensures), c .before .before .put-numbers .ensures)
 
 pub write-numbers-spec : {M : Type 1} → statement M
 write-numbers-spec =

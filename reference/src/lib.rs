@@ -2,10 +2,10 @@
 //!
 //! It is written from the papers alone: document 01, "The group-allocated
 //! load-store queue of the tally board", and of document 02 S-1, the shift page,
-//! S-2, groups with no load and no store, S-3, half to even in shares, and S-4,
-//! padding refused. Quoted sentences in the comments are theirs.
-//! Everything works in place and refusals are plain numbers, so that another
-//! implementation can be compared with this one answer by answer.
+//! S-2, groups with no load and no store, S-3, half to even in shares, S-4,
+//! padding refused, and S-5, the byte count by formula. Quoted sentences in the
+//! comments are theirs. Everything works in place and refusals are plain numbers,
+//! so that another implementation can be compared with this one answer by answer.
 //!
 //! "Tables and events lie lowest, the queue above, `play` on top":
 //! [`number`], [`table`], [`event`] and [`shift`] know nothing of [`queue`],

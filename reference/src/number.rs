@@ -6,21 +6,16 @@ use crate::refusal;
 /// Most bytes that a number takes.
 const MAX_BYTES: usize = 5;
 
-/// "The byte count comes from a table of 33 entries indexed by significant
-/// bits: 1 for 0 to 7, then 2 to 14, 3 to 21, 4 to 28, 5 to 32."
-const BYTE_COUNT: [usize; 33] = [
-    1, 1, 1, 1, 1, 1, 1, 1, //
-    2, 2, 2, 2, 2, 2, 2, //
-    3, 3, 3, 3, 3, 3, 3, //
-    4, 4, 4, 4, 4, 4, 4, //
-    5, 5, 5, 5,
-];
-
-/// Fewest bytes that hold `number`.
+/// Fewest bytes that hold `number`. S-5: "The 33 lengths are to be replaced by
+/// their formula, significant bits plus 6, divided by 7 and rounded down, at
+/// least 1." Only 0 needs the last words: it has no significant bits, and takes
+/// a byte all the same.
 #[must_use]
+#[allow(clippy::manual_div_ceil)] // the formula stands as the paper words it
 pub fn byte_count(number: u32) -> usize {
+    // "Significant bits are 32 less the leading zeros."
     let significant_bits = 32 - number.leading_zeros();
-    BYTE_COUNT[significant_bits as usize]
+    ((significant_bits + 6) / 7).max(1) as usize
 }
 
 /// Reads the number at place `at` and gives it with the place behind it.

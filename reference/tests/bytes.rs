@@ -1,6 +1,6 @@
 //! Numbers, tables, events and headers as bytes: refusals 1 to 10, 35
-//! and 42, the order of checking, and what buffers keep. More of 42 is in
-//! `padding.rs`.
+//! and 42, the order of checking, what buffers keep, and the byte count (S-5)
+//! against the lengths of document 01. More of 42 is in `padding.rs`.
 
 mod common;
 
@@ -13,13 +13,72 @@ use lsq_ref::table::{Access, Group, Pair, Table};
 
 // Numbers.
 
+/// The least and the greatest number of each count of significant bits, 0 to 32.
+fn least_and_greatest() -> impl Iterator<Item = (u32, u32)> {
+    (0..=32).flat_map(|bits| {
+        let beyond = 1u64 << bits;
+        [beyond / 2, beyond - 1].map(|number| (bits, number as u32))
+    })
+}
+
+/// Document 01's own list, "1 for 0 to 7, then 2 to 14, 3 to 21, 4 to 28, 5 to
+/// 32": S-5 replaces it in the crate, and here it says what the formula is to give.
+fn listed_length(significant_bits: u32) -> usize {
+    match significant_bits {
+        0..=7 => 1,
+        8..=14 => 2,
+        15..=21 => 3,
+        22..=28 => 4,
+        29..=32 => 5,
+        _ => panic!("{significant_bits} bits are more than a number has"),
+    }
+}
+
+/// The groups of seven bits, taken off one by one until nothing is left; 0 has
+/// one as well.
+fn groups_of_seven(number: u32) -> usize {
+    let mut count = 1;
+    let mut rest = number / 128;
+    while rest > 0 {
+        count += 1;
+        rest /= 128;
+    }
+    count
+}
+
 #[test]
 fn byte_counts_follow_significant_bits() {
-    for bits in 0..=32u32 {
-        let most = ((1u64 << bits) - 1) as u32;
-        let bytes = bits.div_ceil(7).max(1) as usize;
-        assert_eq!(byte_count(most), bytes, "{bits} bits");
-        assert_eq!(byte_count(most ^ most >> 1), bytes, "only bit {bits}");
+    for (bits, number) in least_and_greatest() {
+        let count = byte_count(number);
+        assert_eq!(count, listed_length(bits), "{number} of {bits} bits");
+        assert_eq!(count, groups_of_seven(number), "{number} of {bits} bits");
+    }
+}
+
+/// The least numbers, those on both sides of each step of the byte count and the
+/// greatest, with their bytes worked out by hand. 127 and 128, the first step, are
+/// K2 and K3 in `known.rs`.
+const STEPS: [(u32, &[u8]); 9] = [
+    (0, &[0x00]),
+    (1, &[0x01]),
+    (16_383, &[0xFF, 0x7F]),
+    (16_384, &[0x80, 0x80, 0x01]),
+    (2_097_151, &[0xFF, 0xFF, 0x7F]),                 // 2^21 - 1
+    (2_097_152, &[0x80, 0x80, 0x80, 0x01]),           // 2^21
+    (268_435_455, &[0xFF, 0xFF, 0xFF, 0x7F]),         // 2^28 - 1
+    (268_435_456, &[0x80, 0x80, 0x80, 0x80, 0x01]),   // 2^28
+    (4_294_967_295, &[0xFF, 0xFF, 0xFF, 0xFF, 0x0F]), // 2^32 - 1
+];
+
+#[test]
+fn numbers_at_the_steps_of_the_byte_count() {
+    for (number, bytes) in STEPS {
+        let count = bytes.len();
+        assert_eq!(byte_count(number), count, "{number}");
+        let mut buffer = [0xEE; 6];
+        assert_eq!(write_number(number, &mut buffer), Ok(count), "{number}");
+        assert_eq!(buffer[..count], *bytes, "{number}");
+        assert_eq!(buffer[count..], [0xEE; 6][count..], "{number}");
     }
 }
 
@@ -60,10 +119,15 @@ fn number_refusals() {
 
 #[test]
 fn short_number_buffer_keeps_its_contents() {
-    let mut buffer = [0xEE; 4];
-    assert_eq!(write_number(u32::MAX, &mut buffer), Err(10));
-    assert_eq!(buffer, [0xEE; 4]);
-    assert_eq!(write_number(0, &mut []), Err(10));
+    for (bits, number) in least_and_greatest() {
+        let count = listed_length(bits);
+        let mut short = vec![0xEE; count - 1];
+        assert_eq!(write_number(number, &mut short), Err(10), "{number}");
+        assert_eq!(short, vec![0xEE; count - 1], "{number}");
+        // One byte more is enough.
+        let mut exact = vec![0xEE; count];
+        assert_eq!(write_number(number, &mut exact), Ok(count), "{number}");
+    }
 }
 
 // Tables.

@@ -1,7 +1,7 @@
 -- Laws that the functions' proofs cite, one file a topic.
 pub mod Both
 pub mod ReplyLaws
-pub mod Rule
+pub mod Lengths
 pub mod NumberLaws
 pub mod SpliceLaws
 pub mod PutLaws

@@ -1,36 +1,36 @@
--- Laws of reading and writing numbers.
-use Prim.Native.Nat.{ℕ, zero, suc, _+_, _-_, _*_, _/_, _%_, _≤_, _<_, _^_}
+-- Laws of reading numbers.
+use Prim.Native.Nat.{ℕ, zero, suc, _+_, _-_, _*_, _≤_, _<_, _^_}
 use mathlib.Core.Path.{_≡_, refl, sym, ap, _∙_}
 use mathlib.Core.Bool.{Bool, true, false, not, _&&_}
 use mathlib.Core.List.{List, [], _∷_}
 use native.Mathlib.Omega.{arith}
 use native.Mathlib.Numerals.{add-one}
-use lib.Dec.{leb, ltb, eqb}
+use lib.Dec.{ltb, eqb}
 use lib.ListN.{length, getD, take, drop, length-drop, drop-of-length-le}
 use lib.Seq.{drop-cons, length-take-le, getD-take, getD-drop}
-use lib.Count.{leadingZeros, leading-length}
-use lib.Pow.{pow-mono}
-use native.Mathlib.Nat.{le-trans, pow-suc, add-mul, mul-assoc, mul-comm, mul-le-mul-left, mul-le-mul-right}
-use borrow.Author.Tests.{lt-ltb, le-ltb, le-leb, lt-leb, ltb-true, ltb-false, leb-true, leb-false}
-use Rattle.number.specs.Basics.{pick}
+use native.Mathlib.Nat.{add-mul, mul-assoc, mul-comm, mul-le-mul-left, mul-le-mul-right}
+use borrow.Author.Tests.{lt-ltb, le-ltb, le-leb, lt-leb}
 use Rattle.number.specs.Refusal.{ended, tooLarge, paddedNumber}
 use Rattle.number.specs.Reply.{Reply, refuse, accept, need}
 use Rattle.number.specs.Number.{Got, got, thenRead, above, numberUpTo, readNumber, placeOf, bytesBefore, lastOf, padded, reading, readIn}
-use Rattle.number.specs.Number.{significantBits, byteCount, bytesUpTo, numberBytes}
 use Rattle.number.specs.Internal.{endedBy}
 
 -- the place where what is left after `at` bytes begins
 pub place-drop : (s : List ℕ) (at : ℕ) → at ≤ length s → placeOf s (drop at s) ≡ at
 place-drop s at h = rw length-drop (omega arith)
 
--- numbers of one byte and up to `more` after it, the last of which is at most 0F, are below this
-abbrev pub numberBound : ℕ → ℕ
-numberBound zero = 16
-numberBound (suc more) = 128 * numberBound more
+-- numbers of one byte and up to `more` after it are below this where, of the most bytes that there may be, the last is at most `top`
+abbrev pub boundOf : ℕ → ℕ → ℕ
+boundOf top zero = suc top
+boundOf top (suc more) = 128 * boundOf top more
 
-pub bound-least : (more : ℕ) → 16 ≤ numberBound more
-bound-least zero = omega arith
-bound-least (suc more) = omega (arith, bound-least more)
+-- where it is at most 0F
+abbrev pub numberBound : ℕ → ℕ
+numberBound = boundOf 15
+
+pub bound-least : (top more : ℕ) → top < boundOf top more
+bound-least top zero = omega arith
+bound-least top (suc more) = omega (arith, bound-least top more)
 
 -- ---- reading a number byte by byte
 
@@ -89,7 +89,7 @@ number-begun {s} {at} =
 -- the scale tells whether the next group is the fifth
 module _ (scale : ℕ) where
   scale-most : (more : ℕ) → scale * numberBound (suc more) ≡ 2 ^ 32 → scale * 128 ≤ 2 ^ 28
-  scale-most more r = omega (arith, mul-assoc scale 128 (numberBound more), mul-le-mul-left (scale * 128) (bound-least more))
+  scale-most more r = omega (arith, mul-assoc scale 128 (numberBound more), mul-le-mul-left (scale * 128) (bound-least 15 more))
 
   fifth : (more : ℕ) → scale * numberBound more ≡ 2 ^ 32 → 2 ^ 28 ≤ scale → more ≡ 0
   fifth zero r h = refl
@@ -184,56 +184,3 @@ module _ {s : List ℕ} {at value scale place : ℕ} (w : NumberSoFar s at value
       pub number-too-large : 15 < getD s place 0 → refuse tooLarge ≡ readIn s (readNumber (drop at s))
       unfolding readNumber
       number-too-large k = rw (w .is, none, up-too-large s place h k)
-
--- ---- how long a number is
-
--- the significant bits of n are at most k just where n is below 2 ^ k
-bits-below : (k n : ℕ) → n < 2 ^ 32 → leb (significantBits n) k ≡ ltb n (2 ^ k)
-bits-below k n h =
-    let (m, e, low, high) = leading-length 32 n h in
-    let q : 32 - leadingZeros 32 n ≡ m = omega arith in
-    rw q (go m low high (leb m k) refl)
-  where
-    go : (m : ℕ) → n < 2 ^ m → 2 ^ m ≤ 2 * n + 1 → (t : Bool) → leb m k ≡ t → leb m k ≡ ltb n (2 ^ k)
-    go m low high true e = rw (e, lt-ltb n (2 ^ k) (le-trans low (pow-mono (leb-true m k e))))
-    go m low high false e =
-        let g : 2 ^ suc k ≤ 2 ^ m = pow-mono (leb-false m k e) in
-        let d : 2 ^ suc k ≡ 2 ^ k * 2 = pow-suc 2 k in
-        rw (e, le-ltb n (2 ^ k) (omega arith))
-
--- a quotient by 128 is below a bound just where the number is below 128 times it
-div-below : (n b c : ℕ) → c ≡ 128 * b → ltb (n / 128) b ≡ ltb n c
-div-below n b c e = go (ltb n c) refl
-  where
-    go : (t : Bool) → ltb n c ≡ t → ltb (n / 128) b ≡ t
-    go true h = let k = ltb-true n c h in lt-ltb (n / 128) b (omega arith)
-    go false h = let k = ltb-false n c h in le-ltb (n / 128) b (omega arith)
-
--- the writer's bytes of a number are as many as its significant bits call for
-pub number-length-law : (n : ℕ) → n < 2 ^ 32 → byteCount (significantBits n) ≡ length (numberBytes n)
-unfolding bytesUpTo
-number-length-law n h =
-    rw (
-      bits-below 7 n h,
-      bits-below 14 n h,
-      bits-below 21 n h,
-      bits-below 28 n h,
-      div-below n 128 (2 ^ 14) refl,
-      div-below (n / 128) 128 (2 ^ 14) refl,
-      div-below n (2 ^ 14) (2 ^ 21) refl,
-      div-below (n / 128 / 128) 128 (2 ^ 14) refl,
-      div-below (n / 128) (2 ^ 14) (2 ^ 21) refl,
-      div-below n (2 ^ 21) (2 ^ 28) refl,
-    )
-    (go (ltb n (2 ^ 7)) (ltb n (2 ^ 14)) (ltb n (2 ^ 21)) (ltb n (2 ^ 28)))
-  where
-    go : (a b c d : Bool)
-        → pick a 1 (pick b 2 (pick c 3 (pick d 4 5))) ≡ length
-        (pick a (n ∷ []) ((128 + n % 128) ∷ pick b (n / 128 ∷ [])
-        ((128 + n / 128 % 128) ∷ pick c (n / 128 / 128 ∷ [])
-        ((128 + n / 128 / 128 % 128) ∷ pick d (n / 128 / 128 / 128 ∷ []) ((128 + n / 128 / 128 / 128 % 128) ∷ n / 128 / 128 / 128 / 128 ∷ [])))))
-    go true b c d = refl
-    go false true c d = refl
-    go false false true d = refl
-    go false false false true = refl
-    go false false false false = refl

@@ -13,20 +13,20 @@ use Rattle.number.specs.Refusal.{ended, tooLarge, paddedNumber}
 use Rattle.number.specs.Reply.{Reply, refuse, accept}
 use Rattle.number.specs.Number.{Got, got, above, numberUpTo, readNumber, placeOf, bytesBefore, lastOf, padded, reading, readIn}
 use Rattle.number.specs.Number.{bytesUpTo, numberBytes, bytesOf, Fit, fit-none, fit-one, isByte, AreBytes}
-use Rattle.number.specs.Number.{WrittenAreBytes, NumbersReadBack, NumbersAreWritten, PaddingIsRefused, NumberLength, FewestBytes}
+use Rattle.number.specs.Number.{WrittenAreBytes, NumbersReadBack, NumbersAreWritten, PaddingIsRefused, FewestBytes}
 use Rattle.number.proofs.Both.{and-left, and-right}
 use Rattle.number.proofs.ReplyLaws.{refused-accepted, of-read, need-accepts, thenRead-accepts, refusesAmong, refused-among, need-among, thenRead-among}
-use Rattle.number.proofs.NumberLaws.{numberBound, bound-least, place-drop, number-length-law}
+use Rattle.number.proofs.NumberLaws.{boundOf, numberBound, bound-least, place-drop}
 
 -- ---- what is read
 
 -- The bytes of a number that was read, the first of them and the others: they stand before the rest, are no fewer than the writer's,
 -- and are the writer's unless they are padded.
-pub record BytesRead (more : ℕ) (s : List ℕ) (n : ℕ) (rest : List ℕ) : Type 0 where
+pub record BytesRead (more top : ℕ) (s : List ℕ) (n : ℕ) (rest : List ℕ) : Type 0 where
   pub first : ℕ
   pub others : List ℕ
   pub whole : s ≡ (first ∷ others) ++ rest
-  pub fits : AreBytes s → n < numberBound more
+  pub fits : AreBytes s → n < boundOf top more
   pub fewest : AreBytes s → length (bytesUpTo more n) ≤ suc (length others)
   pub some : eqb (lastOf (first ∷ others)) 0 ≡ false → 0 < n
   pub written : AreBytes s → padded (first ∷ others) ≡ false → first ∷ others ≡ bytesUpTo more n
@@ -35,8 +35,8 @@ some-left : (b : ℕ) → eqb b 0 ≡ false → 0 < b
 some-left b e = let z = eqb-false b 0 e in omega arith
 
 -- a number of one byte
-one-byte : (more b : ℕ) (s : List ℕ) → b < numberBound more → bytesUpTo more b ≡ b ∷ [] → BytesRead more (b ∷ s) b s
-one-byte more b s h e = record {
+one-byte : (more top b : ℕ) (s : List ℕ) → b < boundOf top more → bytesUpTo more b ≡ b ∷ [] → BytesRead more top (b ∷ s) b s
+one-byte more top b s h e = record {
   first = b;
   others = [];
   whole = refl;
@@ -47,10 +47,10 @@ one-byte more b s h e = record {
 }
 
 -- a byte with bit 7 before the bytes of a number of higher groups
-byte-more : (more b : ℕ) (s : List ℕ) (m : ℕ) (rest : List ℕ) → 128 ≤ b → BytesRead more s m rest
-    → BytesRead (suc more) (b ∷ s) (b - 128 + 128 * m) rest
+byte-more : (more top b : ℕ) (s : List ℕ) (m : ℕ) (rest : List ℕ) → 128 ≤ b → BytesRead more top s m rest
+    → BytesRead (suc more) top (b ∷ s) (b - 128 + 128 * m) rest
 unfolding bytesUpTo
-byte-more more b s m rest h w = record {
+byte-more more top b s m rest h w = record {
   first = b;
   others = w .first ∷ w .others;
   whole = ap (λ (l : List ℕ). b ∷ l) (w .whole);
@@ -83,20 +83,20 @@ byte-more more b s m rest h w = record {
         go true f = f
         go false f = refl
 
-pub bytes-read : (more : ℕ) (s : List ℕ) {n : ℕ} {rest : List ℕ} → numberUpTo more 15 s ≡ accept (got n rest) → BytesRead more s n rest
+pub bytes-read : (more top : ℕ) (s : List ℕ) {n : ℕ} {rest : List ℕ} → numberUpTo more top s ≡ accept (got n rest) → BytesRead more top s n rest
 unfolding numberUpTo bytesUpTo
-bytes-read more [] e = refused-accepted e
-bytes-read zero (b ∷ s) {n} {rest} e =
-    let (t, d) = need-accepts (leb b 15) tooLarge (accept (got b s)) e in
-    of-read (BytesRead _ _) d (one-byte zero b s (omega (arith, leb-true b 15 t)) refl)
-bytes-read (suc more) (b ∷ s) {n} {rest} e = go (ltb b 128) refl (λ m r d. bytes-read more s d) e
+bytes-read more top [] e = refused-accepted e
+bytes-read zero top (b ∷ s) {n} {rest} e =
+    let (t, d) = need-accepts (leb b top) tooLarge (accept (got b s)) e in
+    of-read (BytesRead _ _ _) d (one-byte zero top b s (omega (arith, leb-true b top t)) refl)
+bytes-read (suc more) top (b ∷ s) {n} {rest} e = go (ltb b 128) refl (λ m r d. bytes-read more top s d) e
   where
-    go : (t : Bool) → ltb b 128 ≡ t → ((m : ℕ) (r : List ℕ) → numberUpTo more 15 s ≡ accept (got m r) → BytesRead more s m r)
-        → pick t (accept (got b s)) (above (b - 128) (numberUpTo more 15 s)) ≡ accept (got n rest) → BytesRead (suc more) (b ∷ s) n rest
-    go true k ih d = of-read (BytesRead _ _) d (one-byte (suc more) b s (omega (arith, ltb-true b 128 k, bound-least more)) (rw k))
+    go : (t : Bool) → ltb b 128 ≡ t → ((m : ℕ) (r : List ℕ) → numberUpTo more top s ≡ accept (got m r) → BytesRead more top s m r)
+        → pick t (accept (got b s)) (above (b - 128) (numberUpTo more top s)) ≡ accept (got n rest) → BytesRead (suc more) top (b ∷ s) n rest
+    go true k ih d = of-read (BytesRead _ _ _) d (one-byte (suc more) top b s (omega (arith, ltb-true b 128 k, bound-least top more)) (rw k))
     go false k ih d =
-        let (m, r, f, g) = thenRead-accepts (numberUpTo more 15 s) (λ x l. accept (got (b - 128 + 128 * x) l)) d in
-        of-read (BytesRead _ _) g (byte-more more b s m r (ltb-false b 128 k) (ih m r f))
+        let (m, r, f, g) = thenRead-accepts (numberUpTo more top s) (λ x l. accept (got (b - 128 + 128 * x) l)) d in
+        of-read (BytesRead _ _ _) g (byte-more more top b s m r (ltb-false b 128 k) (ih m r f))
 
 -- a number that was read passed 1 and 2, and is not padded
 read-accepts : (s : List ℕ) {n : ℕ} {rest : List ℕ} → readNumber s ≡ accept (got n rest)
@@ -127,7 +127,7 @@ all-back p (x ∷ xs) ys e = all-back p xs ys (and-right (p x) _ e)
 pub number-written : (s : List ℕ) {n : ℕ} {rest : List ℕ} → AreBytes s → readNumber s ≡ accept (got n rest) → NumberWritten s n rest
 number-written s {n} {rest} a e =
     let (f, p) = read-accepts s e in
-    let w = bytes-read 4 s f in
+    let w = bytes-read 4 15 s f in
     let bytes = w .first ∷ w .others in
     let is : bytesBefore s rest ≡ bytes = ap (λ (l : List ℕ). bytesBefore l rest) (w .whole) ∙ before-rest bytes rest in
     let q : padded bytes ≡ false = ap padded (sym is) ∙ p in
@@ -238,7 +238,7 @@ padding-is-refused s a = (there (numberUpTo 4 15 s) refl, back)
     other : (n : ℕ) (rest : List ℕ) → readNumber s ≡ refuse paddedNumber → numberUpTo 4 15 s ≡ accept (got n rest)
         → s ≡ numberBytes n ++ rest → ⊥
     other n rest e f w =
-        let h : n < 2 ^ 32 = bytes-read 4 s f .fits a in
+        let h : n < 2 ^ 32 = bytes-read 4 15 s f .fits a in
         refused-accepted (sym e ∙ numbers-are-written s rest n a .1 (h, w))
 
     there : (r : Reply (Got ℕ)) → numberUpTo 4 15 s ≡ r → readNumber s ≡ refuse paddedNumber → Found
@@ -260,13 +260,10 @@ padding-is-refused s a = (there (numberUpTo 4 15 s) refl, back)
             let d : readNumber s ≡ accept (got n rest) = rw (f, e) in
             absurd (z (number-written s a d .whole))
 
--- ---- how long numbers are
-pub number-length : NumberLength
-number-length n h = sym (number-length-law n h)
-
+-- ---- the writer's bytes are the fewest
 pub fewest-bytes : FewestBytes
-fewest-bytes s rest n a e =
-    let w = bytes-read 4 s e in
+fewest-bytes more top n s rest a e =
+    let w = bytes-read more top s e in
     omega (arith, w .fewest a, ap length (w .whole), length-append (w .first ∷ w .others) rest)
 
 -- what is left is the last part of the bytes, of which `least` or more are read
@@ -278,7 +275,7 @@ pub record Left (s rest : List ℕ) (least : ℕ) : Type 0 where
 
 pub number-left : (s : List ℕ) {n : ℕ} {rest : List ℕ} → readNumber s ≡ accept (got n rest) → Left s rest 1
 number-left s {n} {rest} e =
-    let w = bytes-read 4 s (read-accepts s e .0) in
+    let w = bytes-read 4 15 s (read-accepts s e .0) in
     let k = suc (length (w .others)) in
     record {
       front = k;

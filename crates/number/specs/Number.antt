@@ -1,7 +1,7 @@
 -- Numbers. Document 01, "Bytes and tables": "A number is 32 bits without sign, in groups of seven bits, lowest group first;
 -- bit 7 of a byte means that another follows. .. the writer uses the fewest bytes." S-4 of document 02: "A number of more than one
 -- byte whose last byte is 00 is refused, in tables and traces."
-use Prim.Native.Nat.{ℕ, zero, suc, _+_, _-_, _*_, _/_, _%_, _≤_, _<_, _^_}
+use Prim.Native.Nat.{ℕ, zero, suc, _+_, _-_, _*_, _/_, _%_, _≤_, _<_, _^_, max}
 use mathlib.Core.Path.{_≡_}
 use mathlib.Core.Bool.{Bool, true, not, _&&_}
 use mathlib.Core.List.{List, [], _∷_, _++_}
@@ -85,13 +85,16 @@ numberReply (Refused k) = refuse k
 abbrev pub numberRefusal : NumberRead → ℕ
 numberRefusal read = number (numberReply read)
 
--- "Significant bits are 32 less the leading zeros, and the byte count comes from a table of 33 entries indexed by significant
--- bits: 1 for 0 to 7, then 2 to 14, 3 to 21, 4 to 28, 5 to 32."
-abbrev pub significantBits : ℕ → ℕ
-significantBits n = 32 - leadingZeros 32 n
+-- "Significant bits are 32 less the leading zeros"; of a number of another width, that width less them.
+abbrev pub significantBitsIn : ℕ → ℕ → ℕ
+significantBitsIn width n = width - leadingZeros width n
 
+abbrev pub significantBits : ℕ → ℕ
+significantBits = significantBitsIn 32
+
+-- S-5, of the byte count: "significant bits plus 6, divided by 7 and rounded down, at least 1."
 abbrev pub byteCount : ℕ → ℕ
-byteCount bits = pick (leb bits 7) 1 (pick (leb bits 14) 2 (pick (leb bits 21) 3 (pick (leb bits 28) 4 5)))
+byteCount bits = max 1 ((bits + 6) / 7)
 
 -- The bytes that the writer uses: one, and up to `more` after it.
 unfoldable pub bytesUpTo : ℕ → ℕ → List ℕ
@@ -147,7 +150,7 @@ pub record PutIfFits (buffer : List ℕ) (at : ℕ) (bytes : List ℕ) (r : ℕ)
   pub ends : r ≡ pick (leb (at + length bytes) (length buffer)) (at + length bytes) at
   pub is : left ≡ pick (leb (at + length bytes) (length buffer)) (splice buffer at bytes) buffer
 
--- ---- what reading and writing promise together; the proofs are proofs/RoundTrip.antt
+-- ---- what reading and writing promise together; the proofs are proofs/RoundTrip.antt, and proofs/Lengths.antt for how long numbers are
 
 -- every number is one of 32 bits
 pub data Fit : List ℕ → Type 0 where
@@ -182,11 +185,29 @@ PaddingIsRefused =
     (readNumber s ≡ refuse paddedNumber)
     ↔ ((n : ℕ) × (rest : List ℕ) × (numberUpTo 4 15 s ≡ accept (got n rest)) × (s ≡ numberBytes n ++ rest → ⊥))
 
--- What is written is as long as the byte count of its significant bits; and no bytes that stand for the number, padded or not, are
--- fewer.
+-- Significant bits are the fewest that hold a number: for numbers of any width, and so for those of 32 bits.
+abbrev pub FewestBits : ℕ → (ℕ → ℕ) → Type 0
+FewestBits width bits = (n k : ℕ) → n < 2 ^ width → (bits n ≤ k) ↔ (n < 2 ^ k)
+
+abbrev pub BitsAreFewest : Type 0
+BitsAreFewest = ((width : ℕ) → FewestBits width (significantBitsIn width)) × FewestBits 32 significantBits
+
+-- What is written is as long as the byte count of its significant bits: for numbers of any width, where the most bytes that there may
+-- be hold them, seven bits in each; and so for those of 32 bits, in up to 5.
+abbrev pub NumberLengths : Type 0
+NumberLengths =
+    (width more n : ℕ) → n < 2 ^ width → n < 128 ^ (1 + more) → length (bytesUpTo more n) ≡ byteCount (significantBitsIn width n)
+
 abbrev pub NumberLength : Type 0
 NumberLength = (n : ℕ) → n < 2 ^ 32 → length (numberBytes n) ≡ byteCount (significantBits n)
 
+-- The byte count is the fewest that will do: k bytes are enough just where k is at least 1 and the number is below 128 ^ k.
+abbrev pub CountsAreFewest : Type 0
+CountsAreFewest = (width n k : ℕ) → n < 2 ^ width → (byteCount (significantBitsIn width n) ≤ k) ↔ ((0 < k) × (n < 128 ^ k))
+
+-- No bytes that stand for a number, padded or not, are fewer than those that are written, whatever `more` and `top` are; for 32 bits
+-- they are 4 and 0F.
 abbrev pub FewestBytes : Type 0
 FewestBytes =
-    (s rest : List ℕ) (n : ℕ) → AreBytes s → numberUpTo 4 15 s ≡ accept (got n rest) → length (numberBytes n) + length rest ≤ length s
+    (more top n : ℕ) (s rest : List ℕ) → AreBytes s → numberUpTo more top s ≡ accept (got n rest)
+    → length (bytesUpTo more n) + length rest ≤ length s

@@ -6,50 +6,17 @@ ghost use Rattle.number.specs.Number.{numberBytes, byteCount, significan
 use crate::BytesWritten;
 use crate::refusal::TOO_SHORT;
 
-// How many bytes a number takes, by its significant bits.
-const LENGTHS: [u8; 33] = [
-    1,
-    1,
-    1,
-    1,
-    1,
-    1,
-    1,
-    1,
-    2,
-    2,
-    2,
-    2,
-    2,
-    2,
-    2,
-    3,
-    3,
-    3,
-    3,
-    3,
-    3,
-    3,
-    4,
-    4,
-    4,
-    4,
-    4,
-    4,
-    4,
-    5,
-    5,
-    5,
-    5,
-];
-
-// How many bytes the writer uses for a number.
+// How many bytes the writer uses for a number: up to seven of its significant bits go in each, and 0, which has none, takes one.
 pub fn number_length(value: u32) -> usize
     ensures { λ r. ⌜ r ≡ byteCount (significantBits value) ⌝ }
     ensures { λ r. ⌜ r ≡ length (numberBytes value) ⌝ }
 {
-    let bits = (32 - u32::leading_zeros(value)) as usize;
-    LENGTHS[bits] as usize
+    let bits = 32 - u32::leading_zeros(value);
+    let count = (bits + 6) / 7;
+    if count < 1 {
+        return 1;
+    }
+    count as usize
 }
 
 // Puts a number's bytes at a place where they fit, and says where they end.

@@ -13,10 +13,6 @@ use check::Check;
 use source::Sources;
 
 const TEXT_SPECS: &str = "crates/printed/specs/Outcome.antt";
-const LENGTHS: [(&str, &str); 2] = [
-    ("crates/number/src/writing.rt", "const LENGTHS: [u8; "),
-    ("reference/src/number.rs", "const BYTE_COUNT: [usize; "),
-];
 const VERSIONS: [(&str, &str); 2] = [
     ("bindings/c/lsq.h", "#define LSQ_VERSION \""),
     ("bindings/rust/Cargo.toml", "version = \""),
@@ -48,7 +44,6 @@ fn sources() -> Sources {
     let paths = places.iter().map(|place| place.path);
     let paths = paths.chain(refusals::PATHS).chain(layout::PATHS);
     let paths = paths.chain(answers::PATHS).chain([TEXT_SPECS]);
-    let paths = paths.chain(LENGTHS.map(|(path, _)| path));
     let paths = paths.chain(VERSIONS.map(|(path, _)| path));
     let paths = paths.map(String::from).chain(whole()).chain(crates());
     Sources::read(paths)
@@ -61,7 +56,6 @@ fn checked(sources: &Sources) -> Check {
     layout::read(&mut check, sources);
     answers::read(&mut check, sources);
     longest_text(&mut check, sources);
-    byte_counts(&mut check, sources);
     versions(&mut check, sources);
     let compiled = "bindings/rust/src/saved.rs, as compiled,".into();
     check.say("bytes of a saved queue", compiled, lsq::QUEUE_BYTES);
@@ -86,32 +80,6 @@ fn longest_text(check: &mut Check, sources: &Sources) {
     [event, word, last]
         .iter()
         .for_each(|&&numeral| check.mark(source, numeral));
-}
-
-/// The bytes of a number by its significant bits: 33 numbers.
-fn byte_counts(check: &mut Check, sources: &Sources) {
-    for (path, head) in LENGTHS {
-        let source = sources.get(path);
-        let part = source.text.find(head).and_then(|start| {
-            let length = source.text[start..].find("];")?;
-            Some(start..start + length)
-        });
-        let Some(part) = part else {
-            check.fault(format!("{path}: nothing like `{head}`"));
-            continue;
-        };
-        let numerals = source.numerals_in(&part);
-        let value = |&numeral: &usize| source.numerals[numeral].value.to_string();
-        let values: Vec<String> = numerals.iter().map(value).collect();
-        check.say(
-            "bytes of numbers, by bits",
-            source.place(part.start),
-            values.join(" "),
-        );
-        numerals
-            .iter()
-            .for_each(|&numeral| check.mark(source, numeral));
-    }
 }
 
 /// The version of `lsq.h` and of the wrapper.

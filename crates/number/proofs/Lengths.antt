@@ -77,7 +77,7 @@ number-lengths width more n h fits =
     length-by-bits more (significantBitsIn width n) n room b
 
 pub number-length : NumberLength
-number-length n h = number-lengths 32 4 n (omega arith) (omega arith)
+number-length n h = number-lengths _ 4 n h (omega arith)
 
 -- the same the other way round, as the proof of `number_length` cites it
 pub number-length-law : (n : ℕ) → n < 2 ^ 32 → byteCount (significantBits n) ≡ length (numberBytes n)

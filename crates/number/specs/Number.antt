@@ -150,7 +150,7 @@ pub record PutIfFits (buffer : List ℕ) (at : ℕ) (bytes : List ℕ) (r : ℕ)
   pub ends : r ≡ pick (leb (at + length bytes) (length buffer)) (at + length bytes) at
   pub is : left ≡ pick (leb (at + length bytes) (length buffer)) (splice buffer at bytes) buffer
 
--- ---- what reading and writing promise together; the proofs are proofs/RoundTrip.antt, and proofs/Lengths.antt for how long numbers are
+-- ---- what reading and writing promise together; the proofs are proofs/RoundTrip.antt
 
 -- every number is one of 32 bits
 pub data Fit : List ℕ → Type 0 where
@@ -184,6 +184,8 @@ PaddingIsRefused =
     (s : List ℕ) → AreBytes s →
     (readNumber s ≡ refuse paddedNumber)
     ↔ ((n : ℕ) × (rest : List ℕ) × (numberUpTo 4 15 s ≡ accept (got n rest)) × (s ≡ numberBytes n ++ rest → ⊥))
+
+-- ---- how long numbers are; the proofs are proofs/Lengths.antt, that of `FewestBytes` proofs/RoundTrip.antt
 
 -- Significant bits are the fewest that hold a number: for numbers of any width, and so for those of 32 bits.
 abbrev pub FewestBits : ℕ → (ℕ → ℕ) → Type 0

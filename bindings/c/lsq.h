@@ -1,8 +1,9 @@
 /* The group-allocated load-store queue: the functions of two libraries, which
  * `rt staticlib exports` and `rt staticlib live` write to target/staticlib/, and
  * a live queue on top. libexports.a has the replays, the text and the share;
- * liblive.a the calls on a queue, the shift record and its page, and tables,
- * numbers and events as bytes. A program links those that it calls.
+ * liblive.a the calls on a queue, the shift record and its page, a group's order
+ * from pairs and its table, and tables, numbers and events as bytes. A program
+ * links those that it calls.
  *
  * What is proved, and what is not. Every function that is declared here and
  * not defined is one of the libraries': its whole outcome, for whatever it is
@@ -80,7 +81,10 @@ enum lsq_answer {
     LSQ_FILE_TOO_LONG = 36,         /* above 16,384 bytes; in the text of lsq_text alone */
     LSQ_UNSOUND = 40,               /* no right queue: see lsq_sound_in */
     LSQ_PAGE_TOO_SHORT = 41,        /* a page buffer has fewer than 1,394 bytes */
-    LSQ_PADDED_NUMBER = 42          /* the last of a number's several bytes is 00 */
+    LSQ_PADDED_NUMBER = 42,         /* the last of a number's several bytes is 00 */
+    LSQ_UNLISTED = 43,              /* more than 32 accesses or 64 pairs, or a pair naming an
+                                       access not listed */
+    LSQ_CIRCLE = 44                 /* a circle of pairs */
 };
 
 /* 0 where the bytes are a right table, else 1 to 9 or 42. */
@@ -200,6 +204,54 @@ lsq_written lsq_write_number(uint32_t value, uint8_t *out, size_t out_len);
  * with one number the second is not looked at. */
 lsq_written lsq_write_event(uint32_t kind, uint32_t first, uint32_t second,
                             uint8_t *out, size_t out_len);
+
+/* ---- A group's order from pairs, and its table ---- */
+
+/* The most accesses that can be ordered, and the most pairs. */
+#define LSQ_ACCESSES 32
+#define LSQ_PAIRS 64
+
+/* A pair: the access `first` has to come before the access `second`. */
+typedef struct lsq_precedence {
+    uint32_t first, second;
+} lsq_precedence;
+
+/* As many pairs as the count says. Places beyond it mean nothing. */
+typedef struct lsq_precedences {
+    uint32_t count;
+    lsq_precedence pairs[LSQ_PAIRS];
+} lsq_precedences;
+
+/* What ordering answers: 0 and the order, which is the first `count` places, or
+ * 43 or 44 and no access. The places beyond are 0 and mean nothing. */
+typedef struct lsq_ordered {
+    uint8_t answer, count, accesses[LSQ_ACCESSES];
+} lsq_ordered;
+
+/* The order of accesses that respects all pairs and is first when orders are
+ * compared by access number from the left: 43, then 44. Listed are the accesses
+ * below `accesses`; 0 accesses have the empty order. An access paired with itself
+ * is a circle. A repeated pair asks no more than one does, but each counts
+ * towards the LSQ_PAIRS. */
+lsq_ordered lsq_order(uint32_t accesses, lsq_precedences pairs);
+
+/* The kind and the port of each access, by its number: kind 0 is a load, and any
+ * other a store. Places of accesses that an order does not have mean nothing. */
+typedef struct lsq_accesses {
+    uint8_t kinds[LSQ_ACCESSES], ports[LSQ_ACCESSES];
+} lsq_accesses;
+
+/* The table whose one group has the accesses in this order, offsets counted. The
+ * group's program order is then the given order, and no offset is wrong: the
+ * table is right just where there are at most 16 of each kind and the ports are
+ * 0 to 31, each once among its kind. Where it is not right, lsq_write_table says
+ * which of 5, 6, 7 it is. A record from elsewhere than lsq_order may name an
+ * access twice; the group then has it twice.
+ *
+ * It is the table of no groups, 0 in every field, which writing and opening refuse
+ * with 4, where the record is a refusal, or has a count above LSQ_ACCESSES, or an
+ * access above 31 among the first `count`. */
+lsq_table lsq_table_in_order(lsq_ordered order, lsq_accesses accesses);
 
 /* ---- The shift record, and its page ---- */
 
@@ -587,6 +639,14 @@ LSQ_HOLDS(sizeof(lsq_step) == 28);
 LSQ_HOLDS(sizeof(lsq_service) == 20);
 LSQ_HOLDS(sizeof(lsq_listed) == 16);
 LSQ_HOLDS(sizeof(lsq_written) == 16);
+LSQ_HOLDS(sizeof(lsq_precedence) == 8);
+LSQ_HOLDS(offsetof(lsq_precedence, second) == 4);
+LSQ_HOLDS(sizeof(lsq_precedences) == 516);
+LSQ_HOLDS(offsetof(lsq_precedences, pairs) == 4);
+LSQ_HOLDS(sizeof(lsq_ordered) == 34);
+LSQ_HOLDS(offsetof(lsq_ordered, accesses) == 2);
+LSQ_HOLDS(sizeof(lsq_accesses) == 64);
+LSQ_HOLDS(offsetof(lsq_accesses, ports) == 32);
 LSQ_HOLDS(sizeof(lsq_shift_record) == 256);
 LSQ_HOLDS(offsetof(lsq_shift_record, values) == 128);
 LSQ_HOLDS(sizeof(lsq_replayed) == 260);

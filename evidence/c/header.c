@@ -1,6 +1,7 @@
 /* The inline functions of lsq.h under names that can be linked to, so that they
  * can be held to the reference as the library's own are; and the functions of the
- * shift record, so that C hands one over by value and gets one back. */
+ * shift record, of pairs and of orders, so that C hands one over by value and gets
+ * one back. */
 #include "lsq.h"
 
 uint32_t header_open(lsq_queue *q, const uint8_t *table, size_t table_len, uint32_t load_depth,
@@ -53,6 +54,16 @@ uint32_t header_take(lsq_queue *q, uint32_t port, uint32_t *value)
 uint32_t header_take_recorded(lsq_queue *q, lsq_shift_record *kept, uint32_t port, uint32_t *value)
 {
     return lsq_take_recorded(q, kept, port, value);
+}
+
+lsq_ordered header_order(uint32_t accesses, lsq_precedences pairs)
+{
+    return lsq_order(accesses, pairs);
+}
+
+lsq_table header_table_in_order(lsq_ordered order, lsq_accesses accesses)
+{
+    return lsq_table_in_order(order, accesses);
 }
 
 lsq_shift_record header_recorded(lsq_shift_record kept, uint32_t port, uint32_t value)

@@ -1,6 +1,6 @@
 //! The static library of the proved queue, held to the independent
-//! implementation in `reference/` (`differential`, `records`) and measured
-//! against it (`benchmark`).
+//! implementation in `reference/` (`differential`, `records`, `orders`) and
+//! measured against it (`benchmark`).
 
 #![deny(unsafe_code)]
 #![warn(missing_docs)]
@@ -10,9 +10,11 @@ pub mod cases;
 pub mod clock;
 pub mod compare;
 pub mod live;
+pub mod orders;
 pub mod program;
 pub mod shift;
 pub mod subject;
+pub mod tables;
 pub mod tally;
 pub mod timing;
 pub mod workloads;

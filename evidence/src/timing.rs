@@ -4,11 +4,13 @@ use std::hint::black_box;
 use std::time::Duration;
 
 use lsq::direct;
+use lsq_ref::ordering::order;
 use lsq_ref::replay::{replay, trace_fault, Lent};
 use lsq_ref::{Counts, Queue, Table};
 
 use crate::clock::processor_time;
 use crate::live::subject;
+use crate::orders::OrderCase;
 use crate::workloads::Workload;
 
 /// What is measured.
@@ -220,6 +222,34 @@ pub fn reading(workload: &Workload) -> [f64; 2] {
     let proved = || direct::trace_fault(black_box(table), black_box(trace));
     let reference = || u32::from(trace_fault(black_box(table), black_box(trace)));
     [best(&proved), best(&reference)]
+}
+
+/// Nanoseconds that an order from pairs takes, round by round: the library's and
+/// the reference's. Both are handed what was made before.
+#[must_use]
+pub fn ordering(case: &OrderCase, count: usize, sample: Duration) -> Vec<[f64; 2]> {
+    let (accesses, held) = (case.accesses, case.held());
+    let proved = || {
+        black_box(direct::order(black_box(accesses), *black_box(&case.pairs)));
+    };
+    let reference = || {
+        let _ = black_box(order(black_box(accesses), black_box(&held)));
+    };
+    let calls: [&dyn Fn(); 2] = [&proved, &reference];
+    let round = |_| calls.map(|call| per_call(call, sample));
+    (0..count).map(round).collect()
+}
+
+/// Nanoseconds per call, of as many as a sample lasts.
+fn per_call(call: &dyn Fn(), sample: Duration) -> f64 {
+    const AT_ONCE: u32 = 1_000;
+    let start = processor_time();
+    let mut calls = 0;
+    while processor_time() - start < sample {
+        (0..AT_ONCE).for_each(|_| call());
+        calls += AT_ONCE;
+    }
+    (processor_time() - start).as_nanos() as f64 / f64::from(calls)
 }
 
 /// The middle, the least and the greatest of some figures.

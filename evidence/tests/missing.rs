@@ -69,3 +69,14 @@ fn too_few_records_are_no_success() {
     assert!(printed.contains("but never tried"), "{printed}");
     assert!(printed.contains("calls through the C header"), "{printed}");
 }
+
+/// Nor have no cases of pairs.
+#[test]
+fn too_few_orders_are_no_success() {
+    let mut command = Command::new(env!("CARGO_BIN_EXE_orders"));
+    let ended = command.args(["1", "0"]).output().expect("orders");
+    let printed = String::from_utf8_lossy(&ended.stdout);
+    assert_eq!(ended.status.code(), Some(2), "{printed}");
+    assert!(printed.contains("but never tried"), "{printed}");
+    assert!(printed.contains("a count of 4294967295"), "{printed}");
+}

@@ -1,12 +1,14 @@
 //! Seeded inputs for comparing implementations: valid tables, traces that lean
 //! towards conflicts, full queues and the turn of the serials, damaged bytes,
-//! queue records that no opening leads to, calls on them, and shift records.
+//! queue records that no opening leads to, calls on them, shift records, and
+//! accesses with precedence pairs.
 
 use std::{array, mem};
 
 use crate::counts::Counts;
 use crate::event::{write_event, write_header, Event, Header};
 use crate::number::byte_count;
+use crate::ordering::{Precedence, MAX_LISTED, MAX_PAIRS};
 use crate::play::MAX_FILE;
 use crate::queue::{LoadEntry, Queue, Side, StoreEntry, TrustingQueue, MAX_DEPTH, MAX_MEMORY};
 use crate::rng::Rng;
@@ -992,4 +994,129 @@ fn serial_on<E>(rng: &mut Rng, side: &Side<E>) -> u32 {
         _ if held > 0 => side.serial_at(rng.below(held)),
         _ => 0,
     }
+}
+
+// Accesses and precedence pairs.
+
+/// A number of accesses and precedence pairs (S-6). The pairs go along a row of the
+/// accesses, so that there is no circle, and in every second case a circle is put
+/// among them; then one in twelve has an access that is not listed. More accesses
+/// or pairs than may be come now and then.
+pub fn ordering(rng: &mut Rng) -> (u32, Vec<Precedence>) {
+    let accesses = access_count(rng);
+    let count = pair_count(rng);
+    let row = row_of(rng, accesses);
+    let mut pairs = pairs_along(rng, &row, count);
+    if rng.chance(1, 2) && !row.is_empty() {
+        let circle = circle_of(rng, &row);
+        pairs.truncate(count.saturating_sub(circle.len()));
+        pairs.extend(circle);
+    }
+    if rng.chance(2, 3) {
+        rng.shuffle(&mut pairs);
+    }
+    if rng.chance(1, 12) {
+        name_unlisted(rng, accesses, &mut pairs);
+    }
+    (accesses, pairs)
+}
+
+/// Few and many, the edges often, a huge number now and then.
+fn access_count(rng: &mut Rng) -> u32 {
+    let any = rng.between(0, MAX_LISTED);
+    let few = rng.between(2, 6);
+    let most = rng.between(MAX_LISTED - 1, MAX_LISTED);
+    if rng.chance(1, 14) {
+        let huge = rng.pick(&[64, 256, 256 + any, 1 << 16, 1 << 31, u32::MAX]);
+        return rng.pick(&[MAX_LISTED + 1, MAX_LISTED + 1, huge]);
+    }
+    let least = rng.between(0, 1);
+    rng.pick(&[few, few, few, any, any, any, most, most, least])
+}
+
+/// Few and many, the edges often, up to two more than may be.
+fn pair_count(rng: &mut Rng) -> usize {
+    let any = rng.below(MAX_PAIRS + 1);
+    let few = rng.below(6);
+    match rng.chance(1, 12) {
+        true => MAX_PAIRS + 1 + rng.below(2),
+        false => rng.pick(&[few, few, any, any, MAX_PAIRS - 1, MAX_PAIRS]),
+    }
+}
+
+/// The accesses in some order, a few more than may be at most: rising, falling or
+/// mixed.
+fn row_of(rng: &mut Rng, accesses: u32) -> Vec<u32> {
+    let mut row: Vec<u32> = (0..accesses.min(MAX_LISTED + 2)).collect();
+    match rng.below(5) {
+        0 => {}
+        1 => row.reverse(),
+        _ => rng.shuffle(&mut row),
+    }
+    row
+}
+
+/// So many pairs along the row, if it has two accesses: in one of three cases a
+/// chain through the whole row comes first, as far as the pairs reach; the others
+/// go any distance forward or repeat one.
+fn pairs_along(rng: &mut Rng, row: &[u32], count: usize) -> Vec<Precedence> {
+    let mut pairs = Vec::new();
+    if row.len() < 2 {
+        return pairs;
+    }
+    if rng.chance(1, 3) {
+        pairs.extend(row.windows(2).map(|two| precedence(two[0], two[1])));
+        pairs.truncate(count);
+    }
+    let repeats = rng.pick(&[0, 0, 1, 3, 4]);
+    while pairs.len() < count {
+        if rng.chance(repeats, 4) && !pairs.is_empty() {
+            pairs.push(rng.pick(&pairs));
+            continue;
+        }
+        let later = 1 + rng.below(row.len() - 1);
+        let earlier = rng.below(later);
+        pairs.push(precedence(row[earlier], row[later]));
+    }
+    pairs
+}
+
+/// The pairs of a circle: of one access, of two, of some or of all; in every second
+/// case of those farthest from access 0.
+fn circle_of(rng: &mut Rng, row: &[u32]) -> Vec<Precedence> {
+    let some = 1 + rng.below(row.len());
+    let length = rng.pick(&[1, 1, 2, 2, 3, some, row.len()]).min(row.len());
+    let mut members = row.to_vec();
+    match rng.chance(1, 2) {
+        true => members.sort_by(|a, b| b.cmp(a)),
+        false => rng.shuffle(&mut members),
+    }
+    members.truncate(length);
+    rng.shuffle(&mut members);
+    let next = members.iter().cycle().skip(1);
+    let pairs = members.iter().zip(next);
+    pairs.map(|(&a, &b)| precedence(a, b)).collect()
+}
+
+/// Changes a pair, or adds one, so that it names an access that is not listed: one
+/// just outside, a huge one, or one that ends in the bits of a listed one.
+fn name_unlisted(rng: &mut Rng, accesses: u32, pairs: &mut Vec<Precedence>) {
+    let other = rng.between(0, MAX_LISTED);
+    let next = accesses.saturating_add(rng.between(0, 1));
+    let cut = rng.pick(&[256, 1 << 16]) + other;
+    let any = rng.word();
+    let unlisted = rng.pick(&[accesses, next, MAX_LISTED, cut, any, u32::MAX]);
+    let unlisted = unlisted.max(accesses);
+    if pairs.is_empty() {
+        pairs.push(precedence(unlisted, unlisted));
+    }
+    let at = rng.below(pairs.len());
+    match rng.chance(1, 2) {
+        true => pairs[at].first = unlisted,
+        false => pairs[at].second = unlisted,
+    }
+}
+
+fn precedence(first: u32, second: u32) -> Precedence {
+    Precedence { first, second }
 }

@@ -71,3 +71,7 @@ pub const UNSOUND: u8 = 40;
 pub const PAGE_TOO_SHORT: u8 = 41;
 /// "Padded number."
 pub const PADDED_NUMBER: u8 = 42;
+/// "More than 32 accesses or 64 pairs, or a pair naming an access not listed."
+pub const UNLISTED: u8 = 43;
+/// "A circle."
+pub const CIRCLE: u8 = 44;

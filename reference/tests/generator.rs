@@ -1,15 +1,17 @@
 //! The generator: equal seeds give equal bytes, whole scenarios are accepted,
 //! tables have empty groups, shift records reach every edge, padding comes now
-//! and then, and together the pairs reach every answer that `play` can print.
+//! and then, precedence pairs get each answer often, and together the pairs of
+//! files reach every answer that `play` can print.
 
 use std::collections::BTreeSet;
 
 use lsq_ref::event::{read_header, EventReader};
 use lsq_ref::gen::{self, Lean, Scenario};
+use lsq_ref::ordering::order;
 use lsq_ref::play::{play, MAX_FILE};
 use lsq_ref::rng::Rng;
 use lsq_ref::table::Group;
-use lsq_ref::{Queue, ShiftRecord, Table};
+use lsq_ref::{Precedence, Queue, ShiftRecord, Table};
 
 #[test]
 fn equal_seeds_give_equal_pairs() {
@@ -230,4 +232,109 @@ fn pairs_reach_every_answer() {
     let calls = [0, 20, 21, 22, 23, 24, 25, 26, 27, 28, 29, 31, 32, 33, 34];
     assert_eq!(answers, BTreeSet::from(calls));
     assert!(played > 6_000, "only {played} pairs were played");
+}
+
+/// An input for an order, with its answer.
+struct Ordering {
+    accesses: u32,
+    pairs: Vec<Precedence>,
+    answer: u8,
+}
+
+impl Ordering {
+    fn of_seed(seed: u64) -> Self {
+        let (accesses, pairs) = gen::ordering(&mut Rng::new(seed));
+        let answer = order(accesses, &pairs).err().unwrap_or(0);
+        Self {
+            accesses,
+            pairs,
+            answer,
+        }
+    }
+
+    fn listed(&self) -> bool {
+        let mut named = self.pairs.iter().flat_map(|p| [p.first, p.second]);
+        named.all(|access| access < self.accesses)
+    }
+
+    fn repeats(&self) -> bool {
+        let different: BTreeSet<_> = self.pairs.iter().collect();
+        different.len() < self.pairs.len()
+    }
+
+    fn self_pair(&self) -> bool {
+        self.pairs.iter().any(|pair| pair.first == pair.second)
+    }
+
+    /// Whether the pairs hold a chain through all accesses, rising or falling.
+    fn chain(&self, falling: bool) -> bool {
+        let mut steps = (1..self.accesses).map(|access| match falling {
+            false => (access - 1, access),
+            true => (access, access - 1),
+        });
+        steps.all(|(first, second)| self.pairs.contains(&Precedence { first, second }))
+    }
+}
+
+#[test]
+fn precedence_pairs_get_every_answer() {
+    let cases: Vec<Ordering> = (0..20_000).map(Ordering::of_seed).collect();
+    let count = |test: &dyn Fn(&Ordering) -> bool| cases.iter().filter(|c| test(c)).count();
+    let accepted = count(&|c| c.answer == 0);
+    let range = count(&|c| c.answer == 43);
+    let circles = count(&|c| c.answer == 44);
+    assert_eq!(accepted + range + circles, cases.len());
+    assert!((6_500..9_500).contains(&accepted), "{accepted} orders");
+    assert!((6_500..9_500).contains(&circles), "{circles} circles");
+    assert!((3_000..6_000).contains(&range), "{range} out of range");
+    // Each of the three ways to 43 alone, and each just outside.
+    let listed = |c: &Ordering| c.listed();
+    assert!(count(&|c| c.accesses == 33 && c.pairs.len() <= 64 && listed(c)) > 100);
+    assert!(count(&|c| c.accesses <= 32 && c.pairs.len() == 65 && listed(c)) > 100);
+    assert!(count(&|c| c.accesses <= 32 && c.pairs.len() == 66 && listed(c)) > 100);
+    assert!(count(&|c| c.accesses <= 32 && c.pairs.len() <= 64 && !listed(c)) > 500);
+    let names = |c: &Ordering, access| {
+        let mut both = c.pairs.iter().flat_map(|p| [p.first, p.second]);
+        both.any(|named| named == access)
+    };
+    assert!(count(&|c| c.accesses <= 32 && names(c, c.accesses)) > 100);
+    assert!(count(&|c| c.accesses <= 32 && names(c, u32::MAX)) > 100);
+    assert!(count(&|c| c.accesses == u32::MAX) > 10);
+    assert!(count(&|c| c.accesses == 256) > 10);
+    // The edges of what is in range, with both answers.
+    for answer in [0, 44] {
+        let of = |test: &dyn Fn(&Ordering) -> bool| count(&|c| c.answer == answer && test(c));
+        for accesses in [1, 2, 31, 32] {
+            assert!(of(&|c| c.accesses == accesses) > 100, "{answer} {accesses}");
+        }
+        for pairs in [1, 2, 63, 64] {
+            assert!(of(&|c| c.pairs.len() == pairs) > 100, "{answer} {pairs}");
+        }
+        assert!(of(&|c| c.accesses == 32 && c.pairs.len() == 64) > 100);
+        assert!(of(&Ordering::repeats) > 1_000);
+    }
+    assert!(count(&|c| c.answer == 0 && c.accesses == 0) > 100);
+    assert!(count(&|c| c.answer == 43 && c.accesses == 0) > 10);
+    assert!(count(&|c| c.answer == 0 && c.pairs.is_empty()) > 100);
+    for falling in [false, true] {
+        let chain = |c: &Ordering| c.answer == 0 && c.accesses == 32 && c.chain(falling);
+        assert!(count(&chain) > 10, "falling {falling}");
+    }
+    // Circles: of one access, of more, and all of it far from access 0.
+    assert!(count(&|c| c.answer == 44 && c.self_pair()) > 1_000);
+    assert!(count(&|c| c.answer == 44 && !c.self_pair()) > 1_000);
+    let far = |c: &Ordering| {
+        let near = c.pairs.iter().filter(|p| p.first.min(p.second) < 25);
+        let near: Vec<Precedence> = near.copied().collect();
+        c.answer == 44 && order(c.accesses, &near).is_ok()
+    };
+    assert!(count(&far) > 500);
+}
+
+#[test]
+fn equal_seeds_give_equal_precedence_pairs() {
+    for seed in 0..200 {
+        let again = || gen::ordering(&mut Rng::new(seed));
+        assert_eq!(again(), again());
+    }
 }

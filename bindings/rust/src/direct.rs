@@ -4,7 +4,8 @@
 
 use crate::ffi;
 use crate::record::{
-    Counts, Frame, Listed, Opened, Replayed, Service, ShiftRecord, Step, Table, TableRead, Written,
+    Accesses, Counts, Frame, Listed, Opened, Ordered, Precedences, Replayed, Service, ShiftRecord,
+    Step, Table, TableRead, Written,
 };
 use crate::Lent;
 
@@ -145,6 +146,20 @@ pub fn write_number(value: u32, out: &mut [u8]) -> Written {
 #[must_use]
 pub fn write_event(kind: u32, first: u32, second: u32, out: &mut [u8]) -> Written {
     unsafe { ffi::lsq_write_event(kind, first, second, out.as_mut_ptr(), out.len()) }
+}
+
+/// The order of accesses that respects all pairs and is first when orders are
+/// compared by access number from the left: 43, then 44.
+#[must_use]
+pub fn order(accesses: u32, pairs: Precedences) -> Ordered {
+    unsafe { ffi::lsq_order(accesses, pairs) }
+}
+
+/// The table whose one group has the accesses in this order; the table of no
+/// groups, which is 0 in every field, where the record is no order.
+#[must_use]
+pub fn table_in_order(order: Ordered, accesses: Accesses) -> Table {
+    unsafe { ffi::lsq_table_in_order(order, accesses) }
 }
 
 /// The record once this value was taken at this port. A port above 31 changes

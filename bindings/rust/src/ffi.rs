@@ -1,7 +1,8 @@
 //! The declarations of `bindings/c/lsq.h`.
 
 use crate::record::{
-    Counts, Frame, Listed, Opened, Replayed, Service, ShiftRecord, Step, Table, TableRead, Written,
+    Accesses, Counts, Frame, Listed, Opened, Ordered, Precedences, Replayed, Service, ShiftRecord,
+    Step, Table, TableRead, Written,
 };
 
 unsafe extern "C" {
@@ -76,6 +77,8 @@ unsafe extern "C" {
         out: *mut u8,
         out_len: usize,
     ) -> Written;
+    pub fn lsq_order(accesses: u32, pairs: Precedences) -> Ordered;
+    pub fn lsq_table_in_order(order: Ordered, accesses: Accesses) -> Table;
     pub fn lsq_recorded(kept: ShiftRecord, port: u32, value: u32) -> ShiftRecord;
     pub fn lsq_page(kept: ShiftRecord, out: *mut u8, out_len: usize) -> Written;
     pub fn lsq_open_in(

@@ -4,8 +4,9 @@
 //! plays a whole trace; it and [`text`] say which of the things lent has a
 //! wrong length. [`ShiftRecord`] keeps what was taken at each load port, by
 //! [`Queue::take_recorded`] or [`replay_recorded`], and writes its page.
-//! [`direct`] has the library's functions as they are, with the paper's numbers
-//! for answers.
+//! [`order`] gives a group's order from pairs, and [`Order::table`] the table of
+//! that group. [`direct`] has the library's functions as they are, with the
+//! paper's numbers for answers.
 //!
 //! The library's functions are proved; what stands over them here is plain
 //! Rust and is not.
@@ -20,6 +21,7 @@ mod bytes;
 pub mod direct;
 mod ffi;
 mod live;
+mod ordering;
 pub mod record;
 mod refusal;
 mod saved;
@@ -28,7 +30,8 @@ mod shift;
 pub use bytes::{read_table, write_event, write_number, write_table};
 pub use direct::{event_count, memory_length, share, table_fault, trace_fault};
 pub use live::Queue;
-pub use record::{Counts, ShiftRecord};
+pub use ordering::{order, Access, Order};
+pub use record::{Counts, Precedence, ShiftRecord};
 pub use refusal::Refusal;
 pub use saved::QUEUE_BYTES;
 pub use shift::PAGE_BYTES;
@@ -66,6 +69,8 @@ pub enum Buffer {
     Values,
     /// The text of [`text`].
     Text,
+    /// The accesses of [`Order::table`].
+    Accesses,
 }
 
 /// Why a call was not made, or what it was refused for. Everything lent keeps
@@ -80,7 +85,8 @@ pub enum Error {
         buffer: Buffer,
         /// Its length.
         lent: usize,
-        /// The length that it must have; the least, but for memory.
+        /// The length that it must have; the least, but for memory and
+        /// accesses.
         needed: usize,
     },
 }

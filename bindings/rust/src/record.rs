@@ -1,4 +1,4 @@
-//! The records that the library's live calls take and give, laid out as in
+//! The records that the library's functions take and give, laid out as in
 //! `bindings/c/lsq.h`. They are plain data and may hold anything: every call
 //! tests what it is handed.
 
@@ -13,6 +13,11 @@ pub const ENTRIES: usize = 64;
 
 /// Load ports, 0 to 31.
 pub const PORTS: usize = 32;
+
+/// The most accesses that can be ordered.
+pub const ACCESSES: usize = 32;
+/// The most pairs that they can be ordered by, repeated ones counted.
+pub const PAIRS: usize = 64;
 
 /// Where a group's accesses stand in a table.
 #[derive(Clone, Copy, Debug, Default, PartialEq, Eq)]
@@ -171,6 +176,66 @@ pub struct Replayed {
     pub kept: ShiftRecord,
 }
 
+/// A pair: one access has to come before another.
+#[repr(C)]
+#[derive(Clone, Copy, Debug, Default, PartialEq, Eq)]
+pub struct Precedence {
+    /// The access that comes before.
+    pub first: u32,
+    /// The access that comes behind.
+    pub second: u32,
+}
+
+/// As many pairs as the count says. Places beyond it mean nothing.
+#[repr(C)]
+#[derive(Clone, Copy, Debug, PartialEq, Eq)]
+pub struct Precedences {
+    /// How many pairs.
+    pub count: u32,
+    /// The pairs.
+    pub pairs: [Precedence; PAIRS],
+}
+
+impl Precedences {
+    /// The record of these pairs. Of more than [`PAIRS`] it has the count and as
+    /// many as it has places for, and is refused.
+    #[must_use]
+    pub fn new(pairs: &[Precedence]) -> Self {
+        let mut places = [Precedence::default(); PAIRS];
+        for (place, pair) in places.iter_mut().zip(pairs) {
+            *place = *pair;
+        }
+        Self {
+            count: u32::try_from(pairs.len()).unwrap_or(u32::MAX),
+            pairs: places,
+        }
+    }
+}
+
+/// What ordering answers.
+#[repr(C)]
+#[derive(Clone, Copy, Debug, PartialEq, Eq)]
+pub struct Ordered {
+    /// 0, or the refusal number.
+    pub answer: u8,
+    /// How many accesses the order has; 0 where it is refused.
+    pub count: u8,
+    /// The order at the front; the places beyond the count are 0 and mean
+    /// nothing.
+    pub accesses: [u8; ACCESSES],
+}
+
+/// The kind and the port of each access, by its number. Places of accesses that
+/// an order does not have mean nothing.
+#[repr(C)]
+#[derive(Clone, Copy, Debug, Default, PartialEq, Eq)]
+pub struct Accesses {
+    /// 0 a load, any other a store.
+    pub kinds: [u8; ACCESSES],
+    /// The ports.
+    pub ports: [u8; ACCESSES],
+}
+
 /// What opening answers.
 #[repr(C)]
 #[derive(Clone, Copy, Debug, PartialEq, Eq)]
@@ -264,6 +329,14 @@ const _: () = {
     assert!(size_of::<Service>() == 20);
     assert!(size_of::<Listed>() == 16);
     assert!(size_of::<Written>() == 16);
+    assert!(size_of::<Precedence>() == 8);
+    assert!(offset_of!(Precedence, second) == 4);
+    assert!(size_of::<Precedences>() == 516);
+    assert!(offset_of!(Precedences, pairs) == 4);
+    assert!(size_of::<Ordered>() == 34);
+    assert!(offset_of!(Ordered, accesses) == 2);
+    assert!(size_of::<Accesses>() == 64);
+    assert!(offset_of!(Accesses, ports) == 32);
     assert!(size_of::<ShiftRecord>() == 256);
     assert!(offset_of!(ShiftRecord, values) == 128);
     assert!(size_of::<Replayed>() == 260);

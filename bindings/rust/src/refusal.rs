@@ -63,6 +63,8 @@ refusals! {
     UNSOUND = 40, "no right queue";
     PAGE_TOO_SHORT = 41, "a page buffer has fewer than 1394 bytes";
     PADDED_NUMBER = 42, "the last of a number's several bytes is 00";
+    UNLISTED = 43, "more than 32 accesses or 64 pairs, or a pair naming an access not listed";
+    CIRCLE = 44, "a circle of pairs";
 }
 
 impl fmt::Display for Refusal {

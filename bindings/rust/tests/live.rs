@@ -185,5 +185,9 @@ fn refusals_can_be_read() {
     assert!(words.ends_with("41: a page buffer has fewer than 1394 bytes"));
     let words = Refusal::PADDED_NUMBER.to_string();
     assert!(words.ends_with("42: the last of a number's several bytes is 00"));
-    assert_eq!(Refusal(43).meaning(), "no number of the paper's");
+    let words = Refusal::UNLISTED.to_string();
+    assert!(words.starts_with("refused with 43: more than 32 accesses or 64 pairs, or"));
+    let words = Refusal::CIRCLE.to_string();
+    assert!(words.ends_with("44: a circle of pairs"));
+    assert_eq!(Refusal(45).meaning(), "no number of the paper's");
 }

@@ -1,5 +1,5 @@
--- The refusal numbers of document 01, "Calls and their refusals" and "The printed run", and 41 and 42 of document 02:
--- all of them. Accepted is 0. src/refusal.rt has the same names.
+-- The refusal numbers of document 01, "Calls and their refusals" and "The printed run", and 41 to 44 of document 02:
+-- all that calls give. Accepted is 0. src/refusal.rt has the same names.
 use Prim.Native.Nat.{ℕ}
 
 -- the bytes end inside a number or before it
@@ -137,3 +137,11 @@ pageTooShort = 41
 -- S-4: a number of more than one byte has 00 as its last byte
 abbrev pub paddedNumber : ℕ
 paddedNumber = 42
+
+-- S-6: more than 32 accesses or 64 pairs, or a pair naming an access not listed
+abbrev pub unlisted : ℕ
+unlisted = 43
+
+-- S-6: a circle of pairs
+abbrev pub circle : ℕ
+circle = 44

@@ -1,5 +1,5 @@
-// The refusal numbers of document 01, "Calls and their refusals" and "The printed run", and 41 and 42 of document 02:
-// all of them. Accepted is 0. specs/Refusal.antt has the same names.
+// The refusal numbers of document 01, "Calls and their refusals" and "The printed run", and 41 to 44 of document 02:
+// all that calls give. Accepted is 0. specs/Refusal.antt has the same names.
 
 // the bytes end inside a number or before it
 pub const ENDED: u8 = 1;
@@ -69,3 +69,7 @@ pub const UNSOUND: u8 = 40;
 pub const PAGE_TOO_SHORT: u8 = 41;
 // S-4: a number of more than one byte has 00 as its last byte
 pub const PADDED_NUMBER: u8 = 42;
+// S-6: more than 32 accesses or 64 pairs, or a pair naming an access not listed
+pub const UNLISTED: u8 = 43;
+// S-6: a circle of pairs
+pub const CIRCLE: u8 = 44;

@@ -7,7 +7,7 @@ use mathlib.Core.Path.{_≡_, refl, ap, _∙_}
 use mathlib.Core.List.{List, [], _∷_, _++_, map, map-append}
 use lib.ListN.{length, getD, take, set, length-map, List·getD-map}
 use lib.Seq.{paste, paste-zero, paste-suc, take-paste, length-paste}
-use Rattle.table.proofs.CheckLaws.{held-few}
+use Rattle.number.proofs.HeldLaws.{held-few}
 use Rattle.queue.specs.Internal.{sideOf}
 use Rattle.queue.proofs.Lists.{take-map}
 

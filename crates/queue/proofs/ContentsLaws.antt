@@ -1,14 +1,14 @@
 -- What a queue's record holds, by its places: the entries below a count, one entry made anew, a side put in place of another.
 use Prim.Native.Nat.{ℕ, zero, suc, _+_, _≤_, _<_}
-use native.Mathlib.Nat.{not-suc-le-zero, le-of-suc-le-suc, sub-zero, zero-sub, suc-sub-suc}
+use native.Mathlib.Nat.{not-suc-le-zero, le-of-suc-le-suc}
 use native.Mathlib.Numerals.{add-one}
 use mathlib.Core.Path.{_≡_, refl, ap, _∙_}
 use mathlib.Core.List.{List, [], _∷_, map}
 use mathlib.Core.Option.{none, some}
-use lib.ListN.{length, getD, take, drop, set, replicate, length-map, length-set, getD-replicate, List·getD-map, drop-of-length-le, getElem?}
+use lib.ListN.{length, getD, take, drop, set, length-map, length-set, List·getD-map, drop-of-length-le, getElem?}
 use lib.Seq.{take-set-lt, drop-cons}
 use Rattle.number.specs.Basics.{held}
-use Rattle.table.proofs.CheckLaws.{held-few, held-length}
+use Rattle.number.proofs.HeldLaws.{held-few, held-here, held-length, held-take}
 use Rattle.queue.specs.declared.Queue.{Queue}
 use Rattle.queue.specs.Contents.{Load, Store, loadIn, storeIn, contentsOf, withLoads, withStores, updateAt, age, oldest, loadPlace, storePlace}
 use Rattle.queue.specs.Parts.{queueOf}
@@ -33,24 +33,6 @@ module _ {A : Type 0} where
   update-set f (x ∷ l) zero d = refl
   update-set f (x ∷ l) (suc i) d = rw (update-set f l i d)
 
-  take-replicate : (n m : ℕ) (x : A) → m ≤ n → take m (replicate n x) ≡ replicate m x
-  take-replicate n zero x h = refl
-  take-replicate zero (suc m) x h = absurd (not-suc-le-zero h)
-  take-replicate (suc n) (suc m) x h = ap (λ (l : List A). x ∷ l) (take-replicate n m x (le-of-suc-le-suc h))
-
-  -- what an array and a count hold, by its places: past the array's end are blanks
-  pub held-place : (blank : A) (n : ℕ) (l : List A) (i : ℕ) → i < n → getD (held blank n l) i blank ≡ getD l i blank
-  held-place blank zero l i k = absurd (not-suc-le-zero k)
-  held-place blank (suc n) [] i k = rw (sub-zero (suc n)) (getD-replicate (suc n) i blank blank k)
-  held-place blank (suc n) (x ∷ l) zero k = refl
-  held-place blank (suc n) (x ∷ l) (suc i) k = rw (suc-sub-suc n (length l)) (held-place blank n l i (le-of-suc-le-suc k))
-
-  pub held-take : (blank : A) (n : ℕ) (l : List A) (m : ℕ) → m ≤ n → take m (held blank n l) ≡ held blank m l
-  held-take blank n l zero k = rw (zero-sub (length l))
-  held-take blank zero l (suc m) k = absurd (not-suc-le-zero k)
-  held-take blank (suc n) [] (suc m) k = rw (sub-zero (suc n), sub-zero (suc m)) (take-replicate (suc n) (suc m) blank k)
-  held-take blank (suc n) (x ∷ l) (suc m) k = rw (suc-sub-suc n (length l), suc-sub-suc m (length l), held-take blank n l m (le-of-suc-le-suc k))
-
   pub map-set : {B : Type 0} (f : A → B) (l : List A) (i : ℕ) (x : A) → map f (set l i x) ≡ set (map f l) i (f x)
   map-set f [] i x = refl
   map-set f (y ∷ l) zero x = refl
@@ -67,7 +49,7 @@ module _ {A B : Type 0} (f : A → B) (blank : A) (n : ℕ) (l : List A) where
   side-take m k = take-map f m (held blank n l) ∙ ap (map f) (held-take blank n l m k)
 
   pub side-at : (i : ℕ) → i < n → getD (sideOf f blank n l) i (f blank) ≡ f (getD l i blank)
-  side-at i k = List·getD-map f (held blank n l) i blank ∙ rw (held-place blank n l i k)
+  side-at i k = List·getD-map f (held blank n l) i blank ∙ rw (held-here blank n l i k)
 
   pub side-getElem? : (i : ℕ) → i < n → getElem? (sideOf f blank n l) i ≡ some (f (getD l i blank))
   side-getElem? i k = getElem?-getD (sideOf f blank n l) i (f blank) (rw side-length k) ∙ rw (side-at i k)

@@ -13,7 +13,7 @@ use borrow.Author.Tests.{leb-true, ltb-true, lt-ltb}
 use Rattle.table.specs.declared.Table.{Table}
 use Rattle.number.specs.Basics.{pick, allOf, held}
 use Rattle.table.specs.Table.{groupsOf, checkTable}
-use Rattle.table.proofs.CheckLaws.{held-few}
+use Rattle.number.proofs.HeldLaws.{held-few}
 use Rattle.queue.specs.declared.Entry.{Entry}
 use Rattle.queue.specs.declared.Queue.{Queue}
 use Rattle.number.specs.Basics.{isSome}

@@ -2,11 +2,11 @@
 use Prim.Native.Nat.{ℕ, zero, suc, _+_, _-_, _≤_, _<_}
 use mathlib.Core.Path.{_≡_, refl, sym, ap, _∙_}
 use mathlib.Core.Bool.{Bool, true, false, not}
-use mathlib.Core.List.{List, [], _∷_, map, append-nil}
+use mathlib.Core.List.{List, [], _∷_, map}
 use native.Mathlib.Omega.{arith}
 use native.Mathlib.Nat.{le-trans}
 use lib.Dec.{leb, ltb, eqb}
-use lib.ListN.{length, getD, take, drop, set, replicate, length-set, length-map, length-append, length-take, length-replicate}
+use lib.ListN.{length, getD, take, drop, set, length-set, length-map}
 use lib.ListN.{List·getD-map, drop-of-length-le}
 use lib.Seq.{getD-take, getD-drop, drop-cons}
 use native.Mathlib.Numerals.{add-one}
@@ -24,32 +24,8 @@ use Rattle.table.specs.Table.{spanMeant, groupAt, meantIn, groupsOf, loa
 use Rattle.table.specs.Table.{seenAfter, checkGroup, checkGroups, checkTable}
 use Rattle.table.specs.Internal.{ruleOf, Rising, RuleRight, GroupInside}
 use Rattle.number.proofs.Both.{and-left, and-right}
+use Rattle.number.proofs.HeldLaws.{held-here, held-length}
 use Rattle.number.proofs.ReplyLaws.{need-accepts, both-passed, some-refused}
-
--- ---- what an array and a count hold, where the count is within the array
-module _ {A : Type 0} (blank : A) (n : ℕ) (l : List A) (h : n ≤ length l) where
-  pub held-few : held blank n l ≡ take n l
-  held-few =
-      let e : n - length l ≡ 0 = omega arith in
-      rw (e, append-nil)
-
--- an element that is held is the array's, whatever the array: a blank stands past its end
-blanks : {A : Type 0} (blank : A) (n i : ℕ) → getD (replicate n blank) i blank ≡ blank
-blanks blank zero i = refl
-blanks blank (suc n) zero = refl
-blanks blank (suc n) (suc i) = blanks blank n i
-
-pub held-here : {A : Type 0} (blank : A) (n : ℕ) (l : List A) (i : ℕ) → i < n → getD (held blank n l) i blank ≡ getD l i blank
-held-here blank zero l i h = absurd (omega arith)
-held-here blank (suc n) [] i h = blanks blank (suc n - 0) i
-held-here blank (suc n) (x ∷ l) zero h = refl
-held-here blank (suc n) (x ∷ l) (suc i) h =
-    let e : suc n - suc (length l) ≡ n - length l = omega arith in
-    rw e (held-here blank n l i (omega arith))
-
--- the list is as long as the count, whatever the array
-pub held-length : {A : Type 0} (blank : A) (n : ℕ) (l : List A) → length (held blank n l) ≡ n
-held-length blank n l = rw (length-append, length-take, length-replicate) (omega arith)
 
 -- ---- accesses from a place on
 module _ (places : List ℕ) (s : Span) where

@@ -4,8 +4,7 @@ use mathlib.Core.Path.{_≡_, refl, sym, ap, ap₂, _∙_}
 use mathlib.Core.Bool.{Bool, true, false}
 use mathlib.Core.List.{List, [], _∷_, _++_, map, append-nil, append-assoc}
 use native.Mathlib.Omega.{arith}
-use native.Mathlib.Nat.{add-assoc, add-zero, zero-add, sub-zero}
-use native.Mathlib.Numerals.{unary-clauses}
+use native.Mathlib.Nat.{add-assoc, add-zero, zero-add}
 use lib.Dec.{leb}
 use borrow.Author.Tests.{le-leb, leb-true, eqb-true}
 use lib.ListN.{length, getD, drop, set, replicate, length-set, length-map, length-append}
@@ -17,13 +16,14 @@ use Rattle.number.specs.Basics.{pick, held, countWhere, flatMap}
 use Rattle.number.specs.Reply.{passed}
 use Rattle.table.specs.Packed.{pairIn, packedPair, groupIn, packedGroup}
 use Rattle.table.specs.Group.{GroupPairs, listOf, beforeStore}
-use Rattle.table.specs.Table.{spanMeant, meantIn, loadRule, storeRule, checkPairs, seeing}
+use Rattle.table.specs.Table.{groupsOf, spanMeant, meantIn, loadRule, storeRule, checkPairs, seeing}
 use Rattle.table.specs.Table.{Seen, noneSeen, seenAfter, checkGroup, checkGroups}
 use Rattle.table.specs.TableBytes.{filled, placed, spans, loadsIn, storesIn, pack}
 use Rattle.table.specs.RoundTrip.{AccessesFit, RecordsHoldGroups}
 use Rattle.table.specs.Internal.{packPairs, packGroup, putIn, Grown}
 use Rattle.table.proofs.PackedLaws.{groups-read-back, AllSmall, all-read-back, map-append}
-use Rattle.table.proofs.CheckLaws.{held-few, count-most, pairs-passed, group-passed, groups-passed, table-passed}
+use Rattle.number.proofs.HeldLaws.{held-few, drop-replicate}
+use Rattle.table.proofs.CheckLaws.{count-most, pairs-passed, group-passed, groups-passed, table-passed}
 use Rattle.number.proofs.Both.{and-right}
 
 -- ---- each access takes a port that none has taken, so there are at most 32 of a kind
@@ -125,7 +125,7 @@ group-small seen g e =
     )
 
 -- the pairs of every group are small
-abbrev SmallGroups : List GroupPairs → Type 0
+abbrev pub SmallGroups : List GroupPairs → Type 0
 SmallGroups [] = Unit {0}
 SmallGroups (g ∷ gs) = AllSmall (g .loads) × AllSmall (g .stores) × SmallGroups gs
 
@@ -182,14 +182,19 @@ spans-length : (load store : ℕ) (gs : List GroupPairs) → length (spans load 
 spans-length load store [] = refl
 spans-length load store (g ∷ gs) = ap suc (spans-length (load + length (g .loads)) (store + length (g .stores)) gs)
 
-pub records-hold-groups : RecordsHoldGroups
-records-hold-groups gs right =
+-- groups, right or wrong, that the places are enough for and whose offsets and ports are bytes
+pub small-groups-held : (gs : List GroupPairs) → length (loadsIn gs) ≤ 32 → length (storesIn gs) ≤ 32 → SmallGroups gs → groupsOf (pack gs) ≡ gs
+small-groups-held gs loads stores small =
     let n = spans-length 0 0 gs in
     let blanks : List ℕ = replicate (16 - length gs) 0 in
     let h : length gs ≤ length (spans 0 0 gs ++ blanks) = rw (length-append, n) (omega arith) in
     ap (map (meantIn (pack gs .loads) (pack gs .stores))) (held-few 0 (length gs) (spans 0 0 gs ++ blanks) h ∙ take-at (spans 0 0 gs) blanks (length gs) n)
-    ∙ spans-hold (pack gs .loads) (pack gs .stores) 0 0 gs _ _ refl refl (omega (arith, accesses-fit gs right .0))
-    (omega (arith, accesses-fit gs right .1)) (groups-small noneSeen gs (table-passed gs right .2))
+    ∙ spans-hold (pack gs .loads) (pack gs .stores) 0 0 gs _ _ refl refl (omega arith) (omega arith) small
+
+pub records-hold-groups : RecordsHoldGroups
+records-hold-groups gs right =
+    let (loads, stores) = accesses-fit gs right in
+    small-groups-held gs loads stores (groups-small noneSeen gs (table-passed gs right .2))
 
 -- ---- the record with a group more
 
@@ -202,11 +207,6 @@ spans-snoc load store (x ∷ gs) g =
 flat-snoc : {A B : Type 0} (f : A → List B) (xs : List A) (x : A) → flatMap f (xs ++ x ∷ []) ≡ flatMap f xs ++ f x
 flat-snoc f [] x = append-nil (f x)
 flat-snoc f (y ∷ xs) x = rw (flat-snoc f xs x) (sym (append-assoc (f y) (flatMap f xs) (f x)))
-
-drop-replicate : {A : Type 0} (n m : ℕ) (a : A) → drop n (replicate m a) ≡ replicate (m - n) a
-drop-replicate zero m a = rw sub-zero
-drop-replicate (suc n) zero a = let e : 0 - suc n ≡ 0 = omega arith in rw e
-drop-replicate (suc n) (suc m) a = drop-replicate n m a ∙ simp unary-clauses
 
 filled-more : (xs ls : List Pair) → putIn (filled xs) (length xs) (packPairs ls) ≡ filled (xs ++ ls)
 filled-more xs ls =

@@ -24,7 +24,7 @@ use Rattle.number.proofs.ReplyLaws.{thenRead-accepts, refusesAmong, thenRead-am
 use Rattle.number.proofs.RoundTrip.{NumberGot, number-got}
 use Rattle.number.proofs.RoundTrip.{number-among}
 use Rattle.table.proofs.PackedLaws.{pairs-read-back, map-append}
-use Rattle.table.proofs.CheckLaws.{held-few}
+use Rattle.number.proofs.HeldLaws.{held-few}
 use Rattle.table.proofs.PackLaws.{Marks, marks-none, marks-room, marks-more, Packed, packed-none, packed-more}
 
 -- ---- two numbers

@@ -3,17 +3,22 @@
 //! `benchmark only WORKLOAD IMPLEMENTATION SECONDS` plays one thing over and
 //! over, for a profiler; WORKLOAD is a, b, c1, c16, depthN or groupsN, and
 //! IMPLEMENTATION is proved, recorded, checked, unchecked, live or inplace.
+//! `benchmark orders` measures orders from pairs alone.
 //! `benchmark files FOLDER` writes each workload's title, table and trace to a folder of
 //! its name in FOLDER, for a program in another language.
 
+use std::ops::Range;
 use std::path::Path;
 use std::process::ExitCode;
 use std::time::Duration;
 use std::{env, fs, io};
 
 use evidence::clock::processor_time;
+use evidence::compare::Difference;
+use evidence::live::subject::Library;
+use evidence::orders::{compare, OrderCase};
 use evidence::timing::{
-    agree, reading, rounds, Implementation, Run, Spread, CALLS, RECORDS, REPLAYS,
+    agree, ordering, reading, rounds, Implementation, Run, Spread, CALLS, RECORDS, REPLAYS,
 };
 use evidence::workloads::{named, Workload, BY_DEPTH, BY_GROUPS, MAIN};
 
@@ -34,6 +39,7 @@ fn main() -> ExitCode {
     let args: Vec<&str> = args.iter().map(String::as_str).collect();
     match args[..] {
         [] => all(),
+        ["orders"] => print_orders(),
         ["files", folder] => match write_files(Path::new(folder)) {
             Ok(()) => ExitCode::SUCCESS,
             Err(error) => {
@@ -55,7 +61,7 @@ fn main() -> ExitCode {
 }
 
 fn usage() -> ExitCode {
-    eprintln!("usage: benchmark [only WORKLOAD IMPLEMENTATION SECONDS | files FOLDER]");
+    eprintln!("usage: benchmark [only WORKLOAD IMPLEMENTATION SECONDS | orders | files FOLDER]");
     ExitCode::from(2)
 }
 
@@ -119,7 +125,53 @@ fn all() -> ExitCode {
     print_live("Workload", &workloads);
     print_live(DEPTH, &depth);
     print_live(GROUPS, &groups);
+    print_orders()
+}
+
+/// 32 accesses and 64 pairs. In a falling chain the one access that is ready stands
+/// behind all others that wait, so that each search is the longest; a circle of the
+/// two highest is found last.
+fn orders() -> [(&'static str, OrderCase); 3] {
+    let rising = |accesses: Range<u32>| accesses.collect::<Vec<u32>>();
+    let falling = |accesses: Range<u32>| accesses.rev().collect::<Vec<u32>>();
+    [
+        ("a falling chain of all", vec![falling(0..32)]),
+        ("a rising chain of all", vec![rising(0..32)]),
+        (
+            "a circle of 30 and 31, a falling chain of the others",
+            vec![falling(0..30), vec![30, 31, 30]],
+        ),
+    ]
+    .map(|(title, chains)| (title, OrderCase::of_chains(&chains)))
+}
+
+fn print_orders() -> ExitCode {
+    println!("| Order of 32 accesses by 64 pairs | Answer | Proved, ns a call | Rust, ns a call | Time to Rust |");
+    println!("|---|---|---|---|---|");
+    for (title, case) in orders() {
+        if let Err(Difference(words)) = compare(&Library, &case, &case.expected()) {
+            println!("{title}: {words}");
+            return ExitCode::FAILURE;
+        }
+        let rounds = ordering(&case, GROWTH_ROUNDS, GROWTH_SAMPLE);
+        let time = |place: usize| Spread::of(rounds.iter().map(|round| round[place]));
+        let ratio = Spread::of(rounds.iter().map(|round| round[0] / round[1]));
+        let [proved, reference] = [0, 1].map(|place| whole(time(place)));
+        let answer = case.expected().err().unwrap_or(0);
+        let ratio = times(ratio);
+        println!("| {title} | {answer} | {proved} | {reference} | {ratio} |");
+    }
+    println!();
     ExitCode::SUCCESS
+}
+
+fn whole(spread: Spread) -> String {
+    let Spread {
+        middle,
+        least,
+        greatest,
+    } = spread;
+    format!("{middle:.0} ({least:.0} to {greatest:.0})")
 }
 
 fn print_workloads(workloads: &[Workload]) {

@@ -2,12 +2,16 @@
 
 #![allow(unsafe_code)]
 
-use lsq::record::{Counts, Frame, Listed, Opened, Side, Table, TableRead, Written, ENTRIES};
+use lsq::record::{
+    Accesses, Counts, Frame, Listed, Opened, Ordered, Precedences, Side, Table, TableRead, Written,
+    ENTRIES,
+};
 use lsq::{Queue, ShiftRecord, QUEUE_BYTES};
 use lsq_ref::{Event, Header as Opening};
 
 use super::record::Record;
 use super::subject::{put_back, whole, Library, Live, Made, Ready};
+use crate::orders::Orders;
 
 unsafe extern "C" {
     fn header_open(
@@ -40,6 +44,8 @@ unsafe extern "C" {
         port: u32,
         value: *mut u32,
     ) -> u32;
+    fn header_order(accesses: u32, pairs: Precedences) -> Ordered;
+    fn header_table_in_order(order: Ordered, accesses: Accesses) -> Table;
     fn header_recorded(kept: ShiftRecord, port: u32, value: u32) -> ShiftRecord;
     fn header_page(kept: ShiftRecord, out: *mut u8, out_len: usize) -> Written;
     fn header_ready_loads(
@@ -81,8 +87,8 @@ fn filled() -> Queue {
 }
 
 // In all blocks below pointers come from references and slices that live on and
-// do not overlap, and `Queue`, `Counts` and `ShiftRecord` are laid out as their
-// C types.
+// do not overlap, and `Queue`, `Counts` and the records that go by value are laid
+// out as their C types.
 
 /// The queue that C saves and restores; both must be as the Rust wrapper has it.
 fn restored(queue: &Queue) -> Queue {
@@ -201,6 +207,18 @@ impl Live for Header {
 
     fn write_event(&self, kind: u32, first: u32, second: u32, out: &mut [u8]) -> Written {
         Library.write_event(kind, first, second, out)
+    }
+}
+
+/// C hands the pairs over and gets the order back, and so the order and the table,
+/// all by value.
+impl Orders for Header {
+    fn order(&self, accesses: u32, pairs: Precedences) -> Ordered {
+        unsafe { header_order(accesses, pairs) }
+    }
+
+    fn table(&self, order: Ordered, accesses: Accesses) -> Option<Table> {
+        Some(unsafe { header_table_in_order(order, accesses) })
     }
 }
 

@@ -13,15 +13,19 @@ const DIRECT: &str = "bindings/rust/src/direct.rs";
 const LIVE: &str = "bindings/rust/src/live.rs";
 const BYTES: &str = "bindings/rust/src/bytes.rs";
 const SHIFT: &str = "bindings/rust/src/shift.rs";
-const CRATE: [&str; 3] = [
+const ORDERING: &str = "bindings/rust/src/ordering.rs";
+const CRATE: [&str; 4] = [
     "crates/live/src/calls.rt",
     "crates/live/src/bytes.rt",
+    "crates/live/src/order.rt",
     "crates/live/src/page.rt",
 ];
 const TALLY: &str = "evidence/src/live/tally.rs";
+const ORDERS: &str = "evidence/src/orders.rs";
 const FORMATS: &str = "docs/FORMATS.md";
-pub const PATHS: [&str; 10] = [
-    HEADER, DIRECT, LIVE, BYTES, SHIFT, CRATE[0], CRATE[1], CRATE[2], TALLY, FORMATS,
+pub const PATHS: [&str; 13] = [
+    HEADER, DIRECT, LIVE, BYTES, SHIFT, ORDERING, CRATE[0], CRATE[1], CRATE[2], CRATE[3], TALLY,
+    ORDERS, FORMATS,
 ];
 
 /// The one says the same of 40 the other way round, the other refuses nothing.
@@ -60,9 +64,11 @@ pub fn read(check: &mut Check, sources: &Sources) {
     }
     tell(BYTES, errors(sources.get(BYTES), ""));
     tell(SHIFT, errors(sources.get(SHIFT), ""));
+    tell(ORDERING, errors(sources.get(ORDERING), ""));
     tell(LIVE, errors(sources.get(LIVE), "_in"));
     tell(FORMATS, in_rows(sources.get(FORMATS)));
     come_by(check, sources.get(TALLY), &orders);
+    orders_come_by(check, sources.get(ORDERS), &orders);
 }
 
 /// The calls that go by answers alone; a replay's are among the places.
@@ -72,6 +78,7 @@ fn is_call(name: &str) -> bool {
         || name.starts_with("write_")
         || name == "table_fault"
         || name == "page"
+        || name == "order"
 }
 
 /// A take that keeps a record answers as one without.
@@ -138,7 +145,7 @@ fn in_crate(source: &Source) -> Vec<Told> {
 }
 
 /// The rows `| load address, store address | 40, 22, 23, 24 |` of the calls on a
-/// queue, and the row of a page.
+/// queue, and the rows of a page and of an order.
 fn in_rows(source: &Source) -> Vec<Told> {
     let lines = source.lines();
     let rows = lines.skip_while(|(_, line)| !line.starts_with("| activate |"));
@@ -151,6 +158,7 @@ fn in_rows(source: &Source) -> Vec<Told> {
         for call in calls.split(", ") {
             let name = match call {
                 "writing a page" => "page".into(),
+                "ordering a group" => "order".into(),
                 _ => call.replace(' ', "_") + "_in",
             };
             told.push((name, range.clone()));
@@ -210,8 +218,11 @@ fn commented(source: &Source, mark: &str, head: &str) -> Vec<Told> {
     told
 }
 
+/// What comments give as the answers of each call, and where.
+type Orders = BTreeMap<String, (String, Vec<u64>)>;
+
 /// The answers that runs on records must come by, and that comments give.
-fn come_by(check: &mut Check, source: &Source, orders: &BTreeMap<String, (String, Vec<u64>)>) {
+fn come_by(check: &mut Check, source: &Source, orders: &Orders) {
     let lines = source
         .lines()
         .skip_while(|(_, line)| !line.starts_with("pub const IN_RECORDS"));
@@ -227,28 +238,41 @@ fn come_by(check: &mut Check, source: &Source, orders: &BTreeMap<String, (String
             continue;
         }
         let name = without_record(&snake(name));
-        let Some((place, order)) = orders
-            .get(&format!("{name}_in"))
-            .or_else(|| orders.get(&name))
-        else {
-            check.fault(format!(
-                "{}: no comment gives its answers",
-                source.place(range.start)
-            ));
-            continue;
-        };
-        let number = format!("answers of {name}, 0 among them, by size");
-        let given: BTreeSet<u64> = order.iter().copied().chain([0]).collect();
-        check.say(
-            &number,
-            place.clone(),
-            shown(&given.into_iter().collect::<Vec<_>>()),
-        );
-        let numerals = source.numerals_in(&range);
-        let numbers: Vec<u64> = numerals.iter().map(|&n| source.numerals[n].value).collect();
-        numerals.iter().for_each(|&n| check.mark(source, n));
-        check.say(&number, source.place(range.start), shown(&numbers));
+        comes_by(check, source, &range, &name, orders);
     }
+}
+
+/// Those that runs on pairs must come by.
+fn orders_come_by(check: &mut Check, source: &Source, orders: &Orders) {
+    let head = "const IN_ORDERS";
+    match source.lines().find(|(_, line)| line.starts_with(head)) {
+        Some((range, _)) => comes_by(check, source, &range, "order", orders),
+        None => check.fault(format!("{}: no `{head}`", source.path)),
+    }
+}
+
+/// The answers of a call that stand in a line.
+fn comes_by(check: &mut Check, source: &Source, range: &Range<usize>, name: &str, orders: &Orders) {
+    let Some((place, order)) = orders
+        .get(&format!("{name}_in"))
+        .or_else(|| orders.get(name))
+    else {
+        return check.fault(format!(
+            "{}: no comment gives its answers",
+            source.place(range.start)
+        ));
+    };
+    let number = format!("answers of {name}, 0 among them, by size");
+    let given: BTreeSet<u64> = order.iter().copied().chain([0]).collect();
+    check.say(
+        &number,
+        place.clone(),
+        shown(&given.into_iter().collect::<Vec<_>>()),
+    );
+    let numerals = source.numerals_in(range);
+    let numbers: Vec<u64> = numerals.iter().map(|&n| source.numerals[n].value).collect();
+    numerals.iter().for_each(|&n| check.mark(source, n));
+    check.say(&number, source.place(range.start), shown(&numbers));
 }
 
 /// `LoadAddress` as `load_address`.

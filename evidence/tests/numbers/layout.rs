@@ -5,7 +5,7 @@ use crate::check::Check;
 use crate::source::{Source, Sources};
 
 /// The crates' records that go to C, and their names there.
-const RECORDS: [(&str, &str, &str); 13] = [
+const RECORDS: [(&str, &str, &str); 17] = [
     ("crates/table/src/lib.rt", "Table", "lsq_table"),
     ("crates/queue/src/lib.rt", "Side", "lsq_side"),
     ("crates/queue/src/lib.rt", "Frame", "lsq_frame"),
@@ -17,11 +17,19 @@ const RECORDS: [(&str, &str, &str); 13] = [
     ("crates/live/src/calls.rt", "LiveStep", "lsq_step"),
     ("crates/live/src/calls.rt", "LiveService", "lsq_service"),
     ("crates/live/src/calls.rt", "LiveReady", "lsq_listed"),
+    ("crates/ordering/src/lib.rt", "Precedence", "lsq_precedence"),
+    (
+        "crates/ordering/src/lib.rt",
+        "Precedences",
+        "lsq_precedences",
+    ),
+    ("crates/ordering/src/lib.rt", "Ordered", "lsq_ordered"),
+    ("crates/grouping/src/lib.rt", "Accesses", "lsq_accesses"),
     ("crates/shift/src/lib.rt", "ShiftRecord", "lsq_shift_record"),
     ("crates/exports/src/lib.rt", "LentRecorded", "lsq_replayed"),
 ];
 
-pub const PATHS: [&str; 10] = [
+pub const PATHS: [&str; 12] = [
     "bindings/c/lsq.h",
     "bindings/rust/src/record.rs",
     "bindings/rust/src/live.rs",
@@ -30,6 +38,8 @@ pub const PATHS: [&str; 10] = [
     "crates/queue/src/lib.rt",
     "crates/live/src/bytes.rt",
     "crates/live/src/calls.rt",
+    "crates/ordering/src/lib.rt",
+    "crates/grouping/src/lib.rt",
     "crates/shift/src/lib.rt",
     "crates/exports/src/lib.rt",
 ];
@@ -91,7 +101,7 @@ fn added_up(check: &mut Check, sources: &Sources, source: &Source, name: &str, i
     };
     let (mut end, mut align) = (0, 1);
     for (field, kind) in fields {
-        let (size, aligned) = size_of(sources, &kind);
+        let (size, aligned) = size_of(sources, source, &kind);
         let start = up_to(end, aligned);
         let field = field
             .replace("load_entries", "loads")
@@ -124,8 +134,8 @@ fn fields(source: &Source, name: &str) -> Option<(String, Vec<(String, String)>)
     Some((source.place(start), lines.filter_map(field).collect()))
 }
 
-/// The size of a type and the places that it may stand at.
-fn size_of(sources: &Sources, kind: &str) -> (u64, u64) {
+/// The size of a type that a source names, and the places that it may stand at.
+fn size_of(sources: &Sources, source: &Source, kind: &str) -> (u64, u64) {
     if let Some(bits) = kind
         .strip_prefix('u')
         .and_then(|bits| bits.parse::<u64>().ok())
@@ -137,15 +147,33 @@ fn size_of(sources: &Sources, kind: &str) -> (u64, u64) {
             .trim_end_matches(']')
             .split_once("; ")
             .expect("an array");
-        let (size, align) = size_of(sources, element);
-        return (size * length.parse::<u64>().expect("a length"), align);
+        let (size, align) = size_of(sources, source, element);
+        return (size * length_of(sources, source, length), align);
     }
     let record = RECORDS.iter().find(|(_, name, _)| *name == kind);
     let (path, name, _) = record.unwrap_or_else(|| panic!("no record {kind}"));
-    let (_, fields) = fields(sources.get(path), name).unwrap_or_else(|| panic!("no record {kind}"));
+    let source = sources.get(path);
+    let (_, fields) = fields(source, name).unwrap_or_else(|| panic!("no record {kind}"));
     let (end, align) = fields.iter().fold((0, 1), |(end, align), (_, kind)| {
-        let (size, aligned) = size_of(sources, kind);
+        let (size, aligned) = size_of(sources, source, kind);
         (up_to(end, aligned) + size, align.max(aligned))
     });
     (up_to(end, align), align)
+}
+
+/// An array's length: a number, or a constant, of the source or of the crate that
+/// it is taken from.
+fn length_of(sources: &Sources, source: &Source, length: &str) -> u64 {
+    let taken = format!("::{length};");
+    let mut uses = source.text.lines();
+    let taken_from = uses.find_map(|line| line.strip_prefix("use ")?.strip_suffix(&taken));
+    if let Some(name) = taken_from {
+        let path = format!("crates/{name}/src/lib.rt");
+        return length_of(sources, sources.get(&path), length);
+    }
+    let head = format!("pub const {length}: usize = ");
+    let mut lines = source.text.lines();
+    let constant = lines.find_map(|line| line.strip_prefix(&head)?.strip_suffix(';'));
+    let number = constant.unwrap_or(length).parse();
+    number.unwrap_or_else(|_| panic!("{}: no length {length}", source.path))
 }

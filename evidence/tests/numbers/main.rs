@@ -29,8 +29,8 @@ fn whole() -> Vec<String> {
 /// The crates' sources, of which every constant must be.
 fn crates() -> Vec<String> {
     let libraries = [
-        "counts", "table", "queue", "shift", "replay", "printed", "paged", "exports", "live",
-        "program",
+        "counts", "table", "ordering", "grouping", "queue", "shift", "replay", "printed", "paged",
+        "exports", "live", "program",
     ];
     let folders = libraries.map(|name| format!("crates/{name}/src"));
     folders

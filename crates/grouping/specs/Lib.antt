@@ -1,0 +1,3 @@
+-- How an order of accesses becomes a group of a table.
+pub mod Grouping
+pub mod Internal

@@ -8,7 +8,7 @@ use mathlib.Core.Bool.{Bool, true, false, not, _&&_, _||_, false≢true}
 use mathlib.Core.List.{List, [], _∷_, map, append-nil}
 use lib.Dec.{eqb, leb, ltb}
 use lib.ListN.{length, getD, take, set, length-map}
-use borrow.Author.Tests.{le-leb, lt-leb, eqb-true, eq-eqb, ltb-true, ltb-false, le-ltb}
+use borrow.Author.Tests.{le-leb, lt-leb, leb-true, eqb-true, eq-eqb, ltb-true, ltb-false, le-ltb}
 use Rattle.number.specs.Basics.{pick, allOf, countWhere, frontWhile, afterWhile}
 use Rattle.number.specs.Reply.{need, passed}
 use Rattle.number.specs.Refusal.{badCounts, badPort, portSeen}
@@ -100,16 +100,22 @@ stores-hold loads i l low (store q ∷ xs) h =
     let e = h i (omega arith) in
     (eq-eqb l (countWhere (beforeStore i) loads) (omega arith), stores-hold loads (suc i) l l xs λ m k. h m (omega arith))
 
+loads-right : (xs : List Access) → Holds (loadRule (length (storePairs 0 xs))) 0 0 (loadPairs 0 xs)
+loads-right xs = loads-hold (length (storePairs 0 xs)) 0 0 0 0 xs (omega arith) (omega arith)
+
+stores-right : (xs : List Access) → Holds (storeRule (loadPairs 0 xs)) 0 0 (storePairs 0 xs)
+stores-right xs = stores-hold (loadPairs 0 xs) 0 0 0 xs λ m k. omega arith
+
 pub refused-for-counts-or-ports : RefusedForCountsOrPorts
 unfolding checkTable checkGroups checkGroup
 refused-for-counts-or-ports xs k h =
     which (eqb k badCounts) refl (eqb k badPort) refl (eqb k portSeen) refl (refused-among countsOrPorts (checkTable (withOffsets xs ∷ [])) whole h)
   where
     loads : refusesAmong countsOrPorts (checkPairs (loadRule (length (storePairs 0 xs))) 0 0 (noneSeen .loads) (loadPairs 0 xs)) ≡ true
-    loads = pairs-agree _ 0 0 _ _ (loads-hold (length (storePairs 0 xs)) 0 0 0 0 xs (omega arith) (omega arith))
+    loads = pairs-agree _ 0 0 _ _ (loads-right xs)
 
     stores : refusesAmong countsOrPorts (checkPairs (storeRule (loadPairs 0 xs)) 0 0 (noneSeen .stores) (storePairs 0 xs)) ≡ true
-    stores = pairs-agree _ 0 0 _ _ (stores-hold (loadPairs 0 xs) 0 0 0 xs λ m k. omega arith)
+    stores = pairs-agree _ 0 0 _ _ (stores-right xs)
 
     which : (a : Bool) → eqb k badCounts ≡ a → (b : Bool) → eqb k badPort ≡ b → (c : Bool) → eqb k portSeen ≡ c → a || (b || c) ≡ true
         → (k ≡ badCounts) ⊎ ((k ≡ badPort) ⊎ (k ≡ portSeen))
@@ -137,26 +143,23 @@ never-fall k [] = tt
 never-fall k (load q ∷ xs) = (each-above k k xs (omega arith), never-fall k xs)
 never-fall k (store q ∷ xs) = never-fall (suc k) xs
 
-each-within : (stores k l : ℕ) (xs : List Access) → k + length (storePairs l xs) ≤ stores
-    → Each (λ (offset : ℕ). offset ≤ stores) (map offsetOf (loadPairs k xs))
-each-within stores k l [] h = tt
-each-within stores k l (load q ∷ xs) h = (omega arith, each-within stores k (suc l) xs h)
-each-within stores k l (store q ∷ xs) h = each-within stores (suc k) l xs (omega arith)
+-- what a rule that holds of each pair says of all of them
+holds-within : (stores low i : ℕ) (ps : List Pair) → Holds (loadRule stores) low i ps → Each (λ (offset : ℕ). offset ≤ stores) (map offsetOf ps)
+unfolding Holds
+holds-within stores low i [] h = tt
+holds-within stores low i (p ∷ ps) h =
+    (leb-true (p .offset) stores (and-right (leb low (p .offset)) _ (h .0)), holds-within stores (p .offset) (suc i) ps (h .1))
 
-stores-agree : (loads : List Pair) (i l : ℕ) (xs : List Access)
-    → ((m : ℕ) → i ≤ m → countWhere (beforeStore m) loads ≡ l + countWhere (beforeStore m) (loadPairs i xs))
-    → (j : ℕ) → j < length (storePairs l xs) → getD (storePairs l xs) j blankPair .offset ≡ countWhere (beforeStore (i + j)) loads
-stores-agree loads i l [] h j low = absurd (omega arith)
-stores-agree loads i l (load q ∷ xs) h j low =
-    stores-agree loads i (suc l) xs (λ m k. let e = h m k in let e = rw (le-leb i m k) at e in omega arith) j low
-stores-agree loads i l (store q ∷ xs) h zero low =
-    let none = none-counted i (suc i) xs (omega arith) in
-    let e = h i (omega arith) in
+holds-at : (loads : List Pair) (low i : ℕ) (ps : List Pair) → Holds (storeRule loads) low i ps
+    → (j : ℕ) → j < length ps → getD ps j blankPair .offset ≡ countWhere (beforeStore (i + j)) loads
+unfolding Holds
+holds-at loads low i [] h j few = absurd (omega arith)
+holds-at loads low i (p ∷ ps) h zero few =
     let here : i + 0 ≡ i = omega arith in
-    rw here (omega arith)
-stores-agree loads i l (store q ∷ xs) h (suc j) low =
+    rw here (eqb-true (p .offset) (countWhere (beforeStore i) loads) (h .0))
+holds-at loads low i (p ∷ ps) h (suc j) few =
     let there : i + suc j ≡ suc i + j = omega arith in
-    rw there (stores-agree loads (suc i) l xs (λ m k. h m (omega arith)) j (omega arith))
+    rw there (holds-at loads (p .offset) (suc i) ps (h .1) j (omega arith))
 
 pub right-by-ports : RightByPorts
 right-by-ports xs = (to, from)
@@ -173,13 +176,14 @@ right-by-ports xs = (to, from)
 
     from : CountsAndPorts (withOffsets xs) → checkTable (withOffsets xs ∷ []) ≡ passed
     from r =
-        let agree : StoresAgree (withOffsets xs) = λ j low.
-        stores-agree (loadPairs 0 xs) 0 0 xs (λ m k. omega arith) j low ∙ ap (λ (m : ℕ). countWhere (beforeStore m) (loadPairs 0 xs)) (zero-add j) in
+        let agree : StoresAgree (withOffsets xs) = λ j few.
+        holds-at (loadPairs 0 xs) 0 0 (storePairs 0 xs) (stores-right xs) j few
+        ∙ ap (λ (m : ℕ). countWhere (beforeStore m) (loadPairs 0 xs)) (zero-add j) in
         right-tables (withOffsets xs ∷ []) .1 (record {
           group-count = (omega arith, omega arith);
           counts = (r .counts, tt);
           never-fall = (never-fall 0 xs, tt);
-          load-offsets = (each-within (length (storePairs 0 xs)) 0 0 xs (omega arith), tt);
+          load-offsets = (holds-within (length (storePairs 0 xs)) 0 0 (loadPairs 0 xs) (loads-right xs), tt);
           store-offsets = (agree, tt);
           load-ports = rw append-nil (r .load-ports);
           store-ports = rw append-nil (r .store-ports);

@@ -4,7 +4,7 @@ use mathlib.Core.Path.{_≡_, refl}
 use mathlib.Core.List.{List, [], _∷_}
 use lib.ListN.{replicate}
 use Rattle.ordering.specs.declared.Ordered.{Ordered}
-use Rattle.table.specs.TableBytes.{pair}
+use Rattle.table.specs.Packed.{pair}
 use Rattle.grouping.specs.declared.Accesses.{Accesses}
 use Rattle.grouping.specs.Grouping.{groupsInOrder}
 

@@ -1,7 +1,7 @@
 -- Laws of counting offsets: one access more.
 use Prim.Native.Nat.{ℕ, suc, _+_, _-_, _≤_, _<_}
 use native.Mathlib.Omega.{arith}
-use native.Mathlib.Nat.{zero-add}
+use native.Mathlib.Nat.{zero-add, add-zero, suc-add, add-suc}
 use native.Mathlib.Numerals.{add-one}
 use mathlib.Core.Path.{_≡_, refl, sym, ap, _∙_}
 use mathlib.Core.Bool.{Bool, true, false}
@@ -10,50 +10,42 @@ use lib.Dec.{eqb, leb, ltb}
 use lib.ListN.{length, take, getD, set, replicate, length-append, length-map}
 use lib.Seq.{set-at, append-snoc, take-suc, getD-take, length-take-le}
 use borrow.Author.Tests.{leb-true, ltb-true}
-use Rattle.number.specs.Basics.{pick}
+use Rattle.number.specs.Basics.{pick, keepWhere}
 use Rattle.number.proofs.Both.{and-left, and-right}
 use Rattle.number.proofs.AllLaws.{all-at}
 use Rattle.ordering.specs.declared.Ordered.{Ordered}
 use Rattle.table.specs.declared.Pair.{Pair}
-use Rattle.table.specs.Packed.{packedPair}
-use Rattle.table.specs.Group.{Access, load, store, loadPairs, storePairs}
-use Rattle.table.specs.TableBytes.{pair, filled, pack}
+use Rattle.table.specs.Packed.{pair, packedPair}
+use Rattle.table.specs.Group.{Access, load, store, pairOf, isLoad, isStore, pairsWhere, offsetsCounted, countedPairs}
+use Rattle.table.specs.TableBytes.{filled, pack}
 use Rattle.grouping.specs.declared.GroupSoFar.{GroupSoFar}
 use Rattle.grouping.specs.declared.Accesses.{Accesses}
 use Rattle.grouping.specs.Grouping.{accessAt, inOrder, withOffsets, namesAccesses, groupsInOrder}
 use Rattle.grouping.specs.Internal.{withPair, withAccess, Room, accessesOf, listed, HoldsGroup, oneGroup}
 
--- ---- loads and stores along accesses, one more at the end
+-- ---- loads and stores along accesses, and then along others
 
-loads-then-load : (k l : ℕ) (xs : List Access) (p : ℕ) → loadPairs k (xs ++ load p ∷ []) ≡ loadPairs k xs ++ pair (k + length (storePairs l xs)) p ∷ []
-loads-then-load k l [] p = let e : k ≡ k + 0 = omega arith in ap (λ (n : ℕ). pair n p ∷ []) e
-loads-then-load k l (load q ∷ xs) p = rw (loads-then-load k (suc l) xs p)
-loads-then-load k l (store q ∷ xs) p =
-    let e : suc k + length (storePairs l xs) ≡ k + suc (length (storePairs l xs)) = omega arith in
-    loads-then-load (suc k) l xs p ∙ ap (λ (n : ℕ). loadPairs (suc k) xs ++ pair n p ∷ []) e
+counted-append : (l s : ℕ) (xs ys : List Access) → offsetsCounted l s (xs ++ ys)
+    ≡ offsetsCounted l s xs ++ offsetsCounted (l + length (countedPairs isLoad l s xs)) (s + length (countedPairs isStore l s xs)) ys
+counted-append l s [] ys = rw (add-zero l, add-zero s)
+counted-append l s (load p ∷ xs) ys = rw (counted-append (suc l) s xs ys, suc-add, add-suc)
+counted-append l s (store p ∷ xs) ys = rw (counted-append l (suc s) xs ys, suc-add, add-suc)
 
-loads-then-store : (k : ℕ) (xs : List Access) (p : ℕ) → loadPairs k (xs ++ store p ∷ []) ≡ loadPairs k xs
-loads-then-store k [] p = refl
-loads-then-store k (load q ∷ xs) p = rw (loads-then-store k xs p)
-loads-then-store k (store q ∷ xs) p = loads-then-store (suc k) xs p
-
-stores-then-store : (l k : ℕ) (xs : List Access) (p : ℕ) → storePairs l (xs ++ store p ∷ []) ≡ storePairs l xs ++ pair (l + length (loadPairs k xs)) p ∷ []
-stores-then-store l k [] p = let e : l ≡ l + 0 = omega arith in ap (λ (n : ℕ). pair n p ∷ []) e
-stores-then-store l k (store q ∷ xs) p = rw (stores-then-store l (suc k) xs p)
-stores-then-store l k (load q ∷ xs) p =
-    let e : suc l + length (loadPairs k xs) ≡ l + suc (length (loadPairs k xs)) = omega arith in
-    stores-then-store (suc l) k xs p ∙ ap (λ (n : ℕ). storePairs (suc l) xs ++ pair n p ∷ []) e
-
-stores-then-load : (l : ℕ) (xs : List Access) (p : ℕ) → storePairs l (xs ++ load p ∷ []) ≡ storePairs l xs
-stores-then-load l [] p = refl
-stores-then-load l (store q ∷ xs) p = rw (stores-then-load l xs p)
-stores-then-load l (load q ∷ xs) p = stores-then-load (suc l) xs p
+pairs-append : (kind : Access → Bool) (xs ys : List Access) → pairsWhere kind (xs ++ ys) ≡ pairsWhere kind xs ++ pairsWhere kind ys
+pairs-append kind [] ys = refl
+pairs-append kind (x ∷ xs) ys = go (kind x) (pairs-append kind xs ys)
+  where
+    go : (t : Bool) → pairsWhere kind (xs ++ ys) ≡ pairsWhere kind xs ++ pairsWhere kind ys
+        → map pairOf (pick t (x ∷ keepWhere kind (xs ++ ys)) (keepWhere kind (xs ++ ys)))
+        ≡ map pairOf (pick t (x ∷ keepWhere kind xs) (keepWhere kind xs)) ++ pairsWhere kind ys
+    go true e = ap (λ (ps : List Pair). pairOf x ∷ ps) e
+    go false e = e
 
 -- each access is a load or a store
-pub both-lengths : (k l : ℕ) (xs : List Access) → length (loadPairs k xs) + length (storePairs l xs) ≡ length xs
-both-lengths k l [] = refl
-both-lengths k l (load q ∷ xs) = let e = both-lengths k (suc l) xs in omega arith
-both-lengths k l (store q ∷ xs) = let e = both-lengths (suc k) l xs in omega arith
+pub both-lengths : (l s : ℕ) (xs : List Access) → length (countedPairs isLoad l s xs) + length (countedPairs isStore l s xs) ≡ length xs
+both-lengths l s [] = refl
+both-lengths l s (load p ∷ xs) = let e = both-lengths (suc l) s xs in omega arith
+both-lengths l s (store p ∷ xs) = let e = both-lengths l (suc s) xs in omega arith
 
 -- ---- the records
 
@@ -72,27 +64,32 @@ pub group-none : {g : GroupSoFar} → g .loads ≡ listed [] → g .stores ≡ l
 group-none l s = record { loads = l; stores = s }
 
 module _ {xs : List Access} {g : GroupSoFar} (so : HoldsGroup xs g) (low : length xs < 32) where
-  few : (length (loadPairs 0 xs) < 32) × (length (storePairs 0 xs) < 32)
+  few : (length (countedPairs isLoad 0 0 xs) < 32) × (length (countedPairs isStore 0 0 xs) < 32)
   few = let e = both-lengths 0 0 xs in (omega arith, omega arith)
 
   pub group-room : Room g
   group-room = record { loads = rw (so .loads) (few .0); stores = rw (so .stores) (few .1) }
 
-  pub group-more : (kind port : ℕ) → HoldsGroup (xs ++ pick (eqb kind 0) load store port ∷ []) (withAccess g kind port)
+  -- the pairs of a kind, with one access more
+  more : (kind : Access → Bool) (a : Access) → countedPairs kind 0 0 (xs ++ a ∷ [])
+      ≡ countedPairs kind 0 0 xs ++ countedPairs kind (length (countedPairs isLoad 0 0 xs)) (length (countedPairs isStore 0 0 xs)) (a ∷ [])
+  more kind a = rw (counted-append 0 0 xs (a ∷ []), zero-add, zero-add) (pairs-append kind (offsetsCounted 0 0 xs) _)
+
+  pub group-more : (kind port : ℕ) → HoldsGroup (xs ++ pick (eqb kind 0) load store (pair 0 port) ∷ []) (withAccess g kind port)
   group-more kind port = go (eqb kind 0)
     where
-      go : (t : Bool) → HoldsGroup (xs ++ pick t load store port ∷ []) (pick t
+      go : (t : Bool) → HoldsGroup (xs ++ pick t load store (pair 0 port) ∷ []) (pick t
           (record { loads = withPair (g .loads) (pair (g .stores .count) port); stores = g .stores })
           (record { loads = g .loads; stores = withPair (g .stores) (pair (g .loads .count) port) }))
       go true = record {
-        loads = rw (so .loads, so .stores, loads-then-load 0 0 xs port, zero-add)
-            (listed-one (loadPairs 0 xs) (pair (length (storePairs 0 xs)) port) (few .0));
-        stores = so .stores ∙ rw (stores-then-load 0 xs port);
+        loads = rw (so .loads, so .stores, more isLoad (load (pair 0 port)))
+            (listed-one (countedPairs isLoad 0 0 xs) (pair (length (countedPairs isStore 0 0 xs)) port) (few .0));
+        stores = so .stores ∙ rw (more isStore (load (pair 0 port)), append-nil);
       }
       go false = record {
-        loads = so .loads ∙ rw (loads-then-store 0 xs port);
-        stores = rw (so .loads, so .stores, stores-then-store 0 0 xs port, zero-add)
-            (listed-one (storePairs 0 xs) (pair (length (loadPairs 0 xs)) port) (few .1));
+        loads = so .loads ∙ rw (more isLoad (store (pair 0 port)), append-nil);
+        stores = rw (so .loads, so .stores, more isStore (store (pair 0 port)))
+            (listed-one (countedPairs isStore 0 0 xs) (pair (length (countedPairs isLoad 0 0 xs)) port) (few .1));
       }
 
 -- the table of the group is the one that packs it

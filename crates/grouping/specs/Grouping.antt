@@ -15,15 +15,16 @@ use Rattle.ordering.specs.declared.Ordered.{Ordered}
 use Rattle.ordering.specs.declared.Precedence.{Precedence}
 use Rattle.ordering.specs.Answer.{answer}
 use Rattle.ordering.specs.Records.{ordered, orderIn}
-use Rattle.table.specs.Group.{GroupPairs, Access, load, store, portOf, loadPairs, storePairs, order}
+use Rattle.table.specs.Group.{GroupPairs, Access, load, store, isLoad, isStore, order, offsetsCounted, countedPairs, uncounted}
 use Rattle.table.specs.Table.{groupsOf, checkTable}
+use Rattle.table.specs.Packed.{pair}
 use Rattle.table.specs.TableBytes.{pack}
-use Rattle.table.specs.RightTables.{CountsWithin, PortsWithin, Distinct}
+use Rattle.table.specs.RightTables.{CountsWithin, PortsWithin, Distinct, portOf}
 use Rattle.grouping.specs.declared.Accesses.{Accesses}
 
--- the access of a number: kind 0 is a load, and any other a store; of its port
+-- the access of a number: kind 0 is a load, and any other a store; of its port. Its offset is not counted yet, and is 0.
 abbrev pub accessAt : Accesses → ℕ → Access
-accessAt accesses a = pick (eqb (getD (accesses .kinds) a 0) 0) load store (getD (accesses .ports) a 0)
+accessAt accesses a = pick (eqb (getD (accesses .kinds) a 0) 0) load store (pair 0 (getD (accesses .ports) a 0))
 
 -- the accesses in an order
 abbrev pub inOrder : Accesses → List ℕ → List Access
@@ -31,7 +32,7 @@ inOrder accesses numbers = map (accessAt accesses) numbers
 
 -- "A load's offset counts the group's stores before it; a store's counts the loads before it."
 abbrev pub withOffsets : List Access → GroupPairs
-withOffsets accesses = record { loads = loadPairs 0 accesses; stores = storePairs 0 accesses }
+withOffsets accesses = record { loads = countedPairs isLoad 0 0 accesses; stores = countedPairs isStore 0 0 accesses }
 
 -- The record is no refusal, and its first `count` places are numbers below 32. That each stands there once is not asked: an access that
 -- stands there twice has its port there twice.
@@ -43,9 +44,13 @@ abbrev pub groupsInOrder : Ordered → Accesses → List GroupPairs
 groupsInOrder r accesses = pick (namesAccesses r) (withOffsets (inOrder accesses (orderIn r)) ∷ []) []
 
 -- What a group's offsets say, read by document 01's rule ("load i is before store j when its offset is at most j"), is the order that
--- they were counted in. The proofs are proofs/Orders.antt.
+-- they were counted in: the accesses stand there as they were given, but for their offsets, ..
 abbrev pub OrderKept : Type 0
-OrderKept = (accesses : List Access) → order (withOffsets accesses) ≡ accesses
+OrderKept = (accesses : List Access) → map uncounted (order (withOffsets accesses)) ≡ map uncounted accesses
+
+-- .. which are counted. The proofs are proofs/Orders.antt.
+abbrev pub OrderCounted : Type 0
+OrderCounted = (accesses : List Access) → order (withOffsets accesses) ≡ offsetsCounted 0 0 accesses
 
 -- Where the table of such a group is refused it is for its counts or its ports, and so never for an offset, ..
 abbrev pub RefusedForCountsOrPorts : Type 0
@@ -67,7 +72,7 @@ RightByPorts = (accesses : List Access) → (checkTable (withOffsets accesses �
 abbrev pub OrdersGrouped : Type 0
 OrdersGrouped =
     (n : ℕ) (pairs : List Precedence) (accesses : Accesses) (numbers : List ℕ) → answer n pairs ≡ accept numbers
-    → map order (groupsInOrder (ordered (answer n pairs)) accesses) ≡ map (accessAt accesses) numbers ∷ []
+    → map (λ g. map uncounted (order g)) (groupsInOrder (ordered (answer n pairs)) accesses) ≡ map (accessAt accesses) numbers ∷ []
 
 abbrev pub RefusalsGroupNothing : Type 0
 RefusalsGroupNothing =

@@ -10,9 +10,9 @@ use Rattle.ordering.specs.Records.{orderIn}
 use Rattle.table.specs.declared.Pair.{Pair}
 use Rattle.table.specs.declared.Span.{Span}
 use Rattle.table.specs.declared.Table.{Table}
-use Rattle.table.specs.Packed.{packedPair, packedGroup}
+use Rattle.table.specs.Packed.{pair, packedPair, packedGroup}
 use Rattle.table.specs.Group.{Access}
-use Rattle.table.specs.TableBytes.{pair, filled}
+use Rattle.table.specs.TableBytes.{filled}
 use Rattle.grouping.specs.declared.Accesses.{Accesses}
 use Rattle.grouping.specs.declared.PairList.{PairList}
 use Rattle.grouping.specs.declared.GroupSoFar.{GroupSoFar}

@@ -29,8 +29,8 @@ numberRead (refuse k) = []
 -- an access as two numbers: 0 for a load or 1 for a store, and its port
 abbrev pub shownAccesses : List Access → List ℕ
 shownAccesses [] = []
-shownAccesses (load p ∷ rest) = 0 ∷ p ∷ shownAccesses rest
-shownAccesses (store p ∷ rest) = 1 ∷ p ∷ shownAccesses rest
+shownAccesses (load p ∷ rest) = 0 ∷ p .port ∷ shownAccesses rest
+shownAccesses (store p ∷ rest) = 1 ∷ p .port ∷ shownAccesses rest
 
 abbrev pub orderOf : Reply (Got GroupPairs) → List ℕ
 orderOf (accept (got g s)) = shownAccesses (order g)
@@ -95,7 +95,7 @@ cases =
     -- K4: FF FF FF FF 10 gets 2
     ∷ case 4 (number (readNumber (0xFF ∷ 0xFF ∷ 0xFF ∷ 0xFF ∷ 0x10 ∷ [])) ∷ []) (2 ∷ [])
     -- K5: group 2,2,0,4,2,5,1,3,1,4 is load 4, store 3, store 4, load 5
-    ∷ case 5 (orderOf (readGroup noneSeen k5Group)) (shownAccesses (load 4 ∷ store 3 ∷ store 4 ∷ load 5 ∷ []))
+    ∷ case 5 (orderOf (readGroup noneSeen k5Group)) (0 ∷ 4 ∷ 1 ∷ 3 ∷ 1 ∷ 4 ∷ 0 ∷ 5 ∷ [])
     -- K6: with first store offset 0 it gets 8
     ∷ case 6 (number (readGroup noneSeen k6Group) ∷ []) (8 ∷ [])
     -- K7: K5, alone in its table, opened at load depth 1 with store depth 2 and memory length 4 gets 14

@@ -4,73 +4,53 @@ use native.Mathlib.Nat.{le-trans, add-zero, add-suc}
 use native.Mathlib.Omega.{arith}
 use mathlib.Core.Path.{_≡_, refl, sym, ap, _∙_}
 use mathlib.Core.Bool.{true, false, _&&_}
-use mathlib.Core.List.{List, [], _∷_, _++_, map, map-append, map-map}
+use mathlib.Core.List.{List, [], _∷_, map}
 use lib.Dec.{leb}
-use lib.ListN.{length, getD}
+use lib.ListN.{length, getD, length-map}
 use borrow.Author.Tests.{leb-true}
-use Rattle.table.specs.declared.Pair.{Pair}
 use Rattle.table.specs.declared.Span.{Span}
 use Rattle.table.specs.declared.Group.{Group}
-use Rattle.table.specs.Group.{GroupPairs, blankPair, listOf, pairsOf, Inside, Access, load, store, order, loadPairs, storePairs}
+use Rattle.table.specs.Group as T
+use Rattle.table.specs.Group.{GroupPairs, blankPair, listOf, pairsOf, Inside, Access, order, countedPairs}
 use Rattle.table.specs.Table.{groupAt, groupsOf}
 use Rattle.table.proofs.CheckLaws.{view-length, groups-size}
 use Rattle.table.proofs.OrderOffsets.{GroupRight}
+use Rattle.queue.specs.declared.Kind.the-variants.{Load as load, Store as store}
+use Rattle.queue.specs.Entry.{entryIn}
+use Rattle.queue.specs.Contents.{Contents, contentsOf, ofKind}
+use Rattle.queue.specs.Sound.{sound}
+use Rattle.queue.specs.Activate.{room, withGroup, activate, newEntries, isOf}
+use Rattle.queue.specs.Parts.{queueOf}
+use Rattle.queue.specs.Internal.{entryAfter, PairsFit, Appended, longer, withPairs}
+use Rattle.queue.specs.declared.Kind.{Kind}
 use Rattle.queue.specs.declared.Queue.{Queue}
-use Rattle.queue.specs.Contents.{Contents, loadOf, storeOf, loadIn, storeIn, contentsOf}
-use Rattle.queue.specs.declared.Entry.{Entry}
-use Rattle.queue.specs.Entry.{entryOf}
 use Rattle.number.specs.Refusal.{unsound, noGroup, noPlace}
 use Rattle.number.specs.Reply.{refuse, accept, need}
-use Rattle.queue.specs.Sound.{sound}
-use Rattle.queue.specs.Activate.{newLoads, newStores, room, withGroup, activate}
-use Rattle.queue.specs.Parts.{queueOf}
-use Rattle.queue.specs.Internal.{sideOf, entriesHeld}
-use Rattle.queue.specs.Internal.{loadAfter, storeAfter, entryAfter, PairsFit, Appended, longer, withPairs}
 use Rattle.number.proofs.Both.{and-left, and-right}
-use Rattle.queue.proofs.Lists.{map-same}
-use Rattle.queue.proofs.ContentsLaws.{getElem?-past, side-length}
-use Rattle.queue.proofs.EntryLaws.{side-holds}
-use Rattle.queue.proofs.SoundLaws.{load-depth-most, store-depth-most, table-right}
+use Rattle.queue.proofs.ContentsLaws.{getElem?-past, mapped-length}
+use Rattle.queue.proofs.SoundLaws.{depth-most, table-right}
 use Rattle.queue.proofs.GroupLaws.{groups-few, group-getElem?}
 
 -- ---- the new entries by their offsets
-new-loads-offsets : (n k : ℕ) (xs : List Access) → newLoads (n + k) xs ≡ map (loadAfter n) (loadPairs k xs)
-new-loads-offsets n k [] = refl
-new-loads-offsets n k (load p ∷ xs) = rw (new-loads-offsets n k xs)
-new-loads-offsets n k (store p ∷ xs) = rw (← add-suc n k) (new-loads-offsets n (suc k) xs)
+new-counted : (kind : Kind) (n loads stores : ℕ) (xs : List Access)
+    → newEntries kind (n + ofKind kind stores loads) xs ≡ map (entryAfter n) (countedPairs (isOf kind) loads stores xs)
+new-counted kind n l s [] = refl
+new-counted load n l s (T.load p ∷ xs) = rw (new-counted load n (suc l) s xs)
+new-counted load n l s (T.store p ∷ xs) = rw (← add-suc n s) (new-counted load n l (suc s) xs)
+new-counted store n l s (T.load p ∷ xs) = rw (← add-suc n l) (new-counted store n (suc l) s xs)
+new-counted store n l s (T.store p ∷ xs) = rw (new-counted store n l (suc s) xs)
 
-new-stores-offsets : (n k : ℕ) (xs : List Access) → newStores (n + k) xs ≡ map (storeAfter n) (storePairs k xs)
-new-stores-offsets n k [] = refl
-new-stores-offsets n k (load p ∷ xs) = rw (← add-suc n k) (new-stores-offsets n (suc k) xs)
-new-stores-offsets n k (store p ∷ xs) = rw (new-stores-offsets n k xs)
-
-module _ {g : GroupPairs} (right : GroupRight g) (n : ℕ) where
-  new-loads : map (loadAfter n) (g .loads) ≡ newLoads n (order g)
-  new-loads = ap (map (loadAfter n)) (sym (right .loads-are)) ∙ sym (new-loads-offsets n 0 (order g)) ∙ ap (λ (m : ℕ). newLoads m (order g)) (add-zero n)
-
-  new-stores : map (storeAfter n) (g .stores) ≡ newStores n (order g)
-  new-stores =
-      ap (map (storeAfter n)) (sym (right .stores-are)) ∙ sym (new-stores-offsets n 0 (order g)) ∙ ap (λ (m : ℕ). newStores m (order g)) (add-zero n)
+new-entries : (kind : Kind) (n : ℕ) {g : GroupPairs} → GroupRight g → map (entryAfter n) (ofKind kind (g .loads) (g .stores)) ≡ newEntries kind n (order g)
+new-entries load n {g} right =
+    ap (map (entryAfter n)) (sym (right .loads-are)) ∙ sym (new-counted load n 0 0 (order g)) ∙ ap (λ (m : ℕ). newEntries load m (order g)) (add-zero n)
+new-entries store n {g} right =
+    ap (map (entryAfter n)) (sym (right .stores-are)) ∙ sym (new-counted store n 0 0 (order g)) ∙ ap (λ (m : ℕ). newEntries store m (order g)) (add-zero n)
 
 -- in a right group the offsets say what the order says
 pub with-group-is : (q : Contents) (g : GroupPairs) → GroupRight g → withPairs q g ≡ withGroup q g
-with-group-is q g right = rw (new-loads right (length (q .stores)), new-stores right (length (q .loads)))
+with-group-is q g right = rw (new-entries load (length (q .stores .entries)) right, new-entries store (length (q .loads .entries)) right)
 
 -- ---- on the record
--- the new entries as loads, as stores: `f` says what an entry holds
-side-longer : {B : Type 0} (f : Entry → B) (new : Pair → B) {held others : ℕ} {places : List ℕ} {ps : Span} {l left : List ℕ}
-    → ((p : Pair) → f (entryAfter others p) ≡ new p) → Appended held places ps others l left
-    → sideOf (λ (x : ℕ). f (entryOf x)) 0 (held + ps .count) left ≡ sideOf (λ (x : ℕ). f (entryOf x)) 0 held l ++ map new (listOf places ps)
-side-longer {B} f new {held} {others} {places} {ps} {l} {left} same a =
-    side-holds f (held + ps .count) left
-    ∙ rw (
-      a .holds,
-      map-append f (entriesHeld held l) (map (entryAfter others) (listOf places ps)),
-      side-holds f held l,
-      map-map f (entryAfter others) (listOf places ps),
-    )
-    (ap (λ (t : List B). map f (entriesHeld held l) ++ t) (map-same (λ (p : Pair). f (entryAfter others p)) new same (listOf places ps)))
-
 module _ (q : Queue) (g : Group) where
   abbrev chosen : GroupPairs
   chosen = pairsOf (q .frame .table .loads) (q .frame .table .stores) g
@@ -86,8 +66,8 @@ module _ (q : Queue) (g : Group) where
       (q .frame .stores .depth)
   unfolding contentsOf
   room-record = rw (
-    side-length loadIn 0 (q .frame .loads .count) (q .«load_entries»),
-    side-length storeIn 0 (q .frame .stores .count)
+    mapped-length entryIn 0 (q .frame .loads .count) (q .«load_entries»),
+    mapped-length entryIn 0 (q .frame .stores .count)
         (q .«store_entries»),
     loads-size,
     stores-size,
@@ -105,12 +85,15 @@ module _ (q : Queue) (g : Group) where
   unfolding contentsOf
   appended-both {ls} {ss} a b =
       rw (
-        side-length loadIn 0 (q .frame .loads .count) (q .«load_entries»),
-        side-length storeIn 0 (q .frame .stores .count) (q .«store_entries»),
+        mapped-length entryIn 0 (q .frame .loads .count) (q .«load_entries»),
+        mapped-length entryIn 0 (q .frame .stores .count) (q .«store_entries»),
+        length-map (chosen .loads) (entryAfter (q .frame .stores .count)),
+        length-map (chosen .stores) (entryAfter (q .frame .loads .count)),
         loads-size,
         stores-size,
+        a .holds,
+        b .holds,
       )
-      (rw (side-longer loadOf (loadAfter (q .frame .stores .count)) (λ p. refl) a, side-longer storeOf (storeAfter (q .frame .loads .count)) (λ p. refl) b))
 
 -- a right group's pairs fit where there is room
 module _ (places : List ℕ) (ps : Span) (inside : Inside ps) (few : length (listOf places ps) ≤ 16) (offset : (i : ℕ) → i < length (listOf places ps)
@@ -138,9 +121,9 @@ group-fits q g (hl, hs) s right r =
     let stores = leb (q .frame .stores .count + g .stores .count) (q .frame .stores .depth) in
     let both : loads && stores ≡ true = sym (room-record q g) ∙ r in (
       pairs-fit (q .frame .table .loads) (g .loads) hl (right .few-loads) (right .load-offset) (right .load-port) (q .frame .loads .count)
-          (q .frame .loads .depth) (and-left loads stores both) (load-depth-most q s),
+          (q .frame .loads .depth) (and-left loads stores both) (depth-most q s load),
       pairs-fit (q .frame .table .stores) (g .stores) hs (right .few-stores) (right .store-offset) (right .store-port) (q .frame .stores .count)
-          (q .frame .stores .depth) (and-right loads stores both) (store-depth-most q s),
+          (q .frame .stores .depth) (and-right loads stores both) (depth-most q s store),
     )
 
 -- ---- the call

@@ -7,8 +7,8 @@ use mathlib.Core.Path.{_≡_, refl, ap, _∙_}
 use mathlib.Core.List.{List, [], _∷_, _++_, map, map-append}
 use lib.ListN.{length, getD, take, set, length-map, List·getD-map}
 use lib.Seq.{paste, paste-zero, paste-suc, take-paste, length-paste}
+use Rattle.number.specs.Basics.{held}
 use Rattle.number.proofs.HeldLaws.{held-few}
-use Rattle.queue.specs.Internal.{sideOf}
 use Rattle.queue.proofs.Lists.{take-map}
 
 -- what an array is once the first j of `s`, made entries by `f`, stand in it from the place `n` on, where it was `d`
@@ -31,10 +31,10 @@ module _ {A B : Type 0} {f : A → B} {d : List B} {n : ℕ} {s : List A} where
         rw (w .is, e, take-paste d n (map f s) k hd q, take-map f k s)
 
 -- what the side then holds: `new` is what an entry made by `f` holds, of each that was put there
-pub side-appended : {A B C : Type 0} (h : B → C) (blank : B) (f : A → B) (new : A → C) (z : A) {d : List B} {n : ℕ} {s : List A} {j : ℕ} {l : List B}
+pub mapped-appended : {A B C : Type 0} (h : B → C) (blank : B) (f : A → B) (new : A → C) (z : A) {d : List B} {n : ℕ} {s : List A} {j : ℕ} {l : List B}
     → Pasted f d n s j l → (k : ℕ) → j ≡ k → n + k ≤ length d → k ≤ length s → ((i : ℕ) → i < k → h (f (getD s i z)) ≡ new (getD s i z))
-    → sideOf h blank (n + k) l ≡ sideOf h blank n d ++ map new (take k s)
-side-appended {A} {B} {C} h blank f new z {d} {n} {s} {j} {l} w k q hd hs e =
+    → map h (held blank (n + k) l) ≡ map h (held blank n d) ++ map new (take k s)
+mapped-appended {A} {B} {C} h blank f new z {d} {n} {s} {j} {l} w k q hd hs e =
     let long : length l ≡ length d = rw (w .is, q) (length-paste d n (map f s) k hd (rw (length-map s f) hs)) in
     let hl : n + k ≤ length l = rw long hd in
     rw (held-few blank (n + k) l hl, held-few blank n d (le-trans (le-add-right n k) hd), pasted-front w k q (le-trans (le-add-right n k) hd) hs)

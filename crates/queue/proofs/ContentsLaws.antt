@@ -1,18 +1,22 @@
--- What a queue's record holds, by its places: the entries below a count, one entry made anew, a side put in place of another.
+-- What a queue's record holds, by its places: the entries below a count, and one entry made anew.
 use Prim.Native.Nat.{ℕ, zero, suc, _+_, _≤_, _<_}
 use native.Mathlib.Nat.{not-suc-le-zero, le-of-suc-le-suc}
 use native.Mathlib.Numerals.{add-one}
-use mathlib.Core.Path.{_≡_, refl, ap, _∙_}
+use mathlib.Core.Path.{_≡_, refl, ap, ap₂, _∙_}
 use mathlib.Core.List.{List, [], _∷_, map}
 use mathlib.Core.Option.{none, some}
 use lib.ListN.{length, getD, take, drop, set, length-map, length-set, List·getD-map, drop-of-length-le, getElem?}
 use lib.Seq.{take-set-lt, drop-cons}
 use Rattle.number.specs.Basics.{held}
 use Rattle.number.proofs.HeldLaws.{held-few, held-here, held-length, held-take}
+use Rattle.queue.specs.declared.Kind.{Kind}
+use Rattle.queue.specs.declared.Kind.the-variants.{Load as load, Store as store}
+use Rattle.queue.specs.declared.Side.{Side as SideStruct}
 use Rattle.queue.specs.declared.Queue.{Queue}
-use Rattle.queue.specs.Contents.{Load, Store, loadIn, storeIn, contentsOf, withLoads, withStores, updateAt, age, oldest, loadPlace, storePlace}
+use Rattle.queue.specs.Entry.{Entry, entryIn}
+use Rattle.queue.specs.Contents.{entriesHeld, contentsOf, ofKind, sideOf, withEntries, updateAt, age, oldest, placeOf}
 use Rattle.queue.specs.Parts.{queueOf}
-use Rattle.queue.specs.Internal.{sideOf, loadsHeld, storesHeld}
+use Rattle.queue.specs.Internal.{MadeAnew}
 use Rattle.queue.proofs.Lists.{take-map}
 
 -- ---- a list's places
@@ -38,86 +42,107 @@ module _ {A : Type 0} where
   map-set f (y ∷ l) zero x = refl
   map-set {B} f (y ∷ l) (suc i) x = ap (λ (t : List B). f y ∷ t) (map-set f l i x)
 
--- ---- one side: what a count and an array of entries hold
+-- ---- what is made of the elements that a count and a list hold: of entries, of groups
 module _ {A B : Type 0} (f : A → B) (blank : A) (n : ℕ) (l : List A) where
-  -- as long as the count, whatever the record
-  pub side-length : length (sideOf f blank n l) ≡ n
-  side-length = length-map (held blank n l) f ∙ held-length blank n l
+  -- as many as the count, whatever the list
+  pub mapped-length : length (map f (held blank n l)) ≡ n
+  mapped-length = length-map (held blank n l) f ∙ held-length blank n l
 
-  -- the oldest of them
-  pub side-take : (m : ℕ) → m ≤ n → take m (sideOf f blank n l) ≡ sideOf f blank m l
-  side-take m k = take-map f m (held blank n l) ∙ ap (map f) (held-take blank n l m k)
+  -- the first of them
+  pub mapped-take : (m : ℕ) → m ≤ n → take m (map f (held blank n l)) ≡ map f (held blank m l)
+  mapped-take m k = take-map f m (held blank n l) ∙ ap (map f) (held-take blank n l m k)
 
-  pub side-at : (i : ℕ) → i < n → getD (sideOf f blank n l) i (f blank) ≡ f (getD l i blank)
-  side-at i k = List·getD-map f (held blank n l) i blank ∙ rw (held-here blank n l i k)
+  pub mapped-at : (i : ℕ) → i < n → getD (map f (held blank n l)) i (f blank) ≡ f (getD l i blank)
+  mapped-at i k = List·getD-map f (held blank n l) i blank ∙ rw (held-here blank n l i k)
 
-  pub side-getElem? : (i : ℕ) → i < n → getElem? (sideOf f blank n l) i ≡ some (f (getD l i blank))
-  side-getElem? i k = getElem?-getD (sideOf f blank n l) i (f blank) (rw side-length k) ∙ rw (side-at i k)
+  pub mapped-getElem? : (i : ℕ) → i < n → getElem? (map f (held blank n l)) i ≡ some (f (getD l i blank))
+  mapped-getElem? i k = getElem?-getD (map f (held blank n l)) i (f blank) (rw mapped-length k) ∙ rw (mapped-at i k)
 
-  -- within the array
-  module _ (h : n ≤ length l) where
-    pub side-few : sideOf f blank n l ≡ map f (take n l)
-    side-few = rw (held-few blank n l h)
+  -- those from the ith on: what a walk over them comes to
+  pub mapped-here : (i : ℕ) → i < n → drop i (map f (held blank n l)) ≡ f (getD l i blank) ∷ drop (i + 1) (map f (held blank n l))
+  mapped-here i k = rw (add-one, ← mapped-at i k) (drop-cons (map f (held blank n l)) i (f blank) (rw mapped-length k))
 
-    -- one entry put in its place
-    pub side-set : (i : ℕ) (x : A) → i < n → sideOf f blank n (set l i x) ≡ set (sideOf f blank n l) i (f x)
-    side-set i x k =
-        rw (held-few blank n (set l i x) (rw length-set h), held-few blank n l h, ← map-set f (take n l) i x)
-        (ap (map f) (take-set-lt n l i x k))
+  pub mapped-end : (i : ℕ) → n ≤ i → drop i (map f (held blank n l)) ≡ []
+  mapped-end i k =
+      let e : length (map f (held blank n l)) ≤ i = rw mapped-length k in
+      drop-of-length-le (map f (held blank n l)) e
 
-    -- one entry made anew, as `g` makes what it holds anew
-    pub side-update : (g : B → B) (i : ℕ) (x : A) → i < n → f x ≡ g (f (getD l i blank)) → sideOf f blank n (set l i x) ≡ updateAt g i (sideOf f blank n l)
-    side-update g i x k e = side-set i x k ∙ rw (update-set g (sideOf f blank n l) i (f blank), side-at i k, e)
+  -- within the list
+  pub mapped-few : n ≤ length l → map f (held blank n l) ≡ map f (take n l)
+  mapped-few h = rw (held-few blank n l h)
 
-  -- the entries from the ith on: what a walk over the side comes to
-  pub side-here : (i : ℕ) → i < n → drop i (sideOf f blank n l) ≡ f (getD l i blank) ∷ drop (i + 1) (sideOf f blank n l)
-  side-here i k =
-      rw (add-one, ← side-at i k)
-      (drop-cons (sideOf f blank n l) i (f blank) (rw side-length k))
+-- one entry made anew
+pub entries-anew : (n : ℕ) (l : List ℕ) → n ≤ length l → {f : Entry → Entry} (i : ℕ) {left : List ℕ} → i < n → MadeAnew f i l left
+    → entriesHeld n left ≡ updateAt f i (entriesHeld n l)
+entries-anew n l h {f} i k w =
+    let put : entriesHeld n (set l i (w .number)) ≡ set (entriesHeld n l) i (entryIn (w .number)) =
+    rw (mapped-few entryIn 0 n (set l i (w .number)) (rw length-set h), mapped-few entryIn 0 n l h, ← map-set entryIn (take n l) i (w .number))
+    (ap (map entryIn) (take-set-lt n l i (w .number) k)) in
+    ap (entriesHeld n) (w .leaves) ∙ put ∙ rw (update-set f (entriesHeld n l) i (entryIn 0), mapped-at entryIn 0 n l i k, w .holds)
 
-  pub side-end : (i : ℕ) → n ≤ i → drop i (sideOf f blank n l) ≡ []
-  side-end i k =
-      let e : length (sideOf f blank n l) ≤ i = rw side-length k in
-      drop-of-length-le (sideOf f blank n l) e
+-- ---- a side of a queue, by its kind
+-- its record, and its run of numbers
+abbrev pub countsOf : Kind → Queue → SideStruct
+countsOf kind q = ofKind kind (q .frame .loads) (q .frame .stores)
 
--- ---- both sides of a queue
-module _ (q : Queue) where
-  pub loads-held : contentsOf q .loads ≡ loadsHeld (q .frame .loads .count) (q .«load_entries»)
-  unfolding contentsOf
-  loads-held = refl
+abbrev pub numbersOf : Kind → Queue → List ℕ
+numbersOf kind q = ofKind kind (q .«load_entries») (q .«store_entries»)
 
-  pub stores-held : contentsOf q .stores ≡ storesHeld (q .frame .stores .count) (q .«store_entries»)
-  unfolding contentsOf
-  stores-held = refl
+abbrev pub withNumbers : Kind → Queue → List ℕ → Queue
+withNumbers load q left = queueOf (q .frame) left (q .«store_entries»)
+withNumbers store q left = queueOf (q .frame) (q .«load_entries») left
 
-  pub words-held : contentsOf q .memoryLength ≡ q .frame .«memory_length»
-  unfolding contentsOf
-  words-held = refl
+abbrev pub opposite : Kind → Kind
+opposite load = store
+opposite store = load
 
-  pub loads-count : length (contentsOf q .loads) ≡ q .frame .loads .count
-  loads-count = ap length loads-held ∙ side-length loadIn 0 (q .frame .loads .count) (q .«load_entries»)
+pub same-numbers : (kind : Kind) (q : Queue) → withNumbers kind q (numbersOf kind q) ≡ q
+same-numbers load q = refl
+same-numbers store q = refl
 
-  pub stores-count : length (contentsOf q .stores) ≡ q .frame .stores .count
-  stores-count = ap length stores-held ∙ side-length storeIn 0 (q .frame .stores .count) (q .«store_entries»)
+pub words-held : (q : Queue) → contentsOf q .memoryLength ≡ q .frame .«memory_length»
+unfolding contentsOf
+words-held q = refl
+
+pub side-held : (kind : Kind) (q : Queue) → sideOf kind (contentsOf q) .entries ≡ entriesHeld (countsOf kind q .count) (numbersOf kind q)
+unfolding contentsOf
+side-held load q = refl
+side-held store q = refl
+
+pub side-depth : (kind : Kind) (q : Queue) → sideOf kind (contentsOf q) .depth ≡ countsOf kind q .depth
+unfolding contentsOf
+side-depth load q = refl
+side-depth store q = refl
+
+pub side-next : (kind : Kind) (q : Queue) → sideOf kind (contentsOf q) .next ≡ countsOf kind q .next
+unfolding contentsOf
+side-next load q = refl
+side-next store q = refl
+
+module _ (kind : Kind) (q : Queue) where
+  pub side-count : length (sideOf kind (contentsOf q) .entries) ≡ countsOf kind q .count
+  side-count = ap length (side-held kind q) ∙ mapped-length entryIn 0 (countsOf kind q .count) (numbersOf kind q)
 
   -- the place that a serial names
-  pub load-place : (serial : ℕ) → loadPlace (contentsOf q) serial ≡ age (oldest (q .frame .loads .next) (q .frame .loads .count)) serial
-  unfolding contentsOf
-  load-place serial = rw (side-length loadIn 0 (q .frame .loads .count) (q .«load_entries»))
+  pub side-place : (serial : ℕ) → placeOf (sideOf kind (contentsOf q)) serial ≡ age (oldest (countsOf kind q .next) (countsOf kind q .count)) serial
+  side-place serial = ap₂ (λ (next n : ℕ). age (oldest next n) serial) (side-next kind q) side-count
 
-  pub store-place : (serial : ℕ) → storePlace (contentsOf q) serial ≡ age (oldest (q .frame .stores .next) (q .frame .stores .count)) serial
-  unfolding contentsOf
-  store-place serial = rw (side-length storeIn 0 (q .frame .stores .count) (q .«store_entries»))
+  -- the entry at a place
+  pub side-getElem? : (i : ℕ) → i < countsOf kind q .count → getElem? (sideOf kind (contentsOf q) .entries) i ≡ some (entryIn (getD (numbersOf kind q) i 0))
+  side-getElem? i k =
+      ap (λ (l : List Entry). getElem? l i) (side-held kind q) ∙ mapped-getElem? entryIn 0 (countsOf kind q .count) (numbersOf kind q) i k
 
-  -- one entry made anew, as `g` makes what it holds anew
-  pub load-anew : (g : Load → Load) (i x : ℕ) → q .frame .loads .count ≤ length (q .«load_entries») → i < q .frame .loads .count
-      → loadIn x ≡ g (loadIn (getD (q .«load_entries») i 0))
-      → contentsOf (queueOf (q .frame) (set (q .«load_entries») i x) (q .«store_entries»)) ≡ withLoads (contentsOf q) (updateAt g i (contentsOf q .loads))
-  unfolding contentsOf
-  load-anew g i x w k e = rw (side-update loadIn 0 (q .frame .loads .count) (q .«load_entries») w g i x k e)
+  pub side-past : (i : ℕ) → countsOf kind q .count ≤ i → getElem? (sideOf kind (contentsOf q) .entries) i ≡ none
+  side-past i k = getElem?-past (sideOf kind (contentsOf q) .entries) i (rw side-count k)
 
-  pub store-anew : (g : Store → Store) (i x : ℕ) → q .frame .stores .count ≤ length (q .«store_entries») → i < q .frame .stores .count
-      → storeIn x ≡ g (storeIn (getD (q .«store_entries») i 0))
-      → contentsOf (queueOf (q .frame) (q .«load_entries») (set (q .«store_entries») i x)) ≡ withStores (contentsOf q) (updateAt g i (contentsOf q .stores))
-  unfolding contentsOf
-  store-anew g i x w k e = rw (side-update storeIn 0 (q .frame .stores .count) (q .«store_entries») w g i x k e)
+  -- the oldest entries
+  pub side-take : (m : ℕ) → m ≤ countsOf kind q .count → take m (sideOf kind (contentsOf q) .entries) ≡ entriesHeld m (numbersOf kind q)
+  side-take m k = ap (take m) (side-held kind q) ∙ mapped-take entryIn 0 (countsOf kind q .count) (numbersOf kind q) m k
+
+-- one entry made anew
+pub side-anew : (kind : Kind) (q : Queue) {f : Entry → Entry} (i : ℕ) {left : List ℕ} → countsOf kind q .count ≤ length (numbersOf kind q)
+    → i < countsOf kind q .count → MadeAnew f i (numbersOf kind q) left
+    → contentsOf (withNumbers kind q left) ≡ withEntries kind (contentsOf q) (updateAt f i (sideOf kind (contentsOf q) .entries))
+unfolding contentsOf
+side-anew load q i h k w = rw (entries-anew (q .frame .loads .count) (q .«load_entries») h i k w)
+side-anew store q i h k w = rw (entries-anew (q .frame .stores .count) (q .«store_entries») h i k w)

@@ -15,35 +15,31 @@ use Rattle.table.specs.Table.{checkTable}
 use Rattle.table.proofs.EmptyGroups.{empty-groups-leave-fault, empty-tables}
 use Rattle.queue.specs.declared.Kind.{Kind}
 use Rattle.queue.specs.declared.Kind.the-variants.{Load as load, Store as store}
-use Rattle.number.specs.Reply.{accept, need, number, Reply, accepted, andThen, refuse}
-use Rattle.queue.specs.Contents.{Contents, contentsOf, after}
-use Rattle.queue.specs.Sound.{depthRight, memoryRight, loadRight, storeRight, sound}
+use Rattle.number.specs.Reply.{accept, need, number, Reply, andThen, refuse}
+use Rattle.queue.specs.Contents.{Side, Contents, contentsOf, after}
+use Rattle.queue.specs.Sound.{depthRight, memoryRight, sound}
 use Rattle.queue.specs.Open.{groupFits, opened, openQueue}
-use Rattle.queue.specs.Activate.{withGroup, activate}
+use Rattle.queue.specs.Activate.{withGroup, activate, sideHasRoom}
 use Rattle.queue.specs.Arguments.{kindOf, namesPort, give}
 use Rattle.queue.specs.Take.{takeRule}
-use Rattle.queue.specs.EmptyGroups.{EmptyGroupsFindRoom, EmptyGroupsTakeNoPlace, EmptyGroupsAccepted}
-use Rattle.queue.specs.EmptyGroups.{EmptyGroupsOpen, EmptyTablesOpen, EmptyTablesHaveNoPorts}
-use Rattle.queue.proofs.SoundLaws.{parts}
+use Rattle.queue.specs.EmptyGroups.{EmptyGroupsFindRoom, EmptyGroupsTakeNoPlace, EmptyGroupsAccepted, EmptyGroupsOpen, EmptyTablesOpen}
+use Rattle.queue.specs.EmptyGroups.{EmptyTablesHaveNoPorts}
+use Rattle.queue.proofs.SoundLaws.{sound-parts}
 
-held-within : (q : Contents) → sound q ≡ true → (leb (length (q .loads)) (q .loadDepth) ≡ true) × (leb (length (q .stores)) (q .storeDepth) ≡ true)
-unfolding sound
-held-within q s =
-    let p = parts (depthRight (q .loadDepth)) (depthRight (q .storeDepth)) (memoryRight (q .memoryLength))
-    (leb (length (q .loads)) (q .loadDepth)) (leb (length (q .stores)) (q .storeDepth))
-    (allOf (loadRight (q .memoryLength) (length (q .stores))) (q .loads)) (allOf (storeRight (q .memoryLength) (length (q .loads))) (q .stores))
-    (accepted (checkTable (q .groups))) s in
-    (p .part4, p .part5)
+side-room : (s : Side) → leb (length (s .entries)) (s .depth) ≡ true → sideHasRoom s 0 ≡ true
+side-room s h = rw (add-zero (length (s .entries))) h
 
 pub empty-groups-find-room : EmptyGroupsFindRoom
-empty-groups-find-room q s = let (loads, stores) = held-within q s in rw (add-zero (length (q .loads)), add-zero (length (q .stores)), loads, stores)
+empty-groups-find-room q s =
+    let p = sound-parts q s in
+    rw (side-room (q .loads) (p .sides load .few), side-room (q .stores) (p .sides store .few))
 
 -- ---- what it leaves
 same-serial : (serial : ℕ) → serial < 2 ^ 32 → after serial 0 ≡ serial
 same-serial serial h = omega arith
 
-none-more : (q : Contents) → q .nextLoad < 2 ^ 32 → q .nextStore < 2 ^ 32 → withGroup q emptyGroup ≡ q
-none-more q l s = rw (same-serial (q .nextLoad) l, same-serial (q .nextStore) s, append-nil (q .loads), append-nil (q .stores))
+pub none-more : (q : Contents) → q .loads .next < 2 ^ 32 → q .stores .next < 2 ^ 32 → withGroup q emptyGroup ≡ q
+none-more q l s = rw (same-serial (q .loads .next) l, same-serial (q .stores .next) s, append-nil (q .loads .entries), append-nil (q .stores .entries))
 
 pub empty-groups-take-no-place : EmptyGroupsTakeNoPlace
 unfolding activate

@@ -1,29 +1,20 @@
--- Entries and the numbers that hold them: packing loses nothing, and a test of a load or a store is one of its entry.
+-- Entries and the numbers that hold them: packing loses nothing.
 use Prim.Native.Nat.{ℕ, zero, suc, _+_, _*_, _/_, _%_, _<_}
 use native.Mathlib.Omega.{arith}
-use mathlib.Core.Path.{_∙_, _≡_, refl, sym, ap}
+use mathlib.Core.Path.{_∙_, _≡_, refl, ap}
 use mathlib.Core.Bool.{Bool, true, false, not}
-use mathlib.Core.List.{List, [], _∷_, map, map-map}
 use mathlib.Core.Option.{none, some}
-use lib.Dec.{eqb, ltb}
-use lib.ListN.{length}
-use Rattle.number.specs.Basics.{pick, held, allOf, frontWhile}
-use Rattle.queue.specs.declared.Entry.{Entry}
-use Rattle.queue.specs.declared.entries.Mark.the-variants.{Addressed, Filled, Finished}
-use Rattle.number.specs.Basics.{isSome}
-use Rattle.queue.specs.Entry.{entryOf, numberOf, bit, Small, EntriesReadBack, PackedReadBack}
-use Rattle.queue.specs.Contents.{loadOf, storeOf, firstPlace}
-use Rattle.queue.specs.Sound.{addressRight, loadRight, storeRight}
-use Rattle.queue.specs.Arguments.{loadLacksAddress, storeLacksAddress, storeLacksWord}
-use Rattle.queue.specs.Take.{untaken}
-use Rattle.queue.specs.Write.{addressApart, noLoadConflict, noStoreConflict}
-use Rattle.queue.specs.Retire.{retiring}
-use Rattle.queue.specs.Internal.{lacks, finished, entryRight, sideOf, entriesHeld}
-use Rattle.queue.specs.Internal.{noConflict}
+use lib.Dec.{eqb}
+use Rattle.number.specs.Basics.{pick, isSome}
+use Rattle.queue.specs.declared.Entry.{Entry as EntryStruct}
+use Rattle.queue.specs.Entry.{Entry, withAddress, withWord, markFinished, entryOf, unpacked, entryIn, bit, numberOf, Small, EntriesReadBack}
+use Rattle.queue.specs.Entry.{PackedReadBack}
+use Rattle.queue.specs.Touch.{apart, same, isApart, isSame}
+use Rattle.queue.specs.Internal.{setAddress, setWord, setFinished}
 
 -- ---- packing
-pub entry-small : (n : ℕ) → Small (entryOf n)
-unfolding entryOf
+pub entry-small : (n : ℕ) → Small (unpacked n)
+unfolding unpacked
 entry-small n = record { port = omega arith; before = omega arith; address = omega arith; word = omega arith }
 
 bit-eqb : (b : Bool) → eqb (bit b) 1 ≡ b
@@ -96,8 +87,8 @@ module _ (p a f d b x w : ℕ) where
       rw (e, above4294967296 (p % 32 + 32 * a + 64 * f + 128 * d + 256 * b + 65536 * x) w (omega arith)) (omega arith)
 
 -- an entry whose fields have room is the one that its number holds
-pub entry-number : (e : Entry) → Small e → entryOf (numberOf e) ≡ e
-unfolding entryOf numberOf
+pub entry-number : (e : EntryStruct) → Small e → unpacked (numberOf e) ≡ e
+unfolding unpacked numberOf
 entry-number e s =
     let a : ℕ = bit (e .addressed) in
     let f : ℕ = bit (e .filled) in
@@ -159,7 +150,7 @@ join : (p a a₀ f f₀ d d₀ b b₀ x x₀ w n : ℕ) → n ≡ p + 32 * a →
 join p a a₀ f f₀ d d₀ b b₀ x x₀ w n e1 e2 e3 e4 e5 e6 = omega arith
 
 pub packed-read-back : PackedReadBack
-unfolding entryOf numberOf
+unfolding unpacked numberOf
 packed-read-back n h =
     let e1 : bit (eqb (n / 32 % 2) 1) ≡ n / 32 % 2 = bits-eqb (n / 32 % 2) (omega arith) in
     let e2 : bit (eqb (n / 64 % 2) 1) ≡ n / 64 % 2 = bits-eqb (n / 64 % 2) (omega arith) in
@@ -181,81 +172,34 @@ packed-read-back n h =
         let p2 : p % 32 ≡ p = omega arith in
         rw (p2, w2) (join p a (a % 2) f (f % 2) d (d % 2) b (b % 256) x (x % 65536) w n e a2 f2 d2 b2 x2)
 
--- an entry that is finished, and its number
-abbrev pub done : Entry → Entry
-done e = record { port = e .port; before = e .before; addressed = e .addressed; filled = e .filled; finished = true; address = e .address; word = e .word }
+-- ---- an entry made anew: its record is packed again
+-- `f` makes the record anew, `g` what it holds
+pub anew-number : (f : EntryStruct → EntryStruct) (g : Entry → Entry) → ((s : EntryStruct) → entryOf (f s) ≡ g (entryOf s)) → (n : ℕ)
+    → (Small (unpacked n) → Small (f (unpacked n))) → {x : ℕ} → x ≡ numberOf (f (unpacked n)) → entryIn x ≡ g (entryIn n)
+anew-number f g alike n small e =
+    ap entryIn e ∙ ap entryOf (entry-number (f (unpacked n)) (small (entry-small n))) ∙ alike (unpacked n)
 
-pub done-number : (n : ℕ) → entryOf (numberOf (done (entryOf n))) ≡ done (entryOf n)
-done-number n =
-    let s : Small (entryOf n) = entry-small n in
-    entry-number (done (entryOf n)) (record { port = s .port; before = s .before; address = s .address; word = s .word })
+pub finished-number : (n : ℕ) {x : ℕ} → x ≡ numberOf (setFinished (unpacked n)) → entryIn x ≡ markFinished (entryIn n)
+finished-number n =
+    anew-number setFinished markFinished (λ s. refl) n (λ k. record { port = k .port; before = k .before; address = k .address; word = k .word })
 
--- ---- a test of what an entry holds is a test of the entry
-marked : (mark : Bool) (a : ℕ) → isSome (pick mark (some a) none) ≡ mark
+pub word-number : (w n : ℕ) → w < 4294967296 → {x : ℕ} → x ≡ numberOf (setWord w (unpacked n)) → entryIn x ≡ withWord w (entryIn n)
+word-number w n low =
+    anew-number (setWord w) (withWord w) (λ s. refl) n (λ k. record { port = k .port; before = k .before; address = k .address; word = low })
+
+pub address-number : (a n : ℕ) → a < 65536 → {x : ℕ} → x ≡ numberOf (setAddress a (unpacked n)) → entryIn x ≡ withAddress a (entryIn n)
+address-number a n low =
+    anew-number (setAddress a) (withAddress a) (λ s. refl) n (λ k. record { port = k .port; before = k .before; address = low; word = k .word })
+
+-- ---- marks
+pub marked : (mark : Bool) (a : ℕ) → isSome (pick mark (some a) none) ≡ mark
 marked true a = refl
 marked false a = refl
 
-right-address : (words a : ℕ) (mark : Bool) → addressRight words (pick mark (some a) none) ≡ pick mark (ltb a words) true
-right-address words a true = refl
-right-address words a false = refl
+pub same-picked : (t : Bool) → t ≡ isSame (pick t same apart)
+same-picked true = refl
+same-picked false = refl
 
-apart-address : (a b : ℕ) (mark : Bool) → addressApart a (pick mark (some b) none) ≡ pick mark (not (eqb b a)) false
-apart-address a b true = refl
-apart-address a b false = refl
-
-module _ (e : Entry) where
-  pub load-lacks-address : (port : ℕ) → loadLacksAddress port (loadOf e) ≡ lacks Addressed port e
-  load-lacks-address port = rw (marked (e .addressed) (e .address))
-
-  pub store-lacks-address : (port : ℕ) → storeLacksAddress port (storeOf e) ≡ lacks Addressed port e
-  store-lacks-address port = rw (marked (e .addressed) (e .address))
-
-  pub store-lacks-word : (port : ℕ) → storeLacksWord port (storeOf e) ≡ lacks Filled port e
-  store-lacks-word port = rw (marked (e .filled) (e .word))
-
-  pub load-untaken : (port : ℕ) → untaken port (loadOf e) ≡ lacks Finished port e
-  load-untaken port = refl
-
-  pub load-right : (words others : ℕ) → loadRight words others (loadOf e) ≡ entryRight words others e
-  load-right words others = rw (right-address words (e .address) (e .addressed))
-
-  pub store-right : (words others : ℕ) → storeRight words others (storeOf e) ≡ entryRight words others e
-  store-right words others = rw (right-address words (e .address) (e .addressed))
-
-  pub load-no-conflict : (a : ℕ) → noLoadConflict a (loadOf e) ≡ noConflict Filled a e
-  load-no-conflict a = rw (marked (e .filled) (e .word), apart-address a (e .address) (e .addressed))
-
-  pub store-no-conflict : (a : ℕ) → noStoreConflict a (storeOf e) ≡ noConflict Finished a e
-  store-no-conflict a = rw (apart-address a (e .address) (e .addressed))
-
--- ---- and so over a whole side: `f` says what an entry holds, `p` tests that, and `q` tests the entry
-module _ {B : Type 0} (f : Entry → B) (p : B → Bool) (q : Entry → Bool) (same : (e : Entry) → p (f e) ≡ q e) where
-  all-through : (l : List ℕ) → allOf p (map (λ (n : ℕ). f (entryOf n)) l) ≡ allOf q (map entryOf l)
-  all-through [] = refl
-  all-through (x ∷ l) = rw (same (entryOf x), all-through l)
-
-  place-through : (l : List ℕ) → firstPlace p (map (λ (n : ℕ). f (entryOf n)) l) ≡ firstPlace q (map entryOf l)
-  place-through [] = refl
-  place-through (x ∷ l) = rw (same (entryOf x), place-through l)
-
-  retiring-through : (l : List ℕ) → retiring p (map (λ (n : ℕ). f (entryOf n)) l) ≡ retiring q (map entryOf l)
-  retiring-through [] = refl
-  retiring-through (x ∷ l) = rw (same (entryOf x)) (go (q (entryOf x)) (retiring-through l))
-    where
-      go : (t : Bool) → length (frontWhile p (map (λ (n : ℕ). f (entryOf n)) l)) ≡ length (frontWhile q (map entryOf l))
-          → length (pick t (f (entryOf x) ∷ frontWhile p (map (λ (n : ℕ). f (entryOf n)) l)) []) ≡ length (pick t (entryOf x ∷ frontWhile q (map entryOf l)) [])
-      go true e = ap suc e
-      go false e = refl
-
-  pub side-all-same : (n : ℕ) (l : List ℕ) → allOf p (sideOf (λ (x : ℕ). f (entryOf x)) 0 n l) ≡ allOf q (entriesHeld n l)
-  side-all-same n l = all-through (held 0 n l)
-
-  pub side-place-same : (n : ℕ) (l : List ℕ) → firstPlace p (sideOf (λ (x : ℕ). f (entryOf x)) 0 n l) ≡ firstPlace q (entriesHeld n l)
-  side-place-same n l = place-through (held 0 n l)
-
-  pub side-retiring-same : (n : ℕ) (l : List ℕ) → retiring p (sideOf (λ (x : ℕ). f (entryOf x)) 0 n l) ≡ retiring q (entriesHeld n l)
-  side-retiring-same n l = retiring-through (held 0 n l)
-
--- what a side's numbers hold is what its entries hold
-pub side-holds : {B : Type 0} (f : Entry → B) (n : ℕ) (l : List ℕ) → sideOf (λ (x : ℕ). f (entryOf x)) 0 n l ≡ map f (entriesHeld n l)
-side-holds f n l = sym (map-map f entryOf (held 0 n l))
+pub apart-picked : (t : Bool) → not t ≡ isApart (pick t same apart)
+apart-picked true = refl
+apart-picked false = refl

@@ -5,25 +5,24 @@ use native.Mathlib.Omega.{arith}
 use mathlib.Core.Path.{_≡_, refl, sym, ap, _∙_}
 use mathlib.Core.Bool.{Bool, true, false, _&&_, _||_}
 use mathlib.Core.List.{List, [], _∷_}
-use lib.Dec.{eqb, leb, ltb}
-use lib.ListN.{length}
+use lib.Dec.{eqb, ltb}
 use borrow.Author.Tests.{eqb-true, eqb-false, lt-ltb, le-ltb, ltb-true, ltb-false, leb-true}
-use Rattle.number.specs.Basics.{pick, anyOf, allOf, keepWhere}
-use Rattle.table.specs.Table.{checkTable}
+use Rattle.number.specs.Basics.{pick, anyOf, keepWhere}
+use Rattle.number.specs.Reply.{Reply, refuse, accept, accepted}
+use Rattle.number.proofs.ReplyLaws.{accepted-number}
 use Rattle.queue.specs.declared.Kind.{Kind}
 use Rattle.queue.specs.declared.Kind.the-variants.{Load as load, Store as store}
-use Rattle.number.specs.Refusal.{unsound}
-use Rattle.queue.specs.Contents.{Contents, after, age}
-use Rattle.queue.specs.Sound.{depthRight, memoryRight, loadRight, storeRight, sound}
+use Rattle.queue.specs.Contents.{Contents, sideOf, after, age, placeOf}
+use Rattle.queue.specs.Sound.{sound}
 use Rattle.queue.specs.Serve.{serve}
 use Rattle.queue.specs.Write.{write}
 use Rattle.queue.specs.Ready.{serials, countOf, oldestOf, answerTo, anyMemory, would, readySerials, ReadyExactly}
-use Rattle.number.proofs.Both.{and-right}
-use Rattle.queue.proofs.ContentsLaws.{getElem?-past}
-use Rattle.queue.proofs.SoundLaws.{Parts, parts}
+use Rattle.queue.proofs.Lists.{false-true, getElem?-short}
+use Rattle.queue.proofs.Refusals.{serve-proper, write-proper}
+use Rattle.queue.proofs.Accepted.{serve-accepts, write-accepts}
+use Rattle.queue.proofs.SoundLaws.{within-most, sound-parts}
 use Rattle.queue.proofs.Serials.{oldest-small}
-use Rattle.queue.proofs.ReadyLaws.{readyIn, writableIn, standsReady, answer-ready, would-ready}
-use Rattle.number.specs.Reply.{accepted}
+use Rattle.queue.proofs.ReadyLaws.{answer-ready, would-ready}
 
 -- ---- which serials run from a first one on
 age-step : (serial from : ℕ) → serial < 2 ^ 32 → from < 2 ^ 32 → (serial ≡ from → ⊥) → age from serial ≡ age (after from 1) serial + 1
@@ -71,61 +70,44 @@ any-keepWhere w serial (x ∷ xs) = go (any-keepWhere w serial xs) (eqb serial x
     go rest false true e h = rw (e, rest)
     go rest false false e h = rest
 
--- so it is in the list where it passes, if what passes lies among the n serials
-in-list : (w : ℕ → Bool) (serial from n : ℕ) → serial < 2 ^ 32 → from < 2 ^ 32 → n ≤ 2 ^ 32 → (n ≤ age from serial → w serial ≡ false)
-    → anyOf (eqb serial) (keepWhere w (serials from n)) ≡ w serial
-in-list w serial from n h k m past = any-keepWhere w serial (serials from n)
-    ∙ rw (any-serial serial n from h k m) (go (ltb (age from serial) n) (w serial) refl refl)
-  where
-    go : (t b : Bool) → ltb (age from serial) n ≡ t → w serial ≡ b → b && t ≡ b
-    go true true e d = refl
-    go true false e d = refl
-    go false true e d = sym (past (ltb-false (age from serial) n e)) ∙ d
-    go false false e d = refl
+-- ---- what is accepted: the queue is sound, and the serial is that of an entry
+reply-accepts : {A : Type 0} (x : Reply A) → accepted x ≡ true → (a : A) × (x ≡ accept a)
+reply-accepts (refuse n) h = false-true h
+reply-accepts (accept a) h = (a, refl)
 
--- an unsound queue has no ready serial
-none-in : (w : ℕ → Bool) (serial : ℕ) (l : List ℕ) → w serial ≡ false → anyOf (eqb serial) (keepWhere w l) ≡ false
-none-in w serial l e = any-keepWhere w serial l ∙ rw e
+held : (kind : Kind) (q : Contents) (memory : List ℕ) (serial : ℕ) → eqb (answerTo kind q memory serial) 0 ≡ true
+    → (sound q ≡ true) × (age (oldestOf kind q) serial < countOf kind q)
+held load q memory serial h =
+    let (r, e) = reply-accepts (serve q memory serial) (sym (accepted-number (serve q memory serial) (serve-proper q memory serial)) ∙ h) in
+    let (right, l, at, s, is) = serve-accepts q memory serial e in
+    (right, getElem?-short (q .loads .entries) (placeOf (q .loads) serial) at)
+held store q memory serial h =
+    let (r, e) = reply-accepts (write q memory serial) (sym (accepted-number (write q memory serial) (write-proper q memory serial)) ∙ h) in
+    let (right, s, at, w, is) = write-accepts q memory serial e in
+    (right, getElem?-short (q .stores .entries) (placeOf (q .stores) serial) at)
 
--- ---- a sound queue holds at most 64 entries on a side
-module _ (q : Contents) (right : sound q ≡ true) where
-  parted : Parts
-      (depthRight (q .loadDepth))
-      (depthRight (q .storeDepth))
-      (memoryRight (q .memoryLength))
-      (leb (length (q .loads)) (q .loadDepth))
-      (leb (length (q .stores)) (q .storeDepth))
-      (allOf (loadRight (q .memoryLength) (length (q .stores))) (q .loads))
-      (allOf (storeRight (q .memoryLength) (length (q .loads))) (q .stores))
-      (accepted (checkTable (q .groups)))
-  unfolding sound
-  parted = parts _ _ _ _ _ _ _ _ right
-
-  few : (kind : Kind) → countOf kind q ≤ 64
-  few load = le-trans (leb-true _ _ (parted .part4)) (leb-true _ _ (and-right (leb 1 (q .loadDepth)) _ (parted .part1)))
-  few store = le-trans (leb-true _ _ (parted .part5)) (leb-true _ _ (and-right (leb 1 (q .storeDepth)) _ (parted .part2)))
-
--- what an unsound queue answers, and what stands past a queue's entries
-answer-unsound : (kind : Kind) (q : Contents) (memory : List ℕ) (serial : ℕ) → sound q ≡ false → answerTo kind q memory serial ≡ unsound
-unfolding serve write
-answer-unsound load q memory serial e = rw e
-answer-unsound store q memory serial e = rw e
-
-past-ready : (kind : Kind) (q : Contents) (place : ℕ) → countOf kind q ≤ place → standsReady kind q place ≡ false
-past-ready load q place h = ap (readyIn q) (getElem?-past (q .loads) place h)
-past-ready store q place h = ap (writableIn q place) (getElem?-past (q .stores) place h)
+-- so it is among the serials of the queue
+listed : (kind : Kind) (q : Contents) (memory : List ℕ) (serial : ℕ) → serial < 2 ^ 32 → eqb (answerTo kind q memory serial) 0 ≡ true
+    → anyOf (eqb serial) (serials (oldestOf kind q) (countOf kind q)) ≡ true
+listed kind q memory serial small h =
+    let (right, low) = held kind q memory serial h in
+    let side = sound-parts q right .sides kind in
+    let few : countOf kind q ≤ 64 = le-trans (leb-true _ _ (side .few)) (within-most 1 64 (sideOf kind q .depth) (side .depth)) in
+    any-serial serial (countOf kind q) (oldestOf kind q) small (oldest-small _ _) (omega arith) ∙ lt-ltb _ _ low
 
 pub ready-exactly : ReadyExactly
 unfolding readySerials
-ready-exactly kind q memory serial e h = go (sound q) refl
+ready-exactly kind q memory serial e h =
+    any-keepWhere (would kind q) serial (serials (oldestOf kind q) (countOf kind q))
+    ∙ go (would kind q serial) (eqb (answerTo kind q memory serial) 0) refl refl
   where
-    go : (t : Bool) → sound q ≡ t → anyOf (eqb serial) (readySerials kind q) ≡ eqb (answerTo kind q memory serial) 0
-    go false d =
-        none-in (would kind q) serial (serials (oldestOf kind q) (countOf kind q)) (rw (answer-unsound kind q (anyMemory q) serial d))
-        ∙ rw (answer-unsound kind q memory serial d)
-    go true d =
-        let most = few q d kind in
-        in-list (would kind q) serial (oldestOf kind q) (countOf kind q) h (oldest-small _ _) (omega arith)
-        (λ past. would-ready q d serial kind ∙ past-ready kind q _ past)
-        ∙ would-ready q d serial kind
-        ∙ sym (answer-ready q d serial kind memory e)
+    -- of a sound queue the answer does not depend on the memory's words
+    alike : sound q ≡ true → would kind q serial ≡ eqb (answerTo kind q memory serial) 0
+    alike right = would-ready q right serial kind ∙ sym (answer-ready q right serial kind memory e)
+
+    go : (t b : Bool) → would kind q serial ≡ t → eqb (answerTo kind q memory serial) 0 ≡ b
+        → (t && anyOf (eqb serial) (serials (oldestOf kind q) (countOf kind q))) ≡ b
+    go false false w a = refl
+    go false true w a = sym w ∙ alike (held kind q memory serial a .0) ∙ a
+    go true false w a = false-true (sym a ∙ sym (alike (held kind q (anyMemory q) serial w .0)) ∙ w)
+    go true true w a = listed kind q memory serial h a

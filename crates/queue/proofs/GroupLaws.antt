@@ -18,7 +18,7 @@ use Rattle.table.specs.Table.{meantIn, groupAt, groupsOf, checkTable}
 use Rattle.table.proofs.CheckLaws.{view-length, view-at, groups-size, group-at}
 use Rattle.table.proofs.OrderOffsets.{GroupRight, table-groups-few, table-group-right}
 use Rattle.queue.specs.Open.{groupFits}
-use Rattle.queue.proofs.ContentsLaws.{side-getElem?, side-here, side-end}
+use Rattle.queue.proofs.ContentsLaws.{mapped-getElem?, mapped-here, mapped-end}
 use Rattle.number.specs.Reply.{passed}
 
 -- the pairs from the ith on: what a walk over them comes to
@@ -53,13 +53,13 @@ module _ (t : Table) (few : t .count ≤ 16) (i : ℕ) (k : i < t .count) {g : G
       ap (meantIn (t .loads) (t .stores)) e ∙ ap (pairsOf (t .loads) (t .stores)) (sym a)
 
   pub groups-here : drop i (groupsOf t) ≡ pairsOf (t .loads) (t .stores) g ∷ drop (i + 1) (groupsOf t)
-  groups-here = side-here (meantIn (t .loads) (t .stores)) 0 (t .count) (t .groups) i k ∙ ap (λ (x : GroupPairs). x ∷ drop (i + 1) (groupsOf t)) is-here
+  groups-here = mapped-here (meantIn (t .loads) (t .stores)) 0 (t .count) (t .groups) i k ∙ ap (λ (x : GroupPairs). x ∷ drop (i + 1) (groupsOf t)) is-here
 
   pub group-getElem? : getElem? (groupsOf t) i ≡ some (pairsOf (t .loads) (t .stores) g)
-  group-getElem? = side-getElem? (meantIn (t .loads) (t .stores)) 0 (t .count) (t .groups) i k ∙ ap (λ (x : GroupPairs). some x) is-here
+  group-getElem? = mapped-getElem? (meantIn (t .loads) (t .stores)) 0 (t .count) (t .groups) i k ∙ ap (λ (x : GroupPairs). some x) is-here
 
   pub group-right : checkTable (groupsOf t) ≡ passed → GroupRight (pairsOf (t .loads) (t .stores) g)
   group-right right = rw (group-at t few i k here a) at (table-group-right (groupsOf t) right i here (rw (groups-size t) k))
 
 pub groups-end : (t : Table) (i : ℕ) → t .count ≤ i → drop i (groupsOf t) ≡ []
-groups-end t i k = side-end (meantIn (t .loads) (t .stores)) 0 (t .count) (t .groups) i k
+groups-end t i k = mapped-end (meantIn (t .loads) (t .stores)) 0 (t .count) (t .groups) i k

@@ -5,6 +5,8 @@ pub mod Front
 pub mod Lists
 pub mod Serials
 pub mod Refusals
+-- calls that were accepted
+pub mod Accepted
 -- what a record holds
 pub mod ContentsLaws
 -- entries and the numbers that hold them

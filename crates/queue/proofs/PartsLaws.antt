@@ -8,6 +8,7 @@ use lib.Dec.{eqb}
 use lib.ListN.{length, replicate}
 use borrow.Author.Tests.{not-true, not-false, eqb-true, eq-eqb, ne-eqb}
 use Rattle.queue.specs.declared.Queue.{Queue}
+use Rattle.queue.specs.declared.Kind.the-variants.{Load as load, Store as store}
 use Rattle.queue.specs.declared.Frame.{Frame}
 use Rattle.queue.specs.declared.opening.OpenedFrame.{OpenedFrame}
 use Rattle.number.specs.Refusal.{unsound}
@@ -18,7 +19,7 @@ use Rattle.queue.specs.Open.{freshQueue, noQueue}
 use Rattle.queue.specs.Outcome.{Opens}
 use Rattle.queue.specs.Parts.{whole, onParts, OnWholeRuns, OpensFrame}
 use Rattle.number.proofs.Both.{and-left, and-right}
-use Rattle.queue.proofs.SoundLaws.{loads-few, stores-few}
+use Rattle.queue.proofs.SoundLaws.{count-most}
 
 -- ---- the lengths of two runs
 module _ (l s : List ℕ) where
@@ -69,8 +70,8 @@ module _ (q : Queue) where
         right = right;
         loads-whole = whole-loads full;
         stores-whole = whole-stores full;
-        loads-room = omega (arith, loads-few q right, whole-loads full);
-        stores-room = omega (arith, stores-few q right, whole-stores full);
+        loads-room = omega (arith, count-most q right load, whole-loads full);
+        stores-room = omega (arith, count-most q right store, whole-stores full);
       }
 
   -- the test of it was taken: the runs are no queue's, or the queue is unsound, and that is 40 either way

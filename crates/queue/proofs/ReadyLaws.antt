@@ -14,38 +14,32 @@ use lib.Seq.{length-take-le, take-append-seam}
 use Rattle.number.specs.Basics.{pick, keepWhere}
 use Rattle.queue.specs.declared.Kind.{Kind}
 use Rattle.queue.specs.declared.Kind.the-variants.{Load as load, Store as store}
-use Rattle.queue.specs.declared.Side.{Side}
 use Rattle.queue.specs.declared.ready.Serials.{Serials}
 use Rattle.queue.specs.declared.ready.ReadyCount.{ReadyCount}
-use Rattle.queue.specs.declared.Entry.{Entry}
 use Rattle.queue.specs.declared.Queue.{Queue}
 use Rattle.queue.specs.declared.Readied.{Readied}
 use Rattle.number.specs.Refusal.{tooShort, unsound, noSerial}
-use Rattle.number.specs.Basics.{isSome}
 use Rattle.number.specs.Reply.{Reply, refuse, accept, need, have, andThen, number, accepted}
-use Rattle.queue.specs.Contents.{Load, Store, Contents, loadOf, loadIn, storeIn, contentsOf, after, age, oldest, loadPlace, storePlace}
-use Rattle.queue.specs.Entry.{entryOf}
+use Rattle.queue.specs.Entry.{Entry, entryIn, unpacked, served}
+use Rattle.queue.specs.Contents.{Contents, contentsOf, after, age, oldest, placeOf, entriesHeld, othersBefore}
 use Rattle.queue.specs.Sound.{sound}
-use Rattle.queue.specs.Serve.{Source, unknown, fromStore, fromMemory, source, loadedFrom, mayServe, servedWith, storesBefore, serveAt, serve}
+use Rattle.queue.specs.Serve.{unsettled, Source, fromStore, fromMemory, source, loadedFrom, mayServe, servedWith, serveAt, serve}
 use Rattle.queue.specs.Write.{mayWrite, writtenWith, writeAt, write}
-use Rattle.queue.specs.Contents.{ofKind}
 use Rattle.queue.specs.Ready.{serials, countOf, oldestOf, answerTo, anyMemory, would, readySerials, ready, Readies, Fronts}
 use Rattle.queue.specs.Parts.{readiedOf}
-use Rattle.queue.specs.Internal.{loadsHeld, storesHeld}
-use Rattle.queue.specs.Internal.{mayWriteAt}
-use Rattle.queue.specs.Internal.{loadReady, readyAt, InReach, serialsListed, Noted, Lists, HandedOut}
-use Rattle.queue.proofs.ContentsLaws.{side-getElem?, side-take, loads-held, stores-held, loads-count, stores-count}
+use Rattle.queue.specs.Internal.{mayWriteAt, loadReady, readyAt, InReach, serialsListed, Noted, Lists, HandedOut}
+use Rattle.queue.proofs.ContentsLaws.{countsOf, side-next, side-count, side-getElem?, side-take}
 use Rattle.number.proofs.ReplyLaws.{accepted-number}
 use Rattle.queue.proofs.Refusals.{need-same, have-same, may-write-proper, serve-proper, write-proper}
 use Rattle.queue.proofs.Serials.{place-of-serial, oldest-small}
-use Rattle.queue.proofs.SoundLaws.{loads-few, stores-few, load-before, store-before}
+use Rattle.queue.proofs.SoundLaws.{count-most, before-held}
 use Rattle.queue.proofs.ServeLaws.{serve-by-place}
 use Rattle.queue.proofs.WriteLaws.{write-by-place, write-held}
 
 -- ---- serving
-abbrev pub readyIn : Contents → Option Load → Bool
+abbrev pub readyIn : Contents → Option Entry → Bool
 readyIn q none = false
-readyIn q (some l) = loadReady (storesBefore q l) l
+readyIn q (some l) = loadReady (othersBefore (q .stores) l) l
 
 then-accepts : {A B : Type 0} (x : Reply A) (f : A → B) → accepted (andThen x λ a. accept (f a)) ≡ accepted x
 then-accepts (refuse n) f = refl
@@ -54,46 +48,46 @@ then-accepts (accept a) f = refl
 -- memory's words do not matter to what is accepted
 module _ (m m′ : List ℕ) where
   loaded-any : (a : ℕ) (x : Source) → accepted (loadedFrom m a x) ≡ accepted (loadedFrom m′ a x)
-  loaded-any a unknown = refl
+  loaded-any a unsettled = refl
   loaded-any a (fromStore none) = refl
   loaded-any a (fromStore (some w)) = refl
   loaded-any a fromMemory = refl
 
-  may-any : (ss : List Store) (l : Load) → accepted (mayServe m ss l) ≡ accepted (mayServe m′ ss l)
-  may-any ss l = need-same (not (isSome (l .value))) _ _ _ (have-same (l .address) _ _ _ λ a. loaded-any a (source a fromMemory ss))
+  may-any : (ss : List Entry) (l : Entry) → accepted (mayServe m ss l) ≡ accepted (mayServe m′ ss l)
+  may-any ss l = need-same (not (served l)) _ _ _ (have-same (l .address) _ _ _ λ a. loaded-any a (source a fromMemory ss))
 
-serve-accepts-ready : (q : Contents) (memory : List ℕ) (place : ℕ) → accepted (serveAt q memory place) ≡ readyIn q (getElem? (q .loads) place)
-serve-accepts-ready q memory place = go (getElem? (q .loads) place)
+serve-accepts-ready : (q : Contents) (memory : List ℕ) (place : ℕ) → accepted (serveAt q memory place) ≡ readyIn q (getElem? (q .loads .entries) place)
+serve-accepts-ready q memory place = go (getElem? (q .loads .entries) place)
   where
-    go : (o : Option Load)
-        → accepted (have o noSerial λ l. andThen (mayServe memory (storesBefore q l) l) λ v. accept (servedWith q place v)) ≡ readyIn q o
+    go : (o : Option Entry)
+        → accepted (have o noSerial λ l. andThen (mayServe memory (othersBefore (q .stores) l) l) λ v. accept (servedWith q place v)) ≡ readyIn q o
     go none = refl
-    go (some l) = then-accepts (mayServe memory (storesBefore q l) l) (servedWith q place) ∙ may-any memory [] (storesBefore q l) l
+    go (some l) = then-accepts (mayServe memory (othersBefore (q .stores) l) l) (servedWith q place) ∙ may-any memory [] (othersBefore (q .stores) l) l
 
 -- ---- writing
-abbrev pub writableIn : Contents → ℕ → Option Store → Bool
+abbrev pub writableIn : Contents → ℕ → Option Entry → Bool
 writableIn q place none = false
-writableIn q place (some s) = accepted (mayWrite (take (s .before) (q .loads)) (take place (q .stores)) s)
+writableIn q place (some s) = accepted (mayWrite (take (s .before) (q .loads .entries)) (take place (q .stores .entries)) s)
 
-write-accepts-ready : (q : Contents) (memory : List ℕ) (place : ℕ) → accepted (writeAt q memory place) ≡ writableIn q place (getElem? (q .stores) place)
-write-accepts-ready q memory place = go (getElem? (q .stores) place)
+write-accepts-ready : (q : Contents) (memory : List ℕ) (place : ℕ) → accepted (writeAt q memory place) ≡ writableIn q place (getElem? (q .stores .entries) place)
+write-accepts-ready q memory place = go (getElem? (q .stores .entries) place)
   where
-    go : (o : Option Store)
+    go : (o : Option Entry)
         → accepted (have o noSerial λ s.
-        andThen (mayWrite (take (s .before) (q .loads)) (take place (q .stores)) s) λ p. accept (writtenWith q memory place p))
+        andThen (mayWrite (take (s .before) (q .loads .entries)) (take place (q .stores .entries)) s) λ p. accept (writtenWith q memory place p))
         ≡ writableIn q place o
     go none = refl
-    go (some s) = then-accepts (mayWrite (take (s .before) (q .loads)) (take place (q .stores)) s) (writtenWith q memory place)
+    go (some s) = then-accepts (mayWrite (take (s .before) (q .loads .entries)) (take place (q .stores .entries)) s) (writtenWith q memory place)
 
 -- ---- either: what stands at a serial's place decides, whatever the memory's words
 pub write-fault-ready : (loads stores : List ℕ) (i : ℕ) → eqb (number (mayWriteAt loads stores i)) 0 ≡ accepted (mayWriteAt loads stores i)
 write-fault-ready loads stores i =
     accepted-number (mayWriteAt loads stores i)
-    (may-write-proper (loadsHeld (entryOf (getD stores i 0) .before) loads) (storesHeld i stores) (storeIn (getD stores i 0)))
+    (may-write-proper (entriesHeld (unpacked (getD stores i 0) .before) loads) (entriesHeld i stores) (entryIn (getD stores i 0)))
 
 abbrev pub standsReady : Kind → Contents → ℕ → Bool
-standsReady load q place = readyIn q (getElem? (q .loads) place)
-standsReady store q place = writableIn q place (getElem? (q .stores) place)
+standsReady load q place = readyIn q (getElem? (q .loads .entries) place)
+standsReady store q place = writableIn q place (getElem? (q .stores .entries) place)
 
 module _ (q : Contents) (right : sound q ≡ true) (serial : ℕ) where
   pub answer-ready : (kind : Kind) (memory : List ℕ) → length memory ≡ q .memoryLength
@@ -101,57 +95,44 @@ module _ (q : Contents) (right : sound q ≡ true) (serial : ℕ) where
   answer-ready load memory e =
       accepted-number (serve q memory serial) (serve-proper q memory serial)
       ∙ ap accepted (serve-by-place q memory serial right e)
-      ∙ serve-accepts-ready q memory (loadPlace q serial)
+      ∙ serve-accepts-ready q memory (placeOf (q .loads) serial)
   answer-ready store memory e =
       accepted-number (write q memory serial) (write-proper q memory serial)
       ∙ ap accepted (write-by-place q memory serial right e)
-      ∙ write-accepts-ready q memory (storePlace q serial)
+      ∙ write-accepts-ready q memory (placeOf (q .stores) serial)
 
   pub would-ready : (kind : Kind) → would kind q serial ≡ standsReady kind q (age (oldestOf kind q) serial)
   would-ready kind = answer-ready kind (anyMemory q) (length-replicate (q .memoryLength) 0)
 
 -- ---- the entry at a place of a record
-abbrev pub sideIn : Kind → Queue → Side
-sideIn kind q = ofKind kind (q .frame .loads) (q .frame .stores)
-
-pub count-in : (kind : Kind) (q : Queue) → countOf kind (contentsOf q) ≡ sideIn kind q .count
-count-in load q = loads-count q
-count-in store q = stores-count q
-
-pub oldest-in : (kind : Kind) (q : Queue) → oldestOf kind (contentsOf q) ≡ oldest (sideIn kind q .next) (sideIn kind q .count)
-unfolding contentsOf
-oldest-in load q = ap (oldest (q .frame .loads .next)) (loads-count q)
-oldest-in store q = ap (oldest (q .frame .stores .next)) (stores-count q)
+pub oldest-in : (kind : Kind) (q : Queue) → oldestOf kind (contentsOf q) ≡ oldest (countsOf kind q .next) (countsOf kind q .count)
+oldest-in kind q = ap₂ oldest (side-next kind q) (side-count kind q)
 
 module _ (q : Queue) (right : sound (contentsOf q) ≡ true) where
-  pub side-most : (kind : Kind) → sideIn kind q .count ≤ 64
-  side-most load = loads-few q right
-  side-most store = stores-few q right
-
   pub in-reach : length (q .«load_entries») ≡ 64 → length (q .«store_entries») ≡ 64
-      → (kind : Kind) (i : ℕ) → i < sideIn kind q .count → InReach kind (q .«load_entries») (q .«store_entries») i
-  in-reach l s load i k = (omega (arith, l, loads-few q right), le-trans (load-before q right i k) (omega (arith, s, stores-few q right)))
-  in-reach l s store i k = (omega (arith, s, stores-few q right), le-trans (store-before q right i k) (omega (arith, l, loads-few q right)))
+      → (kind : Kind) (i : ℕ) → i < countsOf kind q .count → InReach kind (q .«load_entries») (q .«store_entries») i
+  in-reach l s load i k =
+      (omega (arith, l, count-most q right load), le-trans (before-held q right load i k) (omega (arith, s, count-most q right store)))
+  in-reach l s store i k =
+      (omega (arith, s, count-most q right store), le-trans (before-held q right store i k) (omega (arith, l, count-most q right load)))
 
-  pub would-at : (kind : Kind) (i : ℕ) → i < sideIn kind q .count
+  pub would-at : (kind : Kind) (i : ℕ) → i < countsOf kind q .count
       → would kind (contentsOf q) (after (oldestOf kind (contentsOf q)) i) ≡ readyAt kind (q .«load_entries») (q .«store_entries») i
   would-at kind i k =
       let from : ℕ = oldestOf kind (contentsOf q) in
       would-ready (contentsOf q) right (after from i) kind
-      ∙ ap (standsReady kind (contentsOf q)) (place-of-serial from i (oldest-small _ _) (omega (arith, side-most kind)))
+      ∙ ap (standsReady kind (contentsOf q)) (place-of-serial from i (oldest-small _ _) (omega (arith, count-most q right kind)))
       ∙ here kind k
     where
-      here : (kind : Kind) → i < sideIn kind q .count → standsReady kind (contentsOf q) i ≡ readyAt kind (q .«load_entries») (q .«store_entries») i
+      here : (kind : Kind) → i < countsOf kind q .count → standsReady kind (contentsOf q) i ≡ readyAt kind (q .«load_entries») (q .«store_entries») i
       here load k =
-          let e : Entry = entryOf (getD (q .«load_entries») i 0) in
-          let here = ap (λ (l : List Load). getElem? l i) (loads-held q) ∙ side-getElem? loadIn 0 (q .frame .loads .count) (q .«load_entries») i k in
-          let few = load-before q right i k in
-          let before = ap (take (e .before)) (stores-held q) ∙ side-take storeIn 0 (q .frame .stores .count) (q .«store_entries») (e .before) few in
-          ap (readyIn (contentsOf q)) here ∙ ap (λ (l : List Store). loadReady l (loadOf e)) before
+          let e : Entry = entryIn (getD (q .«load_entries») i 0) in
+          ap (readyIn (contentsOf q)) (side-getElem? load q i k)
+          ∙ ap (λ (l : List Entry). loadReady l e) (side-take store q (e .before) (before-held q right load i k))
       here store k =
           let m : List ℕ = anyMemory (contentsOf q) in
           sym (write-accepts-ready (contentsOf q) m i)
-          ∙ ap accepted (write-held q m i k (store-before q right i k))
+          ∙ ap accepted (write-held q m i k (before-held q right store i k))
           ∙ then-accepts (mayWriteAt (q .«load_entries») (q .«store_entries») i) (writtenWith (contentsOf q) m i)
 
 -- ---- the serials that pass: i of n places have been looked at, `serial` is the next, and `s` has those that are ready. What
@@ -232,13 +213,13 @@ module _ {source old : List ℕ} {j : ℕ} {l : List ℕ} (w : Copied source old
 -- ---- the serials of a record, once all of a kind's places have been looked at
 module _ (kind : Kind) (q : Queue) (right : sound (contentsOf q) ≡ true) where
   pub gathered : {from n i serial : ℕ} {s : Serials} → ReadyGathering (readyAt kind (q .«load_entries») (q .«store_entries»)) from n i serial s
-      → from ≡ oldestOf kind (contentsOf q) → n ≡ sideIn kind q .count → i ≤ n → n ≤ i → Lists (readySerials kind (contentsOf q)) s
+      → from ≡ oldestOf kind (contentsOf q) → n ≡ countsOf kind q .count → i ≤ n → n ≤ i → Lists (readySerials kind (contentsOf q)) s
   unfolding readySerials
   gathered {from} {n} {i} {serial} {s} w e d most end =
-      let few : s .count ≤ 64 = omega (arith, w .few, side-most q right kind) in
+      let few : s .count ≤ 64 = omega (arith, w .few, count-most q right kind) in
       let passed = gathering-end w end (would kind (contentsOf q)) (λ j k. rw e (would-at q right kind j (rw d at k))) in
       let are : serialsListed s ≡ keepWhere (would kind (contentsOf q)) (serials (oldestOf kind (contentsOf q)) (countOf kind (contentsOf q))) =
-      passed ∙ ap₂ (λ (x y : ℕ). keepWhere (would kind (contentsOf q)) (serials x y)) e (d ∙ sym (count-in kind q)) in
+      passed ∙ ap₂ (λ (x y : ℕ). keepWhere (would kind (contentsOf q)) (serials x y)) e (d ∙ sym (side-count kind q)) in
       record { few = few; size = sym (length-take-le (s .count) (s .numbers) (omega (arith, w .long))) ∙ ap length are; are = are }
 
 -- ---- 40 and 10

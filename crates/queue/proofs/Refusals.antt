@@ -1,4 +1,4 @@
--- Rules read backwards: what an argument that was accepted says, and that no refusal number is 0 or above a byte.
+-- No refusal number of a rule is 0 or above a byte.
 use Prim.Native.Nat.{ℕ, _<_}
 use mathlib.Core.Path.{_≡_, refl}
 use mathlib.Core.Bool.{Bool, true, false, not, _&&_}
@@ -9,21 +9,21 @@ use lib.ListN.{length, take, getElem?}
 use native.Mathlib.Omega.{arith}
 use borrow.Author.Tests.{ltb-true}
 use Rattle.queue.specs.declared.Kind.{Kind}
-use Rattle.number.specs.Basics.{isSome}
 use Rattle.number.specs.Reply.{Reply, refuse, accept, need, have, number, accepted}
-use Rattle.queue.specs.Contents.{Load, Store, Contents, loadPlace, storePlace, firstPlace}
-use Rattle.number.specs.Basics.{anyOf, allOf}
+use Rattle.queue.specs.Entry.{Entry, written, served, valueOf, dataOf}
+use Rattle.queue.specs.Contents.{Contents, placeOf, othersBefore}
 use Rattle.queue.specs.Sound.{sound}
 use Rattle.queue.specs.Activate.{activate, room}
-use Rattle.queue.specs.Arguments.{kindOf, namesPort, inRange, waits, argumentGiven, give}
-use Rattle.queue.specs.Serve.{Source, unknown, fromStore, fromMemory, source, loadedFrom, mayServe, storesBefore, serve}
-use Rattle.queue.specs.Write.{noLoadConflict, noStoreConflict, mayWrite, loadsBefore, write}
+use Rattle.queue.specs.Arguments.{kindOf, namesPort, inRange, give, lacks, askedOf}
+use Rattle.queue.specs.Serve.{unsettled, Source, fromStore, fromMemory, source, loadedFrom, mayServe, serve}
+use Rattle.queue.specs.Write.{noConflict, mayWrite, write}
+use Rattle.queue.specs.Take.{takeRule, takePlace}
+use Rattle.queue.specs.Ready.{readySerials, ready}
+use Rattle.number.specs.Basics.{anyOf, allOf}
 use Rattle.queue.specs.declared.Kind.the-variants.{Load as load}
 use Rattle.queue.specs.declared.arguments.Argument.{Argument}
-use Rattle.queue.specs.Take.{untaken, takeRule}
-use Rattle.queue.specs.Ready.{readySerials, ready}
 use Rattle.number.proofs.Both.{and-left, and-right}
-use Rattle.number.proofs.ReplyLaws.{need-accepts, refusesAmong, need-among, have-among, andThen-among, notZero}
+use Rattle.number.proofs.ReplyLaws.{refusesAmong, need-among, have-among, andThen-among, notZero}
 
 -- two rules with the same tests accept alike where what follows does
 pub need-same : {A B : Type 0} (b : Bool) (n : ℕ) (x : Reply A) (y : Reply B) → accepted x ≡ accepted y
@@ -51,7 +51,7 @@ module _ {A : Type 0} where
   number-small (refuse n) h = ltb-true n 256 (and-right (notZero n) (ltb n 256) h)
   number-small (accept a) h = omega arith
 
-  small-proper : (r : Reply A) → small r ≡ true → proper r ≡ true
+  pub small-proper : (r : Reply A) → small r ≡ true → proper r ≡ true
   small-proper (refuse n) h = and-left (notZero n) (ltb n 256) h
   small-proper (accept a) h = refl
 
@@ -64,63 +64,57 @@ unfolding give
 give-small argument q port x =
     need-among byte (sound q) _ _ refl
     (need-among byte (anyOf (namesPort (kindOf argument) port) (q .groups)) _ _ refl
-    (need-among byte (inRange argument (q .memoryLength) x) _ _ refl (need-among byte (waits argument port q) _ _ refl refl)))
+    (need-among byte (inRange argument (q .memoryLength) x) _ _ refl (need-among byte (anyOf (lacks argument port) (askedOf argument q)) _ _ refl refl)))
 
 loaded-small : (m : List ℕ) (a : ℕ) (x : Source) → small (loadedFrom m a x) ≡ true
-loaded-small m a unknown = refl
+loaded-small m a unsettled = refl
 loaded-small m a (fromStore word) = have-among byte word _ _ refl λ w. refl
 loaded-small m a fromMemory = refl
 
-may-serve-small : (m : List ℕ) (ss : List Store) (l : Load) → small (mayServe m ss l) ≡ true
+may-serve-small : (m : List ℕ) (ss : List Entry) (l : Entry) → small (mayServe m ss l) ≡ true
 may-serve-small m ss l =
-    need-among byte (not (isSome (l .value))) _ _ refl (have-among byte (l .address) _ _ refl λ a. loaded-small m a (source a fromMemory ss))
+    need-among byte (not (served l)) _ _ refl (have-among byte (l .address) _ _ refl λ a. loaded-small m a (source a fromMemory ss))
 
 pub serve-small : (q : Contents) (m : List ℕ) (serial : ℕ) → small (serve q m serial) ≡ true
 unfolding serve
 serve-small q m serial =
     need-among byte (sound q) _ _ refl
     (need-among byte (eqb (length m) (q .memoryLength)) _ _ refl
-    (have-among byte (getElem? (q .loads) (loadPlace q serial)) _ _ refl λ l.
-    andThen-among byte (mayServe m (storesBefore q l) l) _ (may-serve-small m (storesBefore q l) l) λ v. refl))
+    (have-among byte (getElem? (q .loads .entries) (placeOf (q .loads) serial)) _ _ refl λ l.
+    andThen-among byte (mayServe m (othersBefore (q .stores) l) l) _ (may-serve-small m (othersBefore (q .stores) l) l) λ v. refl))
 
-may-write-small : (ls : List Load) (ss : List Store) (s : Store) → small (mayWrite ls ss s) ≡ true
+may-write-small : (ls : List Entry) (ss : List Entry) (s : Entry) → small (mayWrite ls ss s) ≡ true
 may-write-small ls ss s =
-    need-among byte (not (s .written)) _ _ refl
+    need-among byte (not (written s)) _ _ refl
     (have-among byte (s .address) _ _ refl λ a.
-    have-among byte (s .word) _ _ refl λ w.
-    need-among byte (allOf (noLoadConflict a) ls) _ _ refl (need-among byte (allOf (noStoreConflict a) ss) _ _ refl refl))
+    have-among byte (dataOf s) _ _ refl λ w.
+    need-among byte (allOf (noConflict served a) ls) _ _ refl (need-among byte (allOf (noConflict written a) ss) _ _ refl refl))
 
 pub write-small : (q : Contents) (m : List ℕ) (serial : ℕ) → small (write q m serial) ≡ true
 unfolding write
 write-small q m serial =
     need-among byte (sound q) _ _ refl
     (need-among byte (eqb (length m) (q .memoryLength)) _ _ refl
-    (have-among byte (getElem? (q .stores) (storePlace q serial)) _ _ refl λ s.
-    andThen-among byte (mayWrite (loadsBefore q s) (take (storePlace q serial) (q .stores)) s) _
-    (may-write-small (loadsBefore q s) (take (storePlace q serial) (q .stores)) s) λ p. refl))
+    (have-among byte (getElem? (q .stores .entries) (placeOf (q .stores) serial)) _ _ refl λ s.
+    andThen-among byte (mayWrite (othersBefore (q .loads) s) (take (placeOf (q .stores) serial) (q .stores .entries)) s) _
+    (may-write-small (othersBefore (q .loads) s) (take (placeOf (q .stores) serial) (q .stores .entries)) s) λ p. refl))
 
 pub take-small : (q : Contents) (port : ℕ) → small (takeRule q port) ≡ true
 unfolding takeRule
 take-small q port =
     need-among byte (sound q) _ _ refl
     (need-among byte (anyOf (namesPort load port) (q .groups)) _ _ refl
-    (have-among byte (getElem? (q .loads) (firstPlace (untaken port) (q .loads))) _ _ refl λ l. have-among byte (l .value) _ _ refl λ v. refl))
+    (have-among byte (getElem? (q .loads .entries) (takePlace q port)) _ _ refl λ l. have-among byte (valueOf l) _ _ refl λ v. refl))
 
 pub ready-small : (kind : Kind) (q : Contents) (run : List ℕ) → small (ready kind q run) ≡ true
 unfolding ready
 ready-small kind q run = need-among byte (sound q) _ _ refl (need-among byte (leb (length (readySerials kind q)) (length run)) _ _ refl refl)
 
 -- so none is 0
-pub activate-proper : (q : Contents) (g : ℕ) → proper (activate q g) ≡ true
-activate-proper q g = small-proper (activate q g) (activate-small q g)
-
-pub give-proper : (argument : Argument) (q : Contents) (port x : ℕ) → proper (give argument q port x) ≡ true
-give-proper argument q port x = small-proper (give argument q port x) (give-small argument q port x)
-
 pub serve-proper : (q : Contents) (m : List ℕ) (serial : ℕ) → proper (serve q m serial) ≡ true
 serve-proper q m serial = small-proper (serve q m serial) (serve-small q m serial)
 
-pub may-write-proper : (ls : List Load) (ss : List Store) (s : Store) → proper (mayWrite ls ss s) ≡ true
+pub may-write-proper : (ls : List Entry) (ss : List Entry) (s : Entry) → proper (mayWrite ls ss s) ≡ true
 may-write-proper ls ss s = small-proper (mayWrite ls ss s) (may-write-small ls ss s)
 
 pub write-proper : (q : Contents) (m : List ℕ) (serial : ℕ) → proper (write q m serial) ≡ true
@@ -128,19 +122,3 @@ write-proper q m serial = small-proper (write q m serial) (write-small q m seria
 
 pub take-proper : (q : Contents) (port : ℕ) → proper (takeRule q port) ≡ true
 take-proper q port = small-proper (takeRule q port) (take-small q port)
-
--- ---- an argument that was accepted was in range, was waited for, and is in its place
-pub record Gave (argument : Argument) (q : Contents) (port x : ℕ) (next : Contents) : Type 0 where
-  pub ranged : inRange argument (q .memoryLength) x ≡ true
-  pub waited : waits argument port q ≡ true
-  pub is : argumentGiven argument port x q ≡ next
-
-pub give-accepts : (argument : Argument) (q : Contents) (port x : ℕ) {next : Contents} → give argument q port x ≡ accept next
-    → Gave argument q port x next
-unfolding give
-give-accepts argument q port x h₀ =
-    let (t₁, h₁) = need-accepts (sound q) _ _ h₀ in
-    let (t₂, h₂) = need-accepts (anyOf (namesPort (kindOf argument) port) (q .groups)) _ _ h₁ in
-    let (t₃, h₃) = need-accepts (inRange argument (q .memoryLength) x) _ _ h₂ in
-    let (t₄, h₄) = need-accepts (waits argument port q) _ _ h₃ in
-    record { ranged = t₃; waited = t₄; is = cc }

@@ -8,36 +8,34 @@ use mathlib.Core.Bool.{Bool, true, false}
 use mathlib.Core.List.{List, [], _∷_, _++_, map, map-map}
 use lib.ListN.{length, getD, take, drop, set, length-map, length-append, length-drop}
 use lib.Seq.{getD-drop, getD-append-add, length-take-le, take-at, take-nil}
-use Rattle.number.specs.Basics.{pick, frontWhile, afterWhile}
+use Rattle.number.specs.Basics.{pick, held, frontWhile, afterWhile}
 use Rattle.queue.specs.declared.Frame.{Frame}
-use Rattle.queue.specs.declared.Entry.{Entry}
-use Rattle.queue.specs.Entry.{entryOf, numberOf, Small}
-use Rattle.queue.specs.Contents.{loadOf, storeOf, contentsOf}
-use Rattle.queue.specs.Retire.{retiring, loadFinished, storeFinished, loadAfterRetiring, storeAfterRetiring, retire}
+use Rattle.queue.specs.Entry.{Entry, unpacked, entryIn, numberOf}
+use Rattle.queue.specs.Contents.{entriesHeld, contentsOf}
+use Rattle.queue.specs.Retire.{finished, retiring, afterRetiring, retire}
 use Rattle.queue.specs.Parts.{queueOf}
-use Rattle.queue.specs.Internal.{sideOf, entriesHeld, loadsHeld, storesHeld, finished}
-use Rattle.queue.specs.Internal.{Shifted, shorter, lowered}
+use Rattle.queue.specs.Internal.{setBefore, Shifted, shorter, frameWithSides}
 use Rattle.queue.proofs.Lists.{map-same}
-use Rattle.queue.proofs.ContentsLaws.{side-few, side-length}
-use Rattle.queue.proofs.EntryLaws.{entry-small, entry-number, side-holds, side-retiring-same}
+use Rattle.queue.proofs.ContentsLaws.{mapped-few, mapped-length}
+use Rattle.queue.proofs.EntryLaws.{anew-number}
 
 -- ---- how many leave
-module _ {A : Type 0} (p : A → Bool) where
-  pub retiring-most : (l : List A) → retiring p l ≤ length l
-  retiring-most [] = omega arith
-  retiring-most (x ∷ xs) = go (p x) (retiring-most xs)
-    where
-      go : (t : Bool) → retiring p xs ≤ length xs → length (pick t (x ∷ frontWhile p xs) []) ≤ suc (length xs)
-      go true h = omega arith
-      go false h = omega arith
+pub retiring-most : (l : List Entry) → retiring l ≤ length l
+retiring-most [] = omega arith
+retiring-most (x ∷ xs) = go (finished x) (retiring-most xs)
+  where
+    go : (t : Bool) → retiring xs ≤ length xs → length (pick t (x ∷ frontWhile finished xs) []) ≤ suc (length xs)
+    go true h = omega arith
+    go false h = omega arith
 
-  pub drop-retiring : (l : List A) → drop (retiring p l) l ≡ afterWhile p l
-  drop-retiring [] = refl
-  drop-retiring (x ∷ xs) = go (p x) (drop-retiring xs)
-    where
-      go : (t : Bool) → drop (retiring p xs) xs ≡ afterWhile p xs → drop (length (pick t (x ∷ frontWhile p xs) [])) (x ∷ xs) ≡ pick t (afterWhile p xs) (x ∷ xs)
-      go true h = h
-      go false h = refl
+drop-retiring : (l : List Entry) → drop (retiring l) l ≡ afterWhile finished l
+drop-retiring [] = refl
+drop-retiring (x ∷ xs) = go (finished x) (drop-retiring xs)
+  where
+    go : (t : Bool) → drop (retiring xs) xs ≡ afterWhile finished xs
+        → drop (length (pick t (x ∷ frontWhile finished xs) [])) (x ∷ xs) ≡ pick t (afterWhile finished xs) (x ∷ xs)
+    go true h = h
+    go false h = refl
 
 -- ---- an array whose entries from the kth on are moved to the front, each changed by g: j of them have been moved
 pub record Moved {A : Type 0} (g : A → A) (k : ℕ) (old : List A) (j : ℕ) (l : List A) : Type 0 where
@@ -90,72 +88,44 @@ module _ {A : Type 0} {g : A → A} {k : ℕ} {old : List A} where
         let q : j < length (drop k old) = rw length-drop (omega arith) in
         record { is = rw (e, ahead z h, w .is, add-one) (front-set g (drop k old) old j z (omega arith) q) }
 
-    -- what a side holds once all that stay have been moved
+    -- what is held once all that stay have been moved: `f` reads an element, `h` is what becomes of what is read
     pub moved-side : {B : Type 0} (f : A → B) (blank : A) (h : B → B) → ((x : A) → f (g x) ≡ h (f x)) → (n : ℕ) → j ≡ n - k → k ≤ n → n ≤ length old
-        → sideOf f blank (n - k) l ≡ map h (drop k (sideOf f blank n old))
+        → map f (held blank (n - k) l) ≡ map h (drop k (map f (held blank n old)))
     moved-side {B} f blank h same n e hk hn =
         let long : length l ≡ length old = moved-length (omega arith) in
         let q : n - k ≤ length (drop k old) = rw length-drop (omega arith) in
         let size : length (map g (take (n - k) (drop k old))) ≡ n - k = length-map (take (n - k) (drop k old)) g ∙ length-take-le (n - k) (drop k old) q in
         let front : take (n - k) l ≡ map g (drop k (take n old)) =
         ap (take (n - k)) (rw e at (w .is)) ∙ take-at (map g (take (n - k) (drop k old))) (drop (n - k) old) (n - k) size ∙ ap (map g) (drop-take k n old) in
-        side-few f blank (n - k) l (omega arith)
-        ∙ rw (front, map-map f g, side-few f blank n old hn, drop-map, map-map h f)
+        mapped-few f blank (n - k) l (omega arith)
+        ∙ rw (front, map-map f g, mapped-few f blank n old hn, drop-map, map-map h f)
         (map-same (λ (x : A). f (g x)) (λ (x : A). h (f x)) same (drop k (take n old)))
 
 -- the number of an entry that remembers fewer of the other kind
-pub lowered-number : (others n : ℕ) → entryOf (numberOf (lowered others (entryOf n))) ≡ lowered others (entryOf n)
+abbrev pub loweredIn : ℕ → ℕ → ℕ
+loweredIn others n = numberOf (setBefore (unpacked n .before - others) (unpacked n))
+
+pub lowered-number : (others n : ℕ) → entryIn (loweredIn others n) ≡ afterRetiring others (entryIn n)
 lowered-number others n =
-    let s : Small (entryOf n) = entry-small n in
-    let fewer : entryOf n .before - others < 256 = omega (arith, s .before) in
-    entry-number (lowered others (entryOf n)) (record { port = s .port; before = fewer; address = s .address; word = s .word })
+    anew-number (λ s. setBefore (s .before - others) s) (afterRetiring others) (λ s. refl) n
+    (λ k. record { port = k .port; before = omega (arith, k .before); address = k .address; word = k .word }) refl
 
 -- ---- both sides
-pub side-retiring : {A B : Type 0} (p : B → Bool) (f : A → B) (blank : A) (n : ℕ) (l : List A) → retiring p (sideOf f blank n l) ≤ n
-side-retiring p f blank n l = omega (arith, retiring-most p (sideOf f blank n l), side-length f blank n l)
+pub entries-retiring : (n : ℕ) (l : List ℕ) → retiring (entriesHeld n l) ≤ n
+entries-retiring n l = omega (arith, retiring-most (entriesHeld n l), mapped-length entryIn 0 n l)
 
--- a side once its finished entries have left: `f` says what an entry holds, `h` how that changes as others leave
-side-retired : {B : Type 0} (f : Entry → B) (h : B → B) (p : B → Bool) (others : ℕ) → ((e : Entry) → f (lowered others e) ≡ h (f e))
-    → ((e : Entry) → p (f e) ≡ finished e)
-    → (n l : ℕ) {old new : List ℕ} → l ≡ retiring finished (entriesHeld n old) → Shifted l (n - l) others old new
-    → sideOf (λ (x : ℕ). f (entryOf x)) 0 (n - l) new ≡ map h (afterWhile p (sideOf (λ (x : ℕ). f (entryOf x)) 0 n old))
-side-retired f h p others same is n l {old} {new} e w =
-    let k : l + (n - l) ≡ n = (let m : l ≤ n = rw e (side-retiring finished entryOf 0 n old) in omega arith) in
-    let gone : retiring p (sideOf (λ (x : ℕ). f (entryOf x)) 0 n old) ≡ l = side-retiring-same f p finished is n old ∙ sym e in
-    side-holds f (n - l) new
-    ∙ rw (
-      w .holds,
-      k,
-      map-map f (lowered others),
-      ← drop-retiring p (sideOf (λ (x : ℕ). f (entryOf x)) 0 n old),
-      gone,
-      side-holds f n old,
-      drop-map f l (entriesHeld n old),
-      map-map h f,
-    )
-    (map-same (λ (x : Entry). f (lowered others x)) (λ (x : Entry). h (f x)) same (drop l (entriesHeld n old)))
+-- a side once its finished entries have left
+side-retired : (others n l : ℕ) {old new : List ℕ} → l ≡ retiring (entriesHeld n old) → Shifted l (n - l) others old new
+    → entriesHeld (n - l) new ≡ map (afterRetiring others) (afterWhile finished (entriesHeld n old))
+side-retired others n l {old} {new} e w =
+    let k : l + (n - l) ≡ n = (let m : l ≤ n = rw e (entries-retiring n old) in omega arith) in
+    w .holds ∙ rw (k, e, drop-retiring (entriesHeld n old))
 
 pub retire-sides : (frame : Frame) {loads stores ls ss : List ℕ} {l s : ℕ}
-    → l ≡ retiring finished (entriesHeld (frame .loads .count) loads) → s ≡ retiring finished (entriesHeld (frame .stores .count) stores)
+    → l ≡ retiring (entriesHeld (frame .loads .count) loads) → s ≡ retiring (entriesHeld (frame .stores .count) stores)
     → Shifted l (frame .loads .count - l) s loads ls → Shifted s (frame .stores .count - s) l stores ss
-    → contentsOf (queueOf
-    (record {
-      table = frame .table;
-      «memory_length» = frame .«memory_length»;
-      loads = shorter (frame .loads) l;
-      stores =
-          shorter (frame .stores) s;
-    }) ls ss)
+    → contentsOf (queueOf (frameWithSides frame (record { loads = shorter (frame .loads) l; stores = shorter (frame .stores) s })) ls ss)
     ≡ retire (contentsOf (queueOf frame loads stores))
 unfolding contentsOf
 retire-sides frame {loads} {stores} {ls} {ss} {l} {s} el es ml ms =
-    let left : retiring loadFinished (loadsHeld (frame .loads .count) loads) ≡ l =
-    side-retiring-same loadOf loadFinished finished (λ e. refl) (frame .loads .count) loads ∙ sym el in
-    let right : retiring storeFinished (storesHeld (frame .stores .count) stores) ≡ s =
-    side-retiring-same storeOf storeFinished finished (λ e. refl) (frame .stores .count) stores ∙ sym es in
-    rw (
-      left,
-      right,
-      side-retired loadOf (loadAfterRetiring s) loadFinished s (λ e. refl) (λ e. refl) (frame .loads .count) l el ml,
-      side-retired storeOf (storeAfterRetiring l) storeFinished l (λ e. refl) (λ e. refl) (frame .stores .count) s es ms,
-    )
+    rw (side-retired s (frame .loads .count) l el ml, side-retired l (frame .stores .count) s es ms, ← el, ← es)

@@ -8,8 +8,9 @@ use mathlib.Core.Bool.{Bool, true, false}
 use mathlib.Core.List.{List, [], _∷_}
 use lib.ListN.{drop}
 use Rattle.number.specs.Basics.{anyOf, allOf}
+use Rattle.queue.specs.Entry.{Entry}
 use Rattle.queue.specs.Contents.{firstPlace}
-use Rattle.queue.specs.Retire.{retiring}
+use Rattle.queue.specs.Retire.{finished, retiring}
 
 -- ---- every entry passes
 pub record AllYet {B : Type 0} (p : B → Bool) (l : List B) (i : ℕ) : Type 0 where
@@ -66,19 +67,19 @@ module _ {B : Type 0} {p : B → Bool} {l : List B} {i : ℕ} (w : Seeking p l i
   seeking-end e = rw (w .is, e) (sym (add-zero i))
 
 -- ---- finished entries at the oldest end
-pub record Retiring {B : Type 0} (p : B → Bool) (l : List B) (i : ℕ) : Type 0 where
-  pub is : retiring p l ≡ i + retiring p (drop i l)
+pub record Retiring (l : List Entry) (i : ℕ) : Type 0 where
+  pub is : retiring l ≡ i + retiring (drop i l)
 
-pub retiring-none : {B : Type 0} {p : B → Bool} {l : List B} → Retiring p l 0
+pub retiring-none : {l : List Entry} → Retiring l 0
 retiring-none = record { is = sym (zero-add _) }
 
-module _ {B : Type 0} {p : B → Bool} {l : List B} {i : ℕ} (w : Retiring p l i) where
-  module _ {x : B} (here : drop i l ≡ x ∷ drop (i + 1) l) where
-    pub retiring-on : p x ≡ true → Retiring p l (i + 1)
-    retiring-on e = record { is = w .is ∙ rw (here, e, add-one, add-suc, suc-add) }
+module _ {l : List Entry} {i : ℕ} (w : Retiring l i) where
+  module _ {e : Entry} (here : drop i l ≡ e ∷ drop (i + 1) l) where
+    pub retiring-on : finished e ≡ true → Retiring l (i + 1)
+    retiring-on f = record { is = w .is ∙ rw (here, f, add-one, add-suc, suc-add) }
 
-    pub retiring-stop : p x ≡ false → i ≡ retiring p l
-    retiring-stop e = rw (w .is, here, e) (sym (add-zero i))
+    pub retiring-stop : finished e ≡ false → i ≡ retiring l
+    retiring-stop f = rw (w .is, here, f) (sym (add-zero i))
 
-  pub retiring-end : drop i l ≡ [] → i ≡ retiring p l
+  pub retiring-end : drop i l ≡ [] → i ≡ retiring l
   retiring-end e = rw (w .is, e) (sym (add-zero i))

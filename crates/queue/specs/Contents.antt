@@ -4,112 +4,63 @@
 use Prim.Native.Nat.{ℕ, zero, suc, _+_, _-_, _%_, _^_}
 use mathlib.Core.Bool.{Bool}
 use mathlib.Core.List.{List, [], _∷_, map}
-use mathlib.Core.Option.{Option, none, some}
-use lib.ListN.{length}
+use lib.ListN.{length, take}
 use Rattle.number.specs.Basics.{pick, held}
 use Rattle.table.specs.Group.{GroupPairs}
 use Rattle.table.specs.Table.{groupsOf}
-use Rattle.queue.specs.declared.Entry.{Entry}
+use Rattle.queue.specs.declared.Side.{Side as SideStruct}
 use Rattle.queue.specs.declared.Queue.{Queue}
-use Rattle.queue.specs.Entry.{entryOf}
 use Rattle.queue.specs.declared.Kind.{Kind}
 use Rattle.queue.specs.declared.Kind.the-variants.{Load as load, Store as store}
+use Rattle.queue.specs.Entry.{Entry, entryIn}
 
--- what there is of the loads, and of the stores
-abbrev pub ofKind : {A : Type 0} → Kind → A → A → A
-ofKind load a b = a
-ofKind store a b = b
+-- one side: its depth, the next serial, and the entries from the oldest
+pub record Side : Type 0 where
+  pub depth : ℕ
+  pub next : ℕ
+  pub entries : List Entry
 
--- "A load entry holds port, address or none, served or not, value, taken or not", and how many queued stores come before it.
--- A served load has the value that it was served.
-pub record Load : Type 0 where
-  pub port : ℕ
-  pub address : Option ℕ
-  pub value : Option ℕ
-  pub taken : Bool
-  pub before : ℕ
-
--- "A store entry holds port, address or none, data or none, written or not", and how many queued loads come before it.
-pub record Store : Type 0 where
-  pub port : ℕ
-  pub address : Option ℕ
-  pub word : Option ℕ
-  pub written : Bool
-  pub before : ℕ
-
+-- the table and the memory length, and both sides
 pub record Contents : Type 0 where
   pub groups : List GroupPairs
   pub memoryLength : ℕ
-  pub loadDepth : ℕ
-  pub nextLoad : ℕ
-  pub loads : List Load
-  pub storeDepth : ℕ
-  pub nextStore : ℕ
-  pub stores : List Store
+  pub loads : Side
+  pub stores : Side
 
--- what an entry holds, as a load and as a store
-abbrev pub loadOf : Entry → Load
-loadOf e = record {
-  port = e .port;
-  address = pick (e .addressed) (some (e .address)) none;
-  value = pick (e .filled) (some (e .word)) none;
-  taken = e .finished;
-  before = e .before;
-}
+-- the entries that a count and a run of numbers hold
+abbrev pub entriesHeld : ℕ → List ℕ → List Entry
+entriesHeld n l = map entryIn (held 0 n l)
 
-abbrev pub storeOf : Entry → Store
-storeOf e = record {
-  port = e .port;
-  address = pick (e .addressed) (some (e .address)) none;
-  word = pick (e .filled) (some (e .word)) none;
-  written = e .finished;
-  before = e .before;
-}
-
--- what a number of a queue's record holds
-abbrev pub loadIn : ℕ → Load
-loadIn n = loadOf (entryOf n)
-
-abbrev pub storeIn : ℕ → Store
-storeIn n = storeOf (entryOf n)
+abbrev pub sideIn : SideStruct → List ℕ → Side
+sideIn s l = record { depth = s .depth; next = s .next; entries = entriesHeld (s .count) l }
 
 -- what a queue's record holds
 unfoldable pub contentsOf : Queue → Contents
 contentsOf q = record {
   groups = groupsOf (q .frame .table);
   memoryLength = q .frame .«memory_length»;
-  loadDepth = q .frame .loads .depth;
-  nextLoad = q .frame .loads .next;
-  loads = map loadIn (held 0 (q .frame .loads .count) (q .«load_entries»));
-  storeDepth = q .frame .stores .depth;
-  nextStore = q .frame .stores .next;
-  stores = map storeIn (held 0 (q .frame .stores .count) (q .«store_entries»));
+  loads = sideIn (q .frame .loads) (q .«load_entries»);
+  stores = sideIn (q .frame .stores) (q .«store_entries»);
 }
 
--- the same queue with other entries
-abbrev pub withLoads : Contents → List Load → Contents
-withLoads q ls = record {
-  groups = q .groups;
-  memoryLength = q .memoryLength;
-  loadDepth = q .loadDepth;
-  nextLoad = q .nextLoad;
-  loads = ls;
-  storeDepth = q .storeDepth;
-  nextStore = q .nextStore;
-  stores = q .stores;
-}
+-- what there is of the loads, and of the stores
+abbrev pub ofKind : {A : Type 0} → Kind → A → A → A
+ofKind load a b = a
+ofKind store a b = b
 
-abbrev pub withStores : Contents → List Store → Contents
-withStores q ss = record {
-  groups = q .groups;
-  memoryLength = q .memoryLength;
-  loadDepth = q .loadDepth;
-  nextLoad = q .nextLoad;
-  loads = q .loads;
-  storeDepth = q .storeDepth;
-  nextStore = q .nextStore;
-  stores = ss;
-}
+abbrev pub sideOf : Kind → Contents → Side
+sideOf kind q = ofKind kind (q .loads) (q .stores)
+
+-- the same queue with other sides; a side with other entries; the queue with other entries of a kind
+abbrev pub withSides : Contents → Side → Side → Contents
+withSides q loads stores = record { groups = q .groups; memoryLength = q .memoryLength; loads = loads; stores = stores }
+
+abbrev pub holding : Side → List Entry → Side
+holding s entries = record { depth = s .depth; next = s .next; entries = entries }
+
+abbrev pub withEntries : Kind → Contents → List Entry → Contents
+withEntries load q entries = withSides q (holding (q .loads) entries) (q .stores)
+withEntries store q entries = withSides q (q .loads) (holding (q .stores) entries)
 
 -- Serials: "0 follows 4294967295, so age is judged by distance from the oldest entry".
 abbrev pub after : ℕ → ℕ → ℕ
@@ -123,12 +74,13 @@ age from serial = (serial + (2 ^ 32 - from)) % 2 ^ 32
 abbrev pub oldest : ℕ → ℕ → ℕ
 oldest next n = (next + (2 ^ 32 - n)) % 2 ^ 32
 
--- the place, from the oldest, that a serial names; it is a place of the queue only if it is below the number of entries
-abbrev pub loadPlace : Contents → ℕ → ℕ
-loadPlace q serial = age (oldest (q .nextLoad) (length (q .loads))) serial
+-- the place, from the oldest, that a serial names; it is a place of the side only if it is below the number of entries
+abbrev pub placeOf : Side → ℕ → ℕ
+placeOf s serial = age (oldest (s .next) (length (s .entries))) serial
 
-abbrev pub storePlace : Contents → ℕ → ℕ
-storePlace q serial = age (oldest (q .nextStore) (length (q .stores))) serial
+-- of the other side, the entries that come before an entry: as many as it remembers
+abbrev pub othersBefore : Side → Entry → List Entry
+othersBefore other e = take (e .before) (other .entries)
 
 -- one element made anew
 abbrev pub updateAt : {A : Type 0} → (A → A) → ℕ → List A → List A

@@ -28,7 +28,7 @@ EmptyGroupsFindRoom = (q : Contents) → sound q ≡ true → room q emptyGroup 
 -- 20 does not apply. The queue that follows holds what it held, and its next serials, which are of 32 bits, are what they were.
 abbrev pub EmptyGroupsTakeNoPlace : Type 0
 EmptyGroupsTakeNoPlace =
-    (q : Contents) (group : ℕ) → q .nextLoad < 2 ^ 32 → q .nextStore < 2 ^ 32 → getElem? (q .groups) group ≡ some emptyGroup →
+    (q : Contents) (group : ℕ) → q .loads .next < 2 ^ 32 → q .stores .next < 2 ^ 32 → getElem? (q .groups) group ≡ some emptyGroup →
     activate q group ≡ need (sound q) unsound (accept q)
 
 -- The same of a queue's record and of what `Queue::activate` hands back.

@@ -1,6 +1,7 @@
 -- What the calls of the queue mean, in the order of document 01.
 pub mod Entry
 pub mod Contents
+pub mod Touch
 pub mod Sound
 pub mod Open
 pub mod Activate

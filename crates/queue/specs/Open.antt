@@ -10,29 +10,25 @@ use Rattle.number.specs.Basics.{allOf}
 use Rattle.table.specs.Group.{GroupPairs}
 use Rattle.table.specs.Table.{checkTable}
 use Rattle.table.specs.TableBytes.{pack}
-use Rattle.queue.specs.declared.Side.{Side}
+use Rattle.queue.specs.declared.Side.{Side as SideStruct}
 use Rattle.queue.specs.declared.Frame.{Frame}
 use Rattle.queue.specs.declared.Queue.{Queue}
 use Rattle.number.specs.Refusal.{badLoadDepth, badStoreDepth, badMemoryLength, groupTooLarge}
 use Rattle.number.specs.Reply.{Reply, accept, need, andThen}
-use Rattle.queue.specs.Contents.{Contents}
+use Rattle.queue.specs.Contents.{Side, Contents}
 use Rattle.queue.specs.Sound.{depthRight, memoryRight}
 
 abbrev pub groupFits : ℕ → ℕ → GroupPairs → Bool
 groupFits loadDepth storeDepth g = leb (length (g .loads)) loadDepth && leb (length (g .stores)) storeDepth
 
--- the queue that an accepted opening gives: no entry yet
+-- a side with no entry yet
+abbrev pub noEntries : ℕ → ℕ → Side
+noEntries depth first = record { depth = depth; next = first; entries = [] }
+
+-- the queue that an accepted opening gives
 abbrev pub opened : List GroupPairs → ℕ → ℕ → ℕ → ℕ → Contents
-opened groups loadDepth storeDepth first words = record {
-  groups = groups;
-  memoryLength = words;
-  loadDepth = loadDepth;
-  nextLoad = first;
-  loads = [];
-  storeDepth = storeDepth;
-  nextStore = first;
-  stores = [];
-}
+opened groups loadDepth storeDepth first words =
+    record { groups = groups; memoryLength = words; loads = noEntries loadDepth first; stores = noEntries storeDepth first }
 
 -- open groups (load depth) (store depth) (first serial) (memory length)
 unfoldable pub openQueue : List GroupPairs → ℕ → ℕ → ℕ → ℕ → Reply Contents
@@ -46,7 +42,7 @@ openQueue groups loadDepth storeDepth first words =
 
 -- ---- the records of queues that hold no entry
 -- a side with no entry, whose series begins at this serial
-abbrev pub freshSide : ℕ → ℕ → Side
+abbrev pub freshSide : ℕ → ℕ → SideStruct
 freshSide depth first = record { depth = depth; count = 0; next = first }
 
 -- the frame of a queue of a table, both depths, the first serial and the memory length

@@ -18,11 +18,10 @@ use Rattle.queue.specs.declared.answering.Step.{Step}
 use Rattle.queue.specs.declared.serving.Service.{Service}
 use Rattle.queue.specs.declared.ready.ReadyCount.{ReadyCount}
 use Rattle.queue.specs.declared.opening.OpenedFrame.{OpenedFrame}
-use Rattle.queue.specs.Contents.{ofKind}
+use Rattle.queue.specs.Contents.{ofKind, Contents, contentsOf}
+use Rattle.queue.specs.Open.{noFrame}
 use Rattle.number.specs.Refusal.{unsound}
 use Rattle.number.specs.Reply.{Reply, refuse, accept, need}
-use Rattle.queue.specs.Contents.{Contents, contentsOf}
-use Rattle.queue.specs.Open.{noFrame}
 
 -- the frame of an outline and its table's arrays, and a frame's outline
 abbrev pub frameOf : Outline → List ℕ → List ℕ → List ℕ → Frame

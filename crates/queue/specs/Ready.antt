@@ -11,9 +11,8 @@ use Rattle.number.specs.Refusal.{tooShort, unsound}
 use Rattle.queue.specs.declared.Kind.{Kind}
 use Rattle.queue.specs.declared.Queue.{Queue}
 use Rattle.queue.specs.declared.Readied.{Readied}
-use Rattle.queue.specs.Contents.{ofKind}
 use Rattle.number.specs.Reply.{Reply, refuse, accept, need, number}
-use Rattle.queue.specs.Contents.{Contents, after, oldest}
+use Rattle.queue.specs.Contents.{Contents, ofKind, sideOf, after, oldest}
 use Rattle.queue.specs.Sound.{sound}
 use Rattle.queue.specs.Serve.{serve}
 use Rattle.queue.specs.Write.{write}
@@ -25,10 +24,10 @@ serials from (suc n) = from ∷ serials (after from 1) n
 
 -- how many entries of the kind there are, and the oldest one's serial
 abbrev pub countOf : Kind → Contents → ℕ
-countOf kind q = ofKind kind (length (q .loads)) (length (q .stores))
+countOf kind q = length (sideOf kind q .entries)
 
 abbrev pub oldestOf : Kind → Contents → ℕ
-oldestOf kind q = oldest (ofKind kind (q .nextLoad) (q .nextStore)) (countOf kind q)
+oldestOf kind q = oldest (sideOf kind q .next) (countOf kind q)
 
 -- the answer to serving a load, or to writing a store
 abbrev pub answerTo : Kind → Contents → List ℕ → ℕ → ℕ

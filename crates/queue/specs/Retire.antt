@@ -6,35 +6,25 @@ use mathlib.Core.Bool.{Bool}
 use mathlib.Core.List.{List, map}
 use lib.ListN.{length}
 use Rattle.number.specs.Basics.{frontWhile, afterWhile}
-use Rattle.queue.specs.Contents.{Load, Store, Contents}
+use Rattle.queue.specs.Entry.{Entry, withBefore}
+use Rattle.queue.specs.Contents.{Side, Contents, withSides, holding}
 
--- finished entries
-abbrev pub loadFinished : Load → Bool
-loadFinished l = l .taken
-
-abbrev pub storeFinished : Store → Bool
-storeFinished s = s .written
-
--- an entry after n of the other kind have retired
-abbrev pub loadAfterRetiring : ℕ → Load → Load
-loadAfterRetiring n l = record { port = l .port; address = l .address; value = l .value; taken = l .taken; before = l .before - n }
-
-abbrev pub storeAfterRetiring : ℕ → Store → Store
-storeAfterRetiring n s = record { port = s .port; address = s .address; word = s .word; written = s .written; before = s .before - n }
+-- a taken load, a written store
+abbrev pub finished : Entry → Bool
+finished e = e .finished
 
 -- how many finished entries stand at the oldest end
-abbrev pub retiring : {A : Type 0} → (A → Bool) → List A → ℕ
-retiring finished l = length (frontWhile finished l)
+abbrev pub retiring : List Entry → ℕ
+retiring l = length (frontWhile finished l)
+
+-- an entry after n of the other kind have retired
+abbrev pub afterRetiring : ℕ → Entry → Entry
+afterRetiring n e = withBefore (e .before - n) e
+
+-- a side once its finished entries have retired, and those of the other side
+abbrev pub retired : Side → Side → Side
+retired s other = holding s (map (afterRetiring (retiring (other .entries))) (afterWhile finished (s .entries)))
 
 -- the queue once they have retired
 abbrev pub retire : Contents → Contents
-retire q = record {
-  groups = q .groups;
-  memoryLength = q .memoryLength;
-  loadDepth = q .loadDepth;
-  nextLoad = q .nextLoad;
-  loads = map (loadAfterRetiring (retiring storeFinished (q .stores))) (afterWhile loadFinished (q .loads));
-  storeDepth = q .storeDepth;
-  nextStore = q .nextStore;
-  stores = map (storeAfterRetiring (retiring loadFinished (q .loads))) (afterWhile storeFinished (q .stores));
-}
+retire q = withSides q (retired (q .loads) (q .stores)) (retired (q .stores) (q .loads))

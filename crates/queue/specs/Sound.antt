@@ -3,13 +3,16 @@
 -- or the table meets one of 4 to 8."
 use Prim.Native.Nat.{ℕ}
 use mathlib.Core.Bool.{Bool, true, _&&_}
+use mathlib.Core.List.{List}
 use mathlib.Core.Option.{Option, none, some}
-use lib.Dec.{leb, ltb}
+use lib.Dec.{eqb, leb, ltb}
 use lib.ListN.{length}
 use Rattle.number.specs.Basics.{allOf, within}
-use Rattle.number.specs.Reply.{accepted}
+use Rattle.number.specs.Refusal.{unsound, wrongMemory}
+use Rattle.number.specs.Reply.{Reply, need, accepted}
 use Rattle.table.specs.Table.{checkTable}
-use Rattle.queue.specs.Contents.{Load, Store, Contents}
+use Rattle.queue.specs.Entry.{Entry}
+use Rattle.queue.specs.Contents.{Side, Contents}
 
 -- "depths are 1 to 64 entries each, memory is 1 to 4,096 words"
 abbrev pub depthRight : ℕ → Bool
@@ -23,19 +26,22 @@ abbrev pub addressRight : ℕ → Option ℕ → Bool
 addressRight words none = true
 addressRight words (some a) = ltb a words
 
-abbrev pub loadRight : ℕ → ℕ → Load → Bool
-loadRight words stores l = leb (l .before) stores && addressRight words (l .address)
+-- an entry, where `others` of the other kind are held
+abbrev pub entryRight : ℕ → ℕ → Entry → Bool
+entryRight words others e = leb (e .before) others && addressRight words (e .address)
 
-abbrev pub storeRight : ℕ → ℕ → Store → Bool
-storeRight words loads s = leb (s .before) loads && addressRight words (s .address)
+-- a side, beside the other one
+abbrev pub sideRight : ℕ → Side → Side → Bool
+sideRight words s other =
+    depthRight (s .depth) && leb (length (s .entries)) (s .depth) && allOf (entryRight words (length (other .entries))) (s .entries)
 
 unfoldable pub sound : Contents → Bool
 sound q =
-    depthRight (q .loadDepth)
-    && depthRight (q .storeDepth)
-    && memoryRight (q .memoryLength)
-    && leb (length (q .loads)) (q .loadDepth)
-    && leb (length (q .stores)) (q .storeDepth)
-    && allOf (loadRight (q .memoryLength) (length (q .stores))) (q .loads)
-    && allOf (storeRight (q .memoryLength) (length (q .loads))) (q .stores)
+    memoryRight (q .memoryLength)
+    && sideRight (q .memoryLength) (q .loads) (q .stores)
+    && sideRight (q .memoryLength) (q .stores) (q .loads)
     && accepted (checkTable (q .groups))
+
+-- "30 lent memory has another length than at opening": serve and write check it after 40, and then go by their rule
+abbrev pub withMemory : {A : Type 0} → Contents → List ℕ → Reply A → Reply A
+withMemory q memory rule = need (sound q) unsound (need (eqb (length memory) (q .memoryLength)) wrongMemory rule)

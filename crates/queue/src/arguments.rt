@@ -7,7 +7,7 @@ ghost use Rattle.queue.specs.Contents.{contentsOf};
 ghost use Rattle.queue.specs.Arguments.{kindOf, inRange, give, loadAddress, storeAddress, storeData};
 ghost use Rattle.queue.specs.Outcome.{Moves};
 ghost use Rattle.queue.specs.Parts.{frameOf, queueOf, queueOfKind, answered, onParts};
-ghost use Rattle.queue.specs.Internal.{markOf, withArgument, Given};
+ghost use Rattle.queue.specs.Internal.{markOf, setArgument, Given};
 use crate::Entry;
 use crate::Frame;
 use crate::Kind;
@@ -73,7 +73,7 @@ fn in_range(argument: Argument, memory_length: u16, number: u32) -> bool
 // The entry with the argument.
 fn with_argument(entry: Entry, argument: Argument, number: u32) -> Entry
     requires { ⌜ inRange argument 65536 number ≡ true ⌝ }
-    ensures { λ r. ⌜ r ≡ withArgument argument number entry ⌝ }
+    ensures { λ r. ⌜ r ≡ setArgument argument number entry ⌝ }
 {
     match argument {
         Argument::LoadAddress => with_address(entry, number as u16),

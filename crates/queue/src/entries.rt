@@ -2,9 +2,9 @@
 ghost use mathlib.Core.Path.{_≡_};
 ghost use Prim.Native.Nat.{_≤_};
 ghost use lib.ListN.{length};
-ghost use Rattle.queue.specs.Entry.{bit, entryOf, numberOf};
-ghost use Rattle.queue.specs.Contents.{firstPlace};
-ghost use Rattle.queue.specs.Internal.{withAddress, withWord, has, lacks, entriesHeld};
+ghost use Rattle.queue.specs.Entry.{entryOf, bit, unpacked, numberOf};
+ghost use Rattle.queue.specs.Contents.{entriesHeld, firstPlace};
+ghost use Rattle.queue.specs.Internal.{setAddress, setWord, has, lacksMark};
 use crate::Entry;
 
 // What an entry may have, or be.
@@ -17,7 +17,7 @@ pub(crate) enum Mark {
 // The entry that a number holds, from its lowest bits: the port in five, the three marks, `before` in eight, the address in
 // sixteen, the word in the rest.
 pub fn unpack(number: u64) -> Entry
-    ensures { λ r. ⌜ r ≡ entryOf number ⌝ }
+    ensures { λ r. ⌜ r ≡ unpacked number ⌝ }
 {
     Entry {
         port: (number % 32) as u8,
@@ -50,7 +50,7 @@ pub fn pack(entry: Entry) -> u64
 
 // The entry with an address.
 pub(crate) fn with_address(mut entry: Entry, address: u16) -> Entry
-    ensures { λ r. ⌜ r ≡ withAddress address entry ⌝ }
+    ensures { λ r. ⌜ r ≡ setAddress address entry ⌝ }
 {
     entry.addressed = true;
     entry.address = address;
@@ -59,7 +59,7 @@ pub(crate) fn with_address(mut entry: Entry, address: u16) -> Entry
 
 // The entry with a word: the value of a served load, a store's data.
 pub(crate) fn with_word(mut entry: Entry, word: u32) -> Entry
-    ensures { λ r. ⌜ r ≡ withWord word entry ⌝ }
+    ensures { λ r. ⌜ r ≡ setWord word entry ⌝ }
 {
     entry.filled = true;
     entry.word = word;
@@ -68,7 +68,7 @@ pub(crate) fn with_word(mut entry: Entry, word: u32) -> Entry
 
 // Has the entry the mark?
 pub(crate) fn has(entry: Entry, mark: Mark) -> bool
-    ensures { λ r. ⌜ r ≡ has mark entry ⌝ }
+    ensures { λ r. ⌜ r ≡ has mark (entryOf entry) ⌝ }
 {
     match mark {
         Mark::Addressed => entry.addressed,
@@ -79,7 +79,7 @@ pub(crate) fn has(entry: Entry, mark: Mark) -> bool
 
 // Is it an entry of the port, without the mark?
 fn lacks(entry: Entry, port: u32, mark: Mark) -> bool
-    ensures { λ r. ⌜ r ≡ lacks mark port entry ⌝ }
+    ensures { λ r. ⌜ r ≡ lacksMark mark port (entryOf entry) ⌝ }
 {
     if entry.port as u32 != port {
         return false;
@@ -90,7 +90,7 @@ fn lacks(entry: Entry, port: u32, mark: Mark) -> bool
 // The place of the port's oldest entry without the mark, or the count where there is none.
 pub(crate) fn oldest_without(entries: &[u64], held: u8, port: u32, mark: Mark) -> usize
     requires { ⌜ held ≤ length (now entries) ⌝ }
-    ensures { λ r. ⌜ r ≡ firstPlace (lacks mark port) (entriesHeld held (now (entries .entry))) ⌝ }
+    ensures { λ r. ⌜ r ≡ firstPlace (lacksMark mark port) (entriesHeld held (now (entries .entry))) ⌝ }
 {
     let count = held as usize;
     let mut i: usize = 0;

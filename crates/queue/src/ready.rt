@@ -5,12 +5,13 @@ ghost use mathlib.Core.List.{_++_};
 ghost use Prim.Native.Nat.{_≤_, _<_};
 ghost use lib.ListN.{length, drop};
 ghost use Rattle.table.specs.declared.Table.{Table};
-ghost use Rattle.queue.specs.Contents.{loadOf, contentsOf};
+ghost use Rattle.queue.specs.Entry.{entryOf};
+ghost use Rattle.queue.specs.Contents.{entriesHeld, contentsOf};
 ghost use Rattle.queue.specs.Sound.{sound};
 ghost use Rattle.queue.specs.Ready.{readySerials, ready, Readies, Fronts};
 ghost use denote.Ref.{ptr};
 ghost use Rattle.queue.specs.Parts.{frameOf, queueOf, onParts, readiedOf};
-ghost use Rattle.queue.specs.Internal.{storesHeld, frameWith, Checked};
+ghost use Rattle.queue.specs.Internal.{frameWith, Checked};
 ghost use Rattle.queue.specs.Internal.{loadReady, InReach, readyAt, serialsListed, Noted, Lists, HandedOut};
 use crate::Entry;
 use crate::Kind;
@@ -38,7 +39,7 @@ pub(crate) struct Serials {
 // Would the load be served now?
 fn load_ready(load: Entry, store_entries: &[u64]) -> bool
     requires { ⌜ load .before ≤ length (now «store_entries») ⌝ }
-    ensures { λ r. ⌜ r ≡ loadReady (storesHeld (load .before) (now («store_entries» .entry))) (loadOf load) ⌝ }
+    ensures { λ r. ⌜ r ≡ loadReady (entriesHeld (load .before) (now («store_entries» .entry))) (entryOf load) ⌝ }
 {
     if load.filled {
         return false;

@@ -4,11 +4,11 @@ ghost use mathlib.Core.Path.{_≡_};
 ghost use Prim.Native.Nat.{_+_, _≤_, _-_};
 ghost use lib.ListN.{length};
 ghost use Rattle.table.specs.declared.Table.{Table};
-ghost use Rattle.queue.specs.Contents.{contentsOf};
+ghost use Rattle.queue.specs.Contents.{entriesHeld, contentsOf};
 ghost use Rattle.queue.specs.Retire.{retiring, retire};
 ghost use Rattle.queue.specs.Parts.{queueOf};
-ghost use Rattle.queue.specs.Internal.{entriesHeld, finished, frameWith};
-ghost use Rattle.queue.specs.Internal.{Shifted, shorter, withSides};
+ghost use Rattle.queue.specs.Internal.{frameWith};
+ghost use Rattle.queue.specs.Internal.{Shifted, shorter, frameWithSides};
 use crate::Outline;
 use crate::Side;
 use crate::answering::Sides;
@@ -18,7 +18,7 @@ use crate::entries::unpack;
 // How many entries at the oldest end are finished, and so retire. A finished entry behind an unfinished one keeps its place.
 fn retiring(entries: &[u64], held: u8) -> u8
     requires { ⌜ held ≤ length (now entries) ⌝ }
-    ensures { λ r. ⌜ r ≡ retiring finished (entriesHeld held (now (entries .entry))) ⌝ }
+    ensures { λ r. ⌜ r ≡ retiring (entriesHeld held (now (entries .entry))) ⌝ }
 {
     let mut i: u8 = 0;
     while i < held {
@@ -71,7 +71,7 @@ fn shorter(side: Side, gone: u8) -> Side
 pub(crate) fn retire(outline: Outline, load_entries: &mut [u64], store_entries: &mut [u64]) -> Sides
     requires { ⌜ (outline .loads .count ≤ length (now «load_entries»)) × (outline .stores .count ≤ length (now «store_entries»)) ⌝ }
     ensures { λ r. ⌜ ((table : Table) → let frame = frameWith table outline in
-        contentsOf (queueOf (withSides frame r) (now («load_entries» .exit)) (now («store_entries» .exit)))
+        contentsOf (queueOf (frameWithSides frame r) (now («load_entries» .exit)) (now («store_entries» .exit)))
         ≡ retire (contentsOf (queueOf frame (now («load_entries» .entry)) (now («store_entries» .entry))))) ⌝ }
 {
     let loads = outline.loads;

@@ -4,12 +4,13 @@ ghost use mathlib.Core.Path.{_≡_};
 ghost use Prim.Native.Nat.{_≤_, _<_};
 ghost use lib.ListN.{length};
 ghost use Rattle.table.specs.declared.Table.{Table};
-ghost use Rattle.queue.specs.Contents.{storeOf, contentsOf};
-ghost use Rattle.queue.specs.Serve.{unwrittenTo, fromStore, fromMemory, source, serveAt, serve};
+ghost use Rattle.queue.specs.Entry.{entryOf, dataOf, withWord};
+ghost use Rattle.queue.specs.Contents.{entriesHeld, contentsOf};
+ghost use Rattle.queue.specs.Serve.{fromStore, fromMemory, source, serveAt, serve};
 ghost use Rattle.queue.specs.Outcome.{Serves, withCounts};
 ghost use Rattle.queue.specs.Parts.{frameOf, queueOf, countedOf, onParts};
-ghost use Rattle.queue.specs.Internal.{storesHeld, frameWith, Checked};
-ghost use Rattle.queue.specs.Internal.{sourceIn, serveRefused, servedAs, LoadFilled};
+ghost use Rattle.queue.specs.Internal.{frameWith, Checked};
+ghost use Rattle.queue.specs.Internal.{sourceIn, unwrittenTo, serveRefused, servedAs, MadeAnew};
 use crate::Counted;
 use crate::Entry;
 use crate::Outcome;
@@ -46,7 +47,7 @@ pub(crate) enum Source {
 
 // The source of a load whose nearest earlier unwritten store to its address is this one.
 fn from_store(store: Entry) -> Source
-    ensures { λ r. ⌜ sourceIn r ≡ fromStore (storeOf store .word) ⌝ }
+    ensures { λ r. ⌜ sourceIn r ≡ fromStore (dataOf (entryOf store)) ⌝ }
 {
     if store.filled {
         Source::Forwarded(store.word)
@@ -57,7 +58,7 @@ fn from_store(store: Entry) -> Source
 
 // Is it an unwritten store to the address?
 fn unwritten_to(store: Entry, address: u16) -> bool
-    ensures { λ r. ⌜ r ≡ unwrittenTo address (storeOf store) ⌝ }
+    ensures { λ r. ⌜ r ≡ unwrittenTo address (entryOf store) ⌝ }
 {
     if store.finished {
         return false;
@@ -72,7 +73,7 @@ fn unwritten_to(store: Entry, address: u16) -> bool
 // unwritten store to the address takes the place of one before it, or the load would get a stale word.
 pub(crate) fn source_of(entries: &[u64], n: usize, address: u16) -> Source
     requires { ⌜ n ≤ length (now entries) ⌝ }
-    ensures { λ r. ⌜ sourceIn r ≡ source address fromMemory (storesHeld n (now (entries .entry))) ⌝ }
+    ensures { λ r. ⌜ sourceIn r ≡ source address fromMemory (entriesHeld n (now (entries .entry))) ⌝ }
 {
     let mut found = Source::Memory;
     let mut i: usize = 0;
@@ -116,7 +117,7 @@ fn served(
     counts: Counts,
 ) -> Service
     requires { ⌜ at < length (now «load_entries») ⌝ }
-    ensures { λ r. ⌜ (r ≡ servedAs word forwarded counts) × LoadFilled at word (now («load_entries» .entry)) (now («load_entries» .exit)) ⌝ }
+    ensures { λ r. ⌜ (r ≡ servedAs word forwarded counts) × MadeAnew (withWord word) at (now («load_entries» .entry)) (now («load_entries» .exit)) ⌝ }
 {
     let load = unpack(load_entries[at]);
     let after = with_word(load, word);

@@ -5,10 +5,10 @@ ghost use Prim.Native.Nat.{_≤_};
 ghost use lib.Dec.{leb};
 ghost use lib.ListN.{length};
 ghost use Rattle.number.specs.Basics.{allOf};
-ghost use Rattle.queue.specs.Contents.{contentsOf};
-ghost use Rattle.queue.specs.Sound.{depthRight, memoryRight, sound};
+ghost use Rattle.queue.specs.Entry.{entryOf};
+ghost use Rattle.queue.specs.Contents.{entriesHeld, contentsOf};
+ghost use Rattle.queue.specs.Sound.{depthRight, memoryRight, entryRight, sound};
 ghost use Rattle.queue.specs.Parts.{frameOf, queueOf, queueOfKind, whole};
-ghost use Rattle.queue.specs.Internal.{entriesHeld, entryRight};
 use crate::Entry;
 use crate::Kind;
 use crate::Outline;
@@ -40,7 +40,7 @@ pub(crate) fn memory_right(memory_length: u32) -> bool
 
 // An entry remembers no more of the other kind than are held, and its address, where filled in, is below the memory length.
 fn entry_right(entry: Entry, memory_length: u16, others: u8) -> bool
-    ensures { λ r. ⌜ r ≡ entryRight «memory_length» others entry ⌝ }
+    ensures { λ r. ⌜ r ≡ entryRight «memory_length» others (entryOf entry) ⌝ }
 {
     if others < entry.before {
         return false;

@@ -4,14 +4,14 @@ ghost use Prim.Native.Nat.{_≤_, _<_};
 ghost use lib.ListN.{length, getD};
 ghost use Rattle.number.specs.Basics.{allOf};
 ghost use Rattle.table.specs.declared.Table.{Table};
-ghost use Rattle.queue.specs.Entry.{entryOf};
-ghost use Rattle.queue.specs.Contents.{contentsOf};
-ghost use Rattle.queue.specs.Write.{writeAt, write};
+ghost use Rattle.queue.specs.Entry.{entryOf, entryIn};
+ghost use Rattle.queue.specs.Contents.{entriesHeld, contentsOf};
+ghost use Rattle.queue.specs.Write.{noConflict, writeAt, write};
 ghost use Rattle.number.specs.Reply.{number};
 ghost use Rattle.queue.specs.Outcome.{Writes};
 ghost use Rattle.queue.specs.Parts.{frameOf, queueOf, outcomeOf, onParts};
-ghost use Rattle.queue.specs.Internal.{entriesHeld, frameWith, Checked};
-ghost use Rattle.queue.specs.Internal.{noConflict, mayWriteAt};
+ghost use Rattle.queue.specs.Internal.{frameWith, Checked};
+ghost use Rattle.queue.specs.Internal.{has, mayWriteAt};
 use crate::Entry;
 use crate::Outcome;
 use crate::Outline;
@@ -41,7 +41,7 @@ use number::refusal::WRONG_MEMORY;
 // An entry that is done with the memory (a served load, a written store), or is known to be of another word, does not
 // conflict with a write to the address. Writing past an unserved load of the word would spoil that load.
 fn no_conflict(entry: Entry, done: Mark, address: u16) -> bool
-    ensures { λ r. ⌜ r ≡ noConflict done address entry ⌝ }
+    ensures { λ r. ⌜ r ≡ noConflict (has done) address (entryOf entry) ⌝ }
 {
     if has(entry, done) {
         return true;
@@ -55,7 +55,7 @@ fn no_conflict(entry: Entry, done: Mark, address: u16) -> bool
 // Does none of the first n entries conflict with a write to the address?
 fn none_conflict(entries: &[u64], n: usize, done: Mark, address: u16) -> bool
     requires { ⌜ n ≤ length (now entries) ⌝ }
-    ensures { λ r. ⌜ r ≡ allOf (noConflict done address) (entriesHeld n (now (entries .entry))) ⌝ }
+    ensures { λ r. ⌜ r ≡ allOf (noConflict (has done) address) (entriesHeld n (now (entries .entry))) ⌝ }
 {
     let mut i: usize = 0;
     while i < n {
@@ -70,7 +70,7 @@ fn none_conflict(entries: &[u64], n: usize, done: Mark, address: u16) -> bool
 
 // Why the store at a place may not be written, or 0: 26, 27, 29, 31, 32.
 pub(crate) fn write_fault(load_entries: &[u64], store_entries: &[u64], at: usize) -> u8
-    requires { ⌜ (at < length (now «store_entries»)) × (entryOf (getD (now «store_entries») at 0) .before ≤ length (now «load_entries»)) ⌝ }
+    requires { ⌜ (at < length (now «store_entries»)) × (entryIn (getD (now «store_entries») at 0) .before ≤ length (now «load_entries»)) ⌝ }
     ensures { λ r. ⌜ r ≡ number (mayWriteAt (now («load_entries» .entry)) (now («store_entries» .entry)) at) ⌝ }
 {
     let store = unpack(store_entries[at]);

@@ -51,9 +51,9 @@ TracesReplayed =
 abbrev pub traceOfRun : Start → Trace
 traceOfRun s = record {
   header = record {
-    «load_depth» = s .queue .loadDepth;
-    «store_depth» = s .queue .storeDepth;
-    first = s .queue .nextLoad;
+    «load_depth» = s .queue .loads .depth;
+    «store_depth» = s .queue .stores .depth;
+    first = s .queue .loads .next;
     «memory_length» = s .queue .memoryLength;
   };
   events = s .events;

@@ -1,88 +1,103 @@
 -- One entry of the log made anew: what follows for the invariant's parts. And finished entries that leave.
 use Prim.Native.Nat.{ℕ, suc, _+_, _≤_}
 use native.Mathlib.Omega.{arith}
-use mathlib.Core.Path.{_≡_, refl, sym, ap, _∙_}
+use mathlib.Core.Path.{_≡_, sym, ap, _∙_}
 use mathlib.Core.Bool.{Bool, true, false}
 use mathlib.Core.List.{List, [], _∷_, _++_, map, map-append, append-nil}
 use lib.ListN.{length, length-map}
-use Rattle.number.specs.Basics.{pick, countWhere, afterWhile}
-use Rattle.table.specs.Group.{GroupPairs, Access}
+use Rattle.number.specs.Basics.{pick, countWhere, afterWhile, allOf}
+use Rattle.table.specs.Group.{GroupPairs, Access, uncounted}
+use Rattle.queue.specs.declared.Kind.{Kind}
+use Rattle.queue.specs.declared.Kind.the-variants.{Load, Store}
+use Rattle.queue.proofs.ContentsLaws.{opposite}
 use Rattle.queue.specs.declared.arguments.Argument.{Argument}
-use Rattle.queue.specs.Contents.{Load, Store, Contents, withLoads, withStores, updateAt}
-use Rattle.queue.specs.Retire.{retire, retiring, loadFinished, storeFinished, loadAfterRetiring, storeAfterRetiring}
+use Rattle.queue.specs.Entry.{Entry, withBefore}
+use Rattle.queue.specs.Contents.{Contents, withEntries, updateAt, sideOf}
+use Rattle.queue.specs.Retire.{retire, retiring, finished, afterRetiring}
 use Rattle.queue.proofs.Lists.{all-replace, count-append, length-updateAt, length-afterWhile}
 use Rattle.sequential.specs.Answers.{Answered}
 use Rattle.sequential.specs.Plain.{gather, rowsOf, accesses}
 use Rattle.sequential.specs.Demand3.{tell, told, takenAt, serveOf, writeOf}
-use Rattle.sequential.proofs.Log.{LogEntry, ofLoad, ofStore, loads, stores, ownIn, loads-stores, stores-loads, ownIn-append}
-use Rattle.sequential.proofs.Window.{Located, turned, window-leave}
-use Rattle.sequential.proofs.MemoryInvariant.{MemoriesAgree}
+use Rattle.sequential.proofs.Log.{LogEntry, accessOf, loads, stores, ownIn, loads-stores, stores-loads, ownIn-append, Opposite, put, own-put}
+use Rattle.sequential.proofs.Window.{Located, turned, window-leave, Windows, put-other}
+use Rattle.sequential.proofs.CellLog.{CellsHold}
 use Rattle.sequential.proofs.Rows.{Row, RowCell, given, valueTaken, row-same}
-use Rattle.sequential.proofs.PlainRun.{accessOf}
-use Rattle.sequential.proofs.Invariant.{Holds, LogSeen, rightLoad, rightStore, isServed, isWritten, seen-more}
+use Rattle.sequential.proofs.Invariant.{Holds, LogSeen, rightEntry, isServed, isWritten, seen-more}
 
 -- ---- the queue's part
 
-pub holds-load : {q : Contents} {m memory : List ℕ} {log : List LogEntry} → Holds q m memory log
-    → {i : ℕ} {pre : List LogEntry} {it : Load} {post : List LogEntry}
-    → Located loads stores log (q .loads) (q .stores) i pre it post → (f : Load → Load)
-    → ((n : ℕ) (l : Load) → f (loads .remember n l) ≡ loads .remember n (f l))
-    → rightLoad (q .memoryLength) (f it) ≡ true → MemoriesAgree m memory (pre ++ ofLoad (f it) ∷ post)
-    → Holds (withLoads q (updateAt f i (q .loads))) m memory (pre ++ ofLoad (f it) ∷ post)
-holds-load {q} {m} {memory} {log} h {i} {pre} {it} {post} l f blind right agree = record {
-  limits = h .limits;
-  roomLoads = rw (length-updateAt f i (q .loads)) (h .roomLoads);
-  roomStores = h .roomStores;
-  long = h .long;
-  windows = l .anew f blind;
-  rightLoads =
-      rw (ownIn-append loads pre (ofLoad (f it) ∷ post))
-      (all-replace (rightLoad (q .memoryLength)) (ownIn loads pre) (ownIn loads post) it (f it)
-      (rw (l .log-is, ownIn-append loads pre (ofLoad it ∷ post)) at (h .rightLoads)) right);
-  rightStores = rw (ownIn-append stores pre (ofLoad (f it) ∷ post)) (rw (l .log-is, ownIn-append stores pre (ofLoad it ∷ post)) at (h .rightStores));
-  agree = agree;
-}
+-- both sides of the queue, from a kind's
+pub windows-of : {q : Contents} {m memory : List ℕ} {log : List LogEntry} → Holds q m memory log → (K : Kind)
+    → Windows K (opposite K) log (sideOf K q .entries) (sideOf (opposite K) q .entries)
+windows-of h Load = h .windows
+windows-of h Store = turned (h .windows)
 
-pub holds-store : {q : Contents} {m memory : List ℕ} {log : List LogEntry} → Holds q m memory log
-    → {i : ℕ} {pre : List LogEntry} {it : Store} {post : List LogEntry}
-    → Located stores loads log (q .stores) (q .loads) i pre it post → (f : Store → Store)
-    → ((n : ℕ) (s : Store) → f (stores .remember n s) ≡ stores .remember n (f s))
-    → rightStore (q .memoryLength) (f it) ≡ true → (m′ : List ℕ) → length m′ ≡ length m → MemoriesAgree m′ memory (pre ++ ofStore (f it) ∷ post)
-    → Holds (withStores q (updateAt f i (q .stores))) m′ memory (pre ++ ofStore (f it) ∷ post)
-holds-store {q} {m} {memory} {log} h {i} {pre} {it} {post} l f blind right m′ long agree = record {
-  limits = h .limits;
-  roomLoads = h .roomLoads;
-  roomStores = rw (length-updateAt f i (q .stores)) (h .roomStores);
-  long = long ∙ h .long;
-  windows = turned (l .anew f blind);
-  rightLoads = rw (ownIn-append loads pre (ofStore (f it) ∷ post)) (rw (l .log-is, ownIn-append loads pre (ofStore it ∷ post)) at (h .rightLoads));
-  rightStores =
-      rw (ownIn-append stores pre (ofStore (f it) ∷ post))
-      (all-replace (rightStore (q .memoryLength)) (ownIn stores pre) (ownIn stores post) it (f it)
-      (rw (l .log-is, ownIn-append stores pre (ofStore it ∷ post)) at (h .rightStores)) right);
-  agree = agree;
-}
+module _ (K : Kind) (words : ℕ) (pre post : List LogEntry) (it x : Entry) where
+  own-replaced : allOf (rightEntry K words) (ownIn K (pre ++ put K it ∷ post)) ≡ true → rightEntry K words x ≡ true
+      → allOf (rightEntry K words) (ownIn K (pre ++ put K x ∷ post)) ≡ true
+  own-replaced h right =
+      rw (ownIn-append K pre (put K x ∷ post), own-put K x)
+      (all-replace (rightEntry K words) (ownIn K pre) (ownIn K post) it x (rw (ownIn-append K pre (put K it ∷ post), own-put K it) at h) right)
+
+  others-replaced : (K′ : Kind) → Opposite K K′ → (p : Entry → Bool) → allOf p (ownIn K′ (pre ++ put K it ∷ post)) ≡ true
+      → allOf p (ownIn K′ (pre ++ put K x ∷ post)) ≡ true
+  others-replaced K′ opposed p h =
+      rw (ownIn-append K′ pre (put K x ∷ post), put-other K K′ opposed x)
+      (rw (ownIn-append K′ pre (put K it ∷ post), put-other K K′ opposed it) at h)
+
+module _ {q : Contents} {m memory : List ℕ} {log : List LogEntry} (h : Holds q m memory log)
+    {i : ℕ} {pre : List LogEntry} {it : Entry} {post : List LogEntry} (f : Entry → Entry)
+    (blind : (n : ℕ) (e : Entry) → f (withBefore n e) ≡ withBefore n (f e)) (m′ : List ℕ) (long : length m′ ≡ length m) where
+  -- one entry made anew, with another memory of that length
+  pub holds-anew : (K : Kind) → Located K (opposite K) log (sideOf K q .entries) (sideOf (opposite K) q .entries) i pre it post
+      → rightEntry K (q .memoryLength) (f it) ≡ true → CellsHold m′ memory (pre ++ put K (f it) ∷ post)
+      → Holds (withEntries K q (updateAt f i (sideOf K q .entries))) m′ memory (pre ++ put K (f it) ∷ post)
+  holds-anew Load l right cells = record {
+    limits = h .limits;
+    room = elim [ Load ↦ rw (length-updateAt f i (q .loads .entries)) (h .room Load) | Store ↦ h .room Store ];
+    long = long ∙ h .long;
+    opened = h .opened;
+    windows = l .anew f blind;
+    right = elim [
+      | Load ↦ own-replaced Load (q .memoryLength) pre post it (f it) (rw (l .log-is) at (h .right Load)) right
+      | Store ↦ others-replaced Load (q .memoryLength) pre post it (f it) Store loads-stores _ (rw (l .log-is) at (h .right Store))
+    ];
+    cells = cells;
+  }
+  holds-anew Store l right cells = record {
+    limits = h .limits;
+    room = elim [ Load ↦ h .room Load | Store ↦ rw (length-updateAt f i (q .stores .entries)) (h .room Store) ];
+    long = long ∙ h .long;
+    opened = h .opened;
+    windows = turned (l .anew f blind);
+    right = elim [
+      | Load ↦ others-replaced Store (q .memoryLength) pre post it (f it) Load stores-loads _ (rw (l .log-is) at (h .right Load))
+      | Store ↦ own-replaced Store (q .memoryLength) pre post it (f it) (rw (l .log-is) at (h .right Store)) right
+    ];
+    cells = cells;
+  }
 
 -- "finished entries leave each side from its oldest end"
 pub holds-retired : {q : Contents} {m memory : List ℕ} {log : List LogEntry} → Holds q m memory log → Holds (retire q) m memory log
 holds-retired {q} {m} {memory} {log} h = record {
   limits = h .limits;
-  roomLoads = shorter loadFinished (loadAfterRetiring (retiring storeFinished (q .stores))) (q .loads) (h .roomLoads);
-  roomStores = shorter storeFinished (storeAfterRetiring (retiring loadFinished (q .loads))) (q .stores) (h .roomStores);
+  room = elim [ Load ↦ shorter (q .stores .entries) (q .loads .entries) (h .room Load) | Store ↦ shorter (q .loads .entries) (q .stores .entries) (h .room Store) ];
   long = h .long;
+  opened = h .opened;
   windows = record {
-    gone = h .windows .gone + retiring loadFinished (q .loads);
-    gone′ = h .windows .gone′ + retiring storeFinished (q .stores);
-    ours = window-leave loads stores loads-stores loadAfterRetiring (λ j n l. refl) (h .windows .ours) (retiring storeFinished (q .stores));
-    theirs = window-leave stores loads stores-loads storeAfterRetiring (λ j n s. refl) (h .windows .theirs) (retiring loadFinished (q .loads));
+    gone = h .windows .gone + retiring (q .loads .entries);
+    gone′ = h .windows .gone′ + retiring (q .stores .entries);
+    ours = window-leave loads stores loads-stores (h .windows .ours) (retiring (q .stores .entries));
+    theirs = window-leave stores loads stores-loads (h .windows .theirs) (retiring (q .loads .entries));
   };
-  rightLoads = h .rightLoads;
-  rightStores = h .rightStores;
-  agree = h .agree;
+  right = h .right;
+  cells = h .cells;
 }
   where
-    shorter : {A : Type 0} (p : A → Bool) (f : A → A) (l : List A) {n : ℕ} → length l ≤ n → length (map f (afterWhile p l)) ≤ n
-    shorter p f l {n} k = rw (length-map (afterWhile p l) f) (let d : length (afterWhile p l) ≤ length l = length-afterWhile p l in omega arith)
+    shorter : (others l : List Entry) {n : ℕ} → length l ≤ n → length (map (afterRetiring (retiring others)) (afterWhile finished l)) ≤ n
+    shorter others l {n} k =
+        rw (length-map (afterWhile finished l) (afterRetiring (retiring others)))
+        (let d : length (afterWhile finished l) ≤ length l = length-afterWhile finished l in omega arith)
 
 -- ---- the answers' part
 
@@ -114,8 +129,9 @@ module _ (groups : List GroupPairs) (answered : List Answered) (a : Answered) (p
       (count-anew isWritten e e′ (length (gather writeOf (tell a ∷ []))) writes pre post
       ∙ ap (λ (n : ℕ). n + length (gather writeOf (tell a ∷ []))) (s .writes))
     where
-      shape : map accessOf (pre ++ e′ ∷ post) ≡ accesses groups (told answered) ++ accesses groups (tell a ∷ [])
+      shape : map accessOf (pre ++ e′ ∷ post) ≡ map uncounted (accesses groups (told answered)) ++ map uncounted (accesses groups (tell a ∷ []))
       shape =
           map-append accessOf pre (e′ ∷ post) ∙ ap (λ (x : Access). map accessOf pre ++ x ∷ map accessOf post) same
           ∙ sym (map-append accessOf pre (e ∷ post)) ∙ s .shape
-          ∙ sym (append-nil (accesses groups (told answered))) ∙ ap (λ (l : List Access). accesses groups (told answered) ++ l) (sym no-access)
+          ∙ sym (append-nil (map uncounted (accesses groups (told answered))))
+          ∙ ap (λ (l : List Access). map uncounted (accesses groups (told answered)) ++ map uncounted l) (sym no-access)

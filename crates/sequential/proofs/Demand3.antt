@@ -9,18 +9,19 @@ use lib.Dec.{leb}
 use lib.ListN.{length, getElem?}
 use borrow.Author.Tests.{leb-true}
 use Rattle.number.specs.Basics.{pick, allOf, countWhere}
-use Rattle.table.specs.Group.{GroupPairs, Access}
-use Rattle.queue.specs.Retire.{storeFinished}
+use Rattle.table.specs.Group.{GroupPairs, Access, isStore}
+use Rattle.queue.specs.Retire.{finished}
 use Rattle.queue.specs.declared.arguments.Argument.{Argument}
 use Rattle.number.proofs.Both.{and-left}
 use Rattle.queue.proofs.Lists.{and-both}
 use Rattle.sequential.specs.Calls.{Call}
 use Rattle.sequential.specs.Answers.{Machine, Answered, answers, machineAfter}
-use Rattle.sequential.specs.Plain.{Told, Rows, rowsOf, inOrder, accesses, Filling, PlainState, plainStart}
-use Rattle.sequential.specs.Plain.{valuesFrom, memoryFrom, valuesAt, plainLoads, plainMemory}
-use Rattle.sequential.specs.Demand3.{told, takenAt, isStore, Sequential, Opening, Demand3, AlikeLists}
-use Rattle.sequential.proofs.Log.{LogEntry, ofLoad, ofStore, stores, ownIn}
-use Rattle.sequential.proofs.PlainRun.{accessOf, taken-is-loaded, written-is-plain}
+use Rattle.sequential.specs.Plain.{Told, Rows, rowsOf, inOrder, accesses, Filling, wordReading, PlainState, plainStart, valuesFrom, memoryFrom}
+use Rattle.sequential.specs.Plain.{valuesAt, plainLoads, plainMemory}
+use Rattle.sequential.specs.Demand3.{told, takenAt, Sequential, Opening, Demand3, AlikeLists}
+use Rattle.sequential.proofs.Log.{LogEntry, ofLoad, ofStore, accessOf, stores, ownIn, loads}
+use Rattle.sequential.proofs.PlainRun.{taken-is-loaded, written-is-plain, values-uncounted, memory-uncounted, seen-count, stores-uncounted}
+use Rattle.sequential.proofs.Lanes.{cellAt}
 use Rattle.sequential.proofs.Invariant.{Invariant, isWritten}
 use Rattle.sequential.proofs.Run.{opening-limits, reached}
 use Rattle.sequential.proofs.Progress.{state-moves}
@@ -30,22 +31,22 @@ use Rattle.sequential.proofs.Progress.{state-moves}
 written-stores : (es : List LogEntry) → countWhere isWritten es ≤ countWhere isStore (map accessOf es)
 written-stores [] = omega arith
 written-stores (ofLoad l ∷ es) = written-stores es
-written-stores (ofStore s ∷ es) = go (s .written) (written-stores es)
+written-stores (ofStore s ∷ es) = go (s .finished) (written-stores es)
   where
     go : (b : Bool) → countWhere isWritten es ≤ countWhere isStore (map accessOf es)
         → pick b (suc (countWhere isWritten es)) (countWhere isWritten es) ≤ suc (countWhere isStore (map accessOf es))
     go true h = omega arith
     go false h = omega arith
 
-all-written : (es : List LogEntry) → countWhere isWritten es ≡ countWhere isStore (map accessOf es) → allOf storeFinished (ownIn stores es) ≡ true
+all-written : (es : List LogEntry) → countWhere isWritten es ≡ countWhere isStore (map accessOf es) → allOf finished (ownIn stores es) ≡ true
 all-written [] h = refl
 all-written (ofLoad l ∷ es) h = all-written es h
-all-written (ofStore s ∷ es) h = go (s .written) refl h (written-stores es) (λ k. all-written es k)
+all-written (ofStore s ∷ es) h = go (s .finished) refl h (written-stores es) (λ k. all-written es k)
   where
-    go : (b : Bool) → s .written ≡ b → pick b (suc (countWhere isWritten es)) (countWhere isWritten es) ≡ suc (countWhere isStore (map accessOf es))
+    go : (b : Bool) → s .finished ≡ b → pick b (suc (countWhere isWritten es)) (countWhere isWritten es) ≡ suc (countWhere isStore (map accessOf es))
         → countWhere isWritten es ≤ countWhere isStore (map accessOf es)
-        → (countWhere isWritten es ≡ countWhere isStore (map accessOf es) → allOf storeFinished (ownIn stores es) ≡ true)
-        → (s .written) && allOf storeFinished (ownIn stores es) ≡ true
+        → (countWhere isWritten es ≡ countWhere isStore (map accessOf es) → allOf finished (ownIn stores es) ≡ true)
+        → (s .finished) && allOf finished (ownIn stores es) ≡ true
     go true e k le rec = and-both e (rec (omega arith))
     go false e k le rec = absurd (omega arith)
 
@@ -56,18 +57,19 @@ sequential : (groups : List GroupPairs) (memory : List ℕ) (answered : List Ans
 unfolding plainLoads plainMemory
 sequential groups memory answered left st fill = record {
   takes = λ port n v h.
-      rw (st .seen .shape) at
-      (taken-is-loaded fill port (st .log) 0 (left .memory) memory (rowsOf (told answered)) (st .seen .rows) (st .holds .agree)
-      (takenAt port answered) (st .seen .takes port) n v h);
+      rw (st .seen .shape, values-uncounted wordReading fill 0 (plainStart memory (told answered)) (accesses groups (told answered))) at
+      (taken-is-loaded fill port (st .log) 0 (cellAt (left .memory)) memory (rowsOf (told answered)) (rw (st .holds .opened) (st .holds .right loads))
+      (st .seen .rows) (λ b j low lane. st .holds .cells b j low lane .agree) (takenAt port answered) (st .seen .takes port) n v h);
   writes = λ full.
-      rw (st .seen .shape) at
-      (written-is-plain fill (st .log) 0 (left .memory) memory (rowsOf (told answered)) (st .seen .rows) (st .holds .agree)
-      (all-written (st .log) (st .seen .writes ∙ full ∙ sym (ap (countWhere isStore) (st .seen .shape)))));
+      rw (st .seen .shape, memory-uncounted wordReading fill 0 (plainStart memory (told answered)) (accesses groups (told answered))) at
+      (written-is-plain fill (st .log) (left .memory) memory (rowsOf (told answered)) (st .holds .long ∙ sym (st .holds .opened)) (st .seen .rows)
+      (λ b j low lane. st .holds .cells b j low lane .agree)
+      (all-written (st .log) (st .seen .writes ∙ full ∙ sym (seen-count (st .seen) isStore stores-uncounted))));
   moves = state-moves groups memory answered left st;
 }
 
--- DEMAND 3. The bound on what is filled in is not used: a taken load and the stores before it have their addresses (28), and
--- so has every written store, so that nothing filled in is ever read.
+-- DEMAND 3. The bound on what is filled in is not used: a taken load has its own address, within memory, and a store beyond the
+-- end of memory would change no cell.
 pub demand3 : Demand3
 demand3 groups memory m o calls fill low = sequential groups memory (answers m calls) (machineAfter m calls) (reached o calls) fill
 
@@ -80,7 +82,7 @@ pub record AlikeInOrder (groups : List GroupPairs) (a b : List Told) : Type 0 wh
 
 -- the plain run depends on them alone
 module _ (groups : List GroupPairs) (memory : List ℕ) (a b : List Told) (h : AlikeInOrder groups a b) (fill : Filling) where
-  alike-runs : {A : Type 0} (f : PlainState → List Access → A)
+  alike-runs : {A : Type 0} (f : PlainState ℕ → List Access → A)
       → f (plainStart memory a) (accesses groups a) ≡ f (plainStart memory b) (accesses groups b)
   alike-runs f =
       let rows : rowsOf a ≡ rowsOf b = fun-ext (λ kind. fun-ext (λ p. h .arguments kind p)) in
@@ -88,11 +90,11 @@ module _ (groups : List GroupPairs) (memory : List ℕ) (a b : List Told) (h : A
 
   pub alike-loads : (port : ℕ) → plainLoads groups memory a fill port ≡ plainLoads groups memory b fill port
   unfolding plainLoads
-  alike-loads port = alike-runs (λ s order. valuesAt port (valuesFrom fill 0 s order))
+  alike-loads port = alike-runs (λ s order. valuesAt port (valuesFrom wordReading fill 0 s order))
 
   pub alike-memories : plainMemory groups memory a fill ≡ plainMemory groups memory b fill
   unfolding plainMemory
-  alike-memories = alike-runs (λ s order. memoryFrom fill 0 s order)
+  alike-memories = alike-runs (λ s order. memoryFrom wordReading fill 0 s order)
 
 -- any filling serves; the memory has a word 0
 zeros : Filling

@@ -8,33 +8,30 @@ use mathlib.Core.Option.{Option, none, some}
 use lib.Dec.{eqb}
 use lib.ListN.{length, getElem?}
 use borrow.Author.Tests.{ltb-false}
-use Rattle.number.specs.Basics.{pick, anyOf, keepWhere}
+use Rattle.number.specs.Basics.{pick, keepWhere, anyOf}
 use Rattle.table.specs.declared.Pair.{Pair}
 use Rattle.table.specs.Group.{GroupPairs, emptyGroup, order}
 use Rattle.table.specs.Table.{groupsOf}
 use Rattle.table.specs.RightTables.{Each}
-use Rattle.queue.specs.declared.Kind.the-variants.{Load as load}
+use Rattle.queue.specs.Contents.{Contents, placeOf}
+use Rattle.queue.specs.Activate.{withGroup, activate}
+use Rattle.queue.specs.Arguments.{lacks, askedOf}
+use Rattle.queue.specs.Take.{takePlace}
+use Rattle.queue.specs.Parts.{queueOf}
+use Rattle.queue.specs.declared.Kind.the-variants.{Load, Store}
 use Rattle.queue.specs.declared.arguments.Argument.{Argument}
 use Rattle.queue.specs.declared.arguments.Argument.the-variants.{LoadAddress, StoreAddress, StoreData}
-use Rattle.number.specs.Reply.{Reply, refuse, accept}
-use Rattle.queue.specs.Contents.{Contents, loadPlace, storePlace, firstPlace}
-use Rattle.queue.specs.Sound.{sound}
-use Rattle.queue.specs.Activate.{activate}
-use Rattle.queue.specs.Arguments.{kindOf, namesPort, inRange, waits, give}
-use Rattle.queue.specs.Serve.{Served, serve}
-use Rattle.queue.specs.Write.{Written, write}
-use Rattle.queue.specs.Take.{Taken, untaken, takeRule}
-use Rattle.queue.specs.Parts.{queueOf}
+use Rattle.number.specs.Reply.{accept}
 use Rattle.queue.proofs.Lists.{false-true}
-use Rattle.number.proofs.ReplyLaws.{need-accepts, have-accepts}
-use Rattle.queue.proofs.EmptyGroups.{empty-groups-take-no-place}
-use Rattle.sequential.specs.Calls.{Call, Activate, Give, Serve, Write, Take, Ready}
-use Rattle.sequential.specs.Answers.{Machine, machine, moveResponse, serveResponse, writeResponse, takeResponse, step, answers, machineAfter}
+use Rattle.queue.proofs.EmptyGroups.{none-more, empty-groups-take-no-place}
+use Rattle.sequential.specs.Calls.{Call, Activate}
+use Rattle.sequential.specs.Answers.{Machine, Response, machine, moveResponse, step, answers, machineAfter}
 use Rattle.sequential.specs.Plain.{Told, consOption, gather, activationOf, argumentOf, rowsOf, accessesOf, inOrder, accesses}
 use Rattle.sequential.specs.Demand3.{told, Opening}
 use Rattle.sequential.specs.Records.{machineOf}
 use Rattle.sequential.specs.EmptyGroups.{PlainRunPassesOver, hasAccess, AlikeButForEmpty, ListsAlikeButForEmpty, RecordsAlikeButForEmpty}
 use Rattle.sequential.specs.EmptyGroups.{EmptyAlwaysAccepted, OnlyEmpty, OnlyEmptyHoldsNone, OnlyEmptyRecords, OnlyEmptyParts}
+use Rattle.sequential.proofs.Accepted.{Stepped, refused, activated, gave, served, wrote, took, readied, stepped}
 use Rattle.sequential.proofs.Run.{limits-opened, reached}
 use Rattle.sequential.proofs.Serials.{reached-small}
 use Rattle.sequential.proofs.ReachedSound.{reached-sound}
@@ -44,19 +41,19 @@ use Rattle.sequential.proofs.RunsOnParts.{parts-are-records}
 
 -- ---- the plain run
 module _ (groups : List GroupPairs) (group : ℕ) (e : getElem? groups group ≡ some emptyGroup) where
-  abbrev activated : Told
-  activated = record { call = Activate group; accepted = true }
+  abbrev activation : Told
+  activation = record { call = Activate group; accepted = true }
 
   same-rows : (before after : List Told) (kind : Argument) (port : ℕ) →
-      rowsOf (before ++ activated ∷ after) kind port ≡ rowsOf (before ++ after) kind port
+      rowsOf (before ++ activation ∷ after) kind port ≡ rowsOf (before ++ after) kind port
   same-rows [] after kind port = refl
   same-rows (t ∷ before) after kind port =
       ap (λ (row : List ℕ). pick (t .accepted) (consOption (argumentOf kind port (t .call)) row) row) (same-rows before after kind port)
 
-  same-accesses : (before after : List Told) → accesses groups (before ++ activated ∷ after) ≡ accesses groups (before ++ after)
+  same-accesses : (before after : List Told) → accesses groups (before ++ activation ∷ after) ≡ accesses groups (before ++ after)
   same-accesses [] after = rw e
   same-accesses (t ∷ before) after =
-      go (t .accepted) (activationOf (t .call)) (gather activationOf (before ++ activated ∷ after)) (gather activationOf (before ++ after))
+      go (t .accepted) (activationOf (t .call)) (gather activationOf (before ++ activation ∷ after)) (gather activationOf (before ++ after))
       (same-accesses before after)
     where
       go : (b : Bool) (o : Option ℕ) (xs ys : List ℕ) → inOrder groups xs ≡ inOrder groups ys
@@ -67,7 +64,7 @@ module _ (groups : List GroupPairs) (group : ℕ) (e : getElem? groups group ≡
 
 pub plain-run-passes-over : PlainRunPassesOver
 plain-run-passes-over groups memory fill before after group e =
-    let alike : AlikeInOrder groups (before ++ activated groups group e ∷ after) (before ++ after) =
+    let alike : AlikeInOrder groups (before ++ activation groups group e ∷ after) (before ++ after) =
     record { order = same-accesses groups group e before after; arguments = same-rows groups group e before after } in
     record { loads = alike-loads groups memory _ _ alike fill; memories = alike-memories groups memory _ _ alike fill }
 
@@ -117,100 +114,47 @@ empty-always-accepted groups memory m o calls group e =
     let is : getElem? (left .queue .groups) group ≡ some emptyGroup = rw (reached o calls .table) e in
     let s = reached-small o calls in
     let a : activate (left .queue) group ≡ accept (left .queue) =
-    empty-groups-take-no-place (left .queue) group (s .nextLoad) (s .nextStore) is ∙ rw (reached-sound groups memory m o calls) in
+    empty-groups-take-no-place (left .queue) group (s .next Load) (s .next Store) is ∙ rw (reached-sound groups memory m o calls) in
     ap (moveResponse left) a
 
 -- ---- a queue that holds no entry
 record Fresh (groups : List GroupPairs) (q : Contents) : Type 0 where
   pub groups-are : q .groups ≡ groups
-  pub no-loads : q .loads ≡ []
-  pub no-stores : q .stores ≡ []
-  pub next-load : q .nextLoad < 2 ^ 32
-  pub next-store : q .nextStore < 2 ^ 32
+  pub no-loads : q .loads .entries ≡ []
+  pub no-stores : q .stores .entries ≡ []
+  pub next-load : q .loads .next < 2 ^ 32
+  pub next-store : q .stores .next < 2 ^ 32
 
 none-there : {A : Type 0} {l : List A} (i : ℕ) {x : A} → l ≡ [] → getElem? l i ≡ some x → ⊥
 none-there i e k = let z : none ≡ some _ = rw e at k in let f : false ≡ true = cc in false-true f
 
 -- each call leaves it as it was; an accepted activation, since its group is empty
 module _ (groups : List GroupPairs) (m : Machine) (fresh : Fresh groups (m .queue)) where
-  none-waits : (argument : Argument) (port : ℕ) → waits argument port (m .queue) ≡ false
+  none-waits : (argument : Argument) (port : ℕ) → anyOf (lacks argument port) (askedOf argument (m .queue)) ≡ false
   none-waits LoadAddress port = rw (fresh .no-loads)
   none-waits StoreAddress port = rw (fresh .no-stores)
   none-waits StoreData port = rw (fresh .no-stores)
 
-  activate-leaves : (group : ℕ) (q : Contents) → getElem? groups group ≡ some emptyGroup → activate (m .queue) group ≡ accept q → q ≡ m .queue
-  activate-leaves group q e h₀ =
-      let is : getElem? (m .queue .groups) group ≡ some emptyGroup = rw (fresh .groups-are) e in
-      let h₁ = sym (empty-groups-take-no-place (m .queue) group (fresh .next-load) (fresh .next-store) is) ∙ h₀ in
-      let h₂ = need-accepts (sound (m .queue)) _ _ h₁ .1 in
-      cc
-
-  give-refused : (argument : Argument) (port x : ℕ) (q : Contents) → give argument (m .queue) port x ≡ accept q → ⊥
-  unfolding give
-  give-refused argument port x q h₀ =
-      let (t₁, h₁) = need-accepts (sound (m .queue)) _ _ h₀ in
-      let (t₂, h₂) = need-accepts (anyOf (namesPort (kindOf argument) port) (m .queue .groups)) _ _ h₁ in
-      let (t₃, h₃) = need-accepts (inRange argument (m .queue .memoryLength) x) _ _ h₂ in
-      let (t₄, h₄) = need-accepts (waits argument port (m .queue)) _ _ h₃ in
-      false-true (sym (none-waits argument port) ∙ t₄)
-
-  serve-refused : (serial : ℕ) (s : Served) → serve (m .queue) (m .memory) serial ≡ accept s → ⊥
-  unfolding serve
-  serve-refused serial s h₀ =
-      let (t₁, h₁) = need-accepts (sound (m .queue)) _ _ h₀ in
-      let (t₂, h₂) = need-accepts (eqb (length (m .memory)) (m .queue .memoryLength)) _ _ h₁ in
-      let (l, is, h₃) = have-accepts (getElem? (m .queue .loads) (loadPlace (m .queue) serial)) _ _ h₂ in
-      none-there (loadPlace (m .queue) serial) (fresh .no-loads) is
-
-  write-refused : (serial : ℕ) (w : Written) → write (m .queue) (m .memory) serial ≡ accept w → ⊥
-  unfolding write
-  write-refused serial w h₀ =
-      let (t₁, h₁) = need-accepts (sound (m .queue)) _ _ h₀ in
-      let (t₂, h₂) = need-accepts (eqb (length (m .memory)) (m .queue .memoryLength)) _ _ h₁ in
-      let (s, is, h₃) = have-accepts (getElem? (m .queue .stores) (storePlace (m .queue) serial)) _ _ h₂ in
-      none-there (storePlace (m .queue) serial) (fresh .no-stores) is
-
-  take-refused : (port : ℕ) (t : Taken) → takeRule (m .queue) port ≡ accept t → ⊥
-  unfolding takeRule
-  take-refused port t h₀ =
-      let (t₁, h₁) = need-accepts (sound (m .queue)) _ _ h₀ in
-      let (t₂, h₂) = need-accepts (anyOf (namesPort load port) (m .queue .groups)) _ _ h₁ in
-      let (l, is, h₃) = have-accepts (getElem? (m .queue .loads) (firstPlace (untaken port) (m .queue .loads))) _ _ h₂ in
-      none-there (firstPlace (untaken port) (m .queue .loads)) (fresh .no-loads) is
+  group-leaves : (group : ℕ) (g : GroupPairs) → getElem? (m .queue .groups) group ≡ some g → getElem? groups group ≡ some emptyGroup
+      → withGroup (m .queue) g ≡ m .queue
+  group-leaves group g is e =
+      let there : getElem? groups group ≡ some g = rw (fresh .groups-are) at is in
+      let empty : g ≡ emptyGroup = cc in
+      rw empty (none-more (m .queue) (fresh .next-load) (fresh .next-store))
 
   abbrev Empty : ℕ → Type 0
   Empty group = getElem? groups group ≡ some emptyGroup
 
   -- `others` are the accepted activations of the calls after it
-  call-leaves : (c : Call) (others : List ℕ) → Each Empty (pick (eqb (step m c .number) 0) (consOption (activationOf c) others) others)
-      → step m c .machine ≡ m
-  call-leaves (Activate g) others e = go (activate (m .queue) g) refl e
-    where
-      go : (r : Reply Contents) → activate (m .queue) g ≡ r → Each Empty (pick (eqb (moveResponse m r .number) 0) (g ∷ others) others)
-          → moveResponse m r .machine ≡ m
-      go (refuse n) k e = refl
-      go (accept q) k e = ap (λ (x : Contents). machine x (m .memory)) (activate-leaves g q (e .0) k)
-  call-leaves (Give argument port x) others e = go (give argument (m .queue) port x) refl
-    where
-      go : (r : Reply Contents) → give argument (m .queue) port x ≡ r → moveResponse m r .machine ≡ m
-      go (refuse n) k = refl
-      go (accept q) k = absurd (give-refused argument port x q k)
-  call-leaves (Serve c s) others e = go (serve (m .queue) (m .memory) s) refl
-    where
-      go : (r : Reply Served) → serve (m .queue) (m .memory) s ≡ r → serveResponse m r .machine ≡ m
-      go (refuse n) k = refl
-      go (accept v) k = absurd (serve-refused s v k)
-  call-leaves (Write s) others e = go (write (m .queue) (m .memory) s) refl
-    where
-      go : (r : Reply Written) → write (m .queue) (m .memory) s ≡ r → writeResponse m r .machine ≡ m
-      go (refuse n) k = refl
-      go (accept w) k = absurd (write-refused s w k)
-  call-leaves (Take p) others e = go (takeRule (m .queue) p) refl
-    where
-      go : (r : Reply Taken) → takeRule (m .queue) p ≡ r → takeResponse m r .machine ≡ m
-      go (refuse n) k = refl
-      go (accept t) k = absurd (take-refused p t k)
-  call-leaves (Ready kind run) others e = refl
+  call-leaves : {c : Call} {s : Response} → Stepped m c s → (others : List ℕ)
+      → Each Empty (pick (eqb (s .number) 0) (consOption (activationOf c) others) others) → s .machine ≡ m
+  call-leaves (refused n nonzero low) others e = refl
+  call-leaves (activated {group} g is fits) others e = ap (λ (x : Contents). machine x (m .memory)) (group-leaves group g is (e .0))
+  call-leaves (gave {argument} {port} ranged waited) others e = false-true (sym (none-waits argument port) ∙ waited)
+  call-leaves (served {counts} {serial} l at s) others e = absurd (none-there (placeOf (m .queue .loads) serial) (fresh .no-loads) at)
+  call-leaves (wrote {serial} s at w) others e = absurd (none-there (placeOf (m .queue .stores) serial) (fresh .no-stores) at)
+  call-leaves (took {port} l v at has) others e = absurd (none-there (takePlace (m .queue) port) (fresh .no-loads) at)
+  call-leaves (readied n low) others e = refl
 
   rest-empty : (b : Bool) (o : Option ℕ) (others : List ℕ) → Each Empty (pick b (consOption o others) others) → Each Empty others
   rest-empty true none others e = e
@@ -221,7 +165,7 @@ module _ (groups : List GroupPairs) (m : Machine) (fresh : Fresh groups (m .queu
   calls-leave [] e = refl
   calls-leave (c ∷ calls) e =
       let others = gather activationOf (told (answers (step m c .machine) calls)) in
-      let same : step m c .machine ≡ m = call-leaves c others e in
+      let same : step m c .machine ≡ m = call-leaves (stepped m c) others e in
       let rest = rest-empty (eqb (step m c .number) 0) (activationOf c) others e in
       ap (λ (k : Machine). machineAfter k calls) same ∙ calls-leave calls (rw same at rest)
 

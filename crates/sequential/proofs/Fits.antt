@@ -1,44 +1,39 @@
 -- Every port that a queue holds has five bits, and every word that it or the memory holds has 32: every call keeps it so.
-use Prim.Native.Nat.{ℕ, zero, suc, _^_, _<_}
+use Prim.Native.Nat.{ℕ, zero, suc, _^_, _≤_, _<_}
 use native.Mathlib.Omega.{arith}
-use mathlib.Core.Path.{_≡_, refl, ap, _∙_, subst}
+use mathlib.Core.Path.{_≡_, refl, _∙_, subst}
 use mathlib.Core.Bool.{Bool, true, false, _&&_}
-use mathlib.Core.List.{List, [], _∷_}
-use mathlib.Core.Option.{none, some}
+use mathlib.Core.List.{List, [], _∷_, map}
+use mathlib.Core.Option.{some}
 use lib.ListN.{length, getD, set, getElem?}
 use borrow.Author.Tests.{lt-ltb}
-use Rattle.number.specs.Basics.{pick, anyOf, allOf, afterWhile}
+use Rattle.number.specs.Basics.{pick, allOf, afterWhile}
 use Rattle.table.specs.Group.{GroupPairs, blankPair}
 use Rattle.table.specs.Table.{checkTable}
 use Rattle.table.proofs.OrderOffsets.{GroupRight, table-group-right}
-use Rattle.number.specs.Reply.{Reply, refuse, accept, number, passed}
-use Rattle.queue.specs.Contents.{Load, Store, Contents, withLoads, withStores, updateAt, firstPlace, loadPlace, storePlace}
-use Rattle.queue.specs.Sound.{sound}
-use Rattle.queue.specs.Activate.{room, withGroup, activate}
-use Rattle.queue.specs.Arguments.{loadLacksAddress, storeLacksAddress, storeLacksWord, loadWithAddress, storeWithAddress, storeWithWord, namesPort}
-use Rattle.queue.specs.Arguments.{argumentGiven, give}
-use Rattle.queue.specs.Serve.{Served, fromMemory, source, Loaded, loadedFrom, storesBefore, loadWithValue, serve}
-use Rattle.queue.specs.Write.{Written, storeDone, write}
-use Rattle.queue.specs.Retire.{loadFinished, storeFinished, loadAfterRetiring, storeAfterRetiring, retiring, retire}
-use Rattle.queue.specs.Take.{Taken, untaken, loadTaken, takeRule}
-use Rattle.queue.specs.Ready.{ready}
-use Rattle.queue.specs.Internal.{loadAfter, storeAfter}
+use Rattle.number.specs.Reply.{accept, passed}
+use Rattle.queue.specs.Entry.{Entry, withWord, markFinished}
+use Rattle.queue.specs.Contents.{Contents, withEntries, updateAt, placeOf, sideOf, othersBefore}
+use Rattle.queue.specs.Activate.{withGroup}
+use Rattle.queue.specs.Arguments.{kindOf, withArgument}
+use Rattle.queue.specs.Serve.{fromMemory, source, Loaded, loadedFrom}
+use Rattle.queue.specs.Take.{takePlace}
+use Rattle.queue.specs.Retire.{finished, afterRetiring, retiring, retire}
+use Rattle.queue.specs.Internal.{entryAfter}
+use Rattle.queue.specs.declared.Kind.{Kind}
+use Rattle.queue.specs.declared.Kind.the-variants.{Load, Store}
+use Rattle.table.specs.declared.Pair.{Pair}
 use Rattle.number.proofs.Both.{and-left, and-right}
 use Rattle.queue.proofs.Lists.{false-true, and-both, all-join, all-take, all-map, all-weaken, all-middle, getElem?-split}
-use Rattle.number.proofs.ReplyLaws.{need-accepts, have-accepts}
-use Rattle.queue.proofs.Refusals.{number-small, small, activate-small, serve-small, write-small, take-small, ready-small}
-use Rattle.queue.proofs.Refusals.{give-accepts, give-small}
 use Rattle.queue.proofs.ActivateLaws.{with-group-is}
 use Rattle.queue.proofs.SourceLaws.{wordFrom, loaded-word, source-passes}
-use Rattle.queue.proofs.ServeLaws.{Serving, serve-accepts}
-use Rattle.queue.proofs.WriteLaws.{Writing, write-accepts}
-use Rattle.sequential.specs.Calls.{Call, Activate, Give, Serve, Write, Take, Ready}
-use Rattle.sequential.specs.Answers.{Machine, Response, moveResponse, serveResponse, writeResponse, takeResponse, step, machine}
-use Rattle.queue.specs.declared.Kind.the-variants.{Load as load}
+use Rattle.sequential.specs.Calls.{Call}
+use Rattle.sequential.specs.Answers.{Machine, Response, step, machine}
 use Rattle.queue.specs.declared.arguments.Argument.{Argument}
 use Rattle.queue.specs.declared.arguments.Argument.the-variants.{LoadAddress, StoreAddress, StoreData}
 use Rattle.sequential.specs.RunsExist.{bitsFit, wordFits, argumentFits}
-use Rattle.sequential.proofs.Stored.{loadFits, storeFits}
+use Rattle.sequential.proofs.Accepted.{Stepped, refused, activated, gave, served, wrote, took, readied, stepped}
+use Rattle.sequential.proofs.Stored.{entryFits}
 
 -- ---- lists all of whose elements pass
 module _ {A : Type 0} (p : A → Bool) where
@@ -80,10 +75,8 @@ found-place (y ∷ xs) (suc i) h = let (k, e) = found-place xs i h in (omega ari
 
 -- ---- a queue and a memory
 pub record Fits (m : Machine) : Type 0 where
-  pub loads : allOf loadFits (m .queue .loads) ≡ true
-  pub stores : allOf storeFits (m .queue .stores) ≡ true
-  pub nextLoad : m .queue .nextLoad < 2 ^ 32
-  pub nextStore : m .queue .nextStore < 2 ^ 32
+  pub entries : (K : Kind) → allOf entryFits (sideOf K (m .queue) .entries) ≡ true
+  pub next : (K : Kind) → sideOf K (m .queue) .next < 2 ^ 32
   pub memory : allOf (bitsFit 32) (m .memory) ≡ true
 
 -- what a call answers, and what it leaves
@@ -92,169 +85,109 @@ pub record Fitting (s : Response) : Type 0 where
   pub value : wordFits (s .value) ≡ true
   pub left : Fits (s .machine)
 
+-- the word of an entry that fits
+word-of : (e : Entry) → entryFits e ≡ true → wordFits (e .word) ≡ true
+word-of e h = and-right (bitsFit 5 (e .port)) (wordFits (e .word)) h
+
 -- ---- what a served load is given
-source-fits : (memory : List ℕ) (a : ℕ) (ss : List Store) (v : Loaded) → allOf (bitsFit 32) memory ≡ true → allOf storeFits ss ≡ true
+source-fits : (memory : List ℕ) (a : ℕ) (ss : List Entry) (v : Loaded) → allOf (bitsFit 32) memory ≡ true → allOf entryFits ss ≡ true
     → loadedFrom memory a (source a fromMemory ss) ≡ accept v → bitsFit 32 (v .value) ≡ true
 source-fits memory a ss v h k e =
     rw (loaded-word memory a (source a fromMemory ss) v e) at
     (source-passes (λ x. wordFits (wordFrom (getD memory a 0) x)) a refl ss (all-getD (bitsFit 32) memory a 0 h refl)
-    (all-weaken storeFits (λ s. wordFits (s .word)) (λ s t. and-right (bitsFit 5 (s .port)) (wordFits (s .word)) t) ss k))
+    (all-weaken entryFits (λ s. wordFits (s .word)) word-of ss k))
 
 -- ---- a queue with an entry made anew, with a group, with what is finished retired; a memory with a word written
 module _ (q : Contents) (m : List ℕ) (f : Fits (machine q m)) where
-  with-loads : (g : Load → Load) → ((l : Load) → loadFits l ≡ true → loadFits (g l) ≡ true) → (i : ℕ)
-      → Fits (machine (withLoads q (updateAt g i (q .loads))) m)
-  with-loads g keeps i = record {
-    loads = all-update loadFits g keeps i (q .loads) (f .loads);
-    stores = f .stores;
-    nextLoad = f .nextLoad;
-    nextStore = f .nextStore;
+  with-anew : (K : Kind) (g : Entry → Entry) → ((e : Entry) → entryFits e ≡ true → entryFits (g e) ≡ true) → (i : ℕ)
+      → Fits (machine (withEntries K q (updateAt g i (sideOf K q .entries))) m)
+  with-anew Load g keeps i = record {
+    entries = elim [ Load ↦ all-update entryFits g keeps i (q .loads .entries) (f .entries Load) | Store ↦ f .entries Store ];
+    next = elim [ Load ↦ f .next Load | Store ↦ f .next Store ];
     memory = f .memory;
   }
-
-  with-stores : (g : Store → Store) → ((s : Store) → storeFits s ≡ true → storeFits (g s) ≡ true) → (i : ℕ)
-      → Fits (machine (withStores q (updateAt g i (q .stores))) m)
-  with-stores g keeps i = record {
-    loads = f .loads;
-    stores = all-update storeFits g keeps i (q .stores) (f .stores);
-    nextLoad = f .nextLoad;
-    nextStore = f .nextStore;
+  with-anew Store g keeps i = record {
+    entries = elim [ Load ↦ f .entries Load | Store ↦ all-update entryFits g keeps i (q .stores .entries) (f .entries Store) ];
+    next = elim [ Load ↦ f .next Load | Store ↦ f .next Store ];
     memory = f .memory;
   }
 
   with-memory : (a w : ℕ) → bitsFit 32 w ≡ true → Fits (machine q (set m a w))
-  with-memory a w h = record {
-    loads = f .loads;
-    stores = f .stores;
-    nextLoad = f .nextLoad;
-    nextStore = f .nextStore;
-    memory = all-set (bitsFit 32) m a w (f .memory) h;
-  }
+  with-memory a w h = record { entries = f .entries; next = f .next; memory = all-set (bitsFit 32) m a w (f .memory) h }
 
   retire-fits : Fits (machine (retire q) m)
   retire-fits = record {
-    loads =
-        all-map loadFits loadFits (loadAfterRetiring (retiring storeFinished (q .stores))) (λ l. refl) (afterWhile loadFinished (q .loads))
-        ∙ all-afterWhile loadFits loadFinished (q .loads) (f .loads);
-    stores =
-        all-map storeFits storeFits (storeAfterRetiring (retiring loadFinished (q .loads))) (λ s. refl) (afterWhile storeFinished (q .stores))
-        ∙ all-afterWhile storeFits storeFinished (q .stores) (f .stores);
-    nextLoad = f .nextLoad;
-    nextStore = f .nextStore;
+    entries = elim [ Load ↦ left (q .stores .entries) (q .loads .entries) (f .entries Load) | Store ↦ left (q .loads .entries) (q .stores .entries) (f .entries Store) ];
+    next = elim [ Load ↦ f .next Load | Store ↦ f .next Store ];
     memory = f .memory;
   }
+    where
+      left : (others l : List Entry) → allOf entryFits l ≡ true → allOf entryFits (map (afterRetiring (retiring others)) (afterWhile finished l)) ≡ true
+      left others l h =
+          all-map entryFits entryFits (afterRetiring (retiring others)) (λ e. refl) (afterWhile finished l) ∙ all-afterWhile entryFits finished l h
 
   group-fits : (g : GroupPairs) → GroupRight g → Fits (machine (withGroup q g) m)
   group-fits g right =
       subst (λ (c : Contents). Fits (machine c m)) (with-group-is q g right) (record {
-        loads =
-            all-join loadFits (q .loads) _ (f .loads)
-            (all-map loadFits (λ p. bitsFit 5 (p .port) && true) (loadAfter (length (q .stores))) (λ p. refl) (g .loads)
-            ∙ all-by-place (λ p. bitsFit 5 (p .port) && true) blankPair (g .loads)
-            (λ i k. and-both (lt-ltb (getD (g .loads) i blankPair .port) 32 (omega (arith, right .load-port i k))) refl));
-        stores =
-            all-join storeFits (q .stores) _ (f .stores)
-            (all-map storeFits (λ p. bitsFit 5 (p .port) && true) (storeAfter (length (q .loads))) (λ p. refl) (g .stores)
-            ∙ all-by-place (λ p. bitsFit 5 (p .port) && true) blankPair (g .stores)
-            (λ i k. and-both (lt-ltb (getD (g .stores) i blankPair .port) 32 (omega (arith, right .store-port i k))) refl));
-        nextLoad = omega arith;
-        nextStore = omega arith;
+        entries = elim [
+          | Load ↦ all-join entryFits (q .loads .entries) _ (f .entries Load) (new (length (q .stores .entries)) (g .loads) (right .load-port))
+          | Store ↦ all-join entryFits (q .stores .entries) _ (f .entries Store) (new (length (q .loads .entries)) (g .stores) (right .store-port))
+        ];
+        next = elim [ Load ↦ omega arith | Store ↦ omega arith ];
         memory = f .memory;
       })
-
--- ---- a call that is accepted
-module _ (q : Contents) (m : List ℕ) (f : Fits (machine q m)) where
-  activate-fits : checkTable (q .groups) ≡ passed → (group : ℕ) (q′ : Contents) → activate q group ≡ accept q′ → Fits (machine q′ m)
-  unfolding activate
-  activate-fits right group q′ h₀ =
-      let (t₁, h₁) = need-accepts (sound q) _ _ h₀ in
-      let (g, is, h₂) = have-accepts (getElem? (q .groups) group) _ _ h₁ in
-      let (t₃, h₃) = need-accepts (room q g) _ _ h₂ in
-      let (k, here) = found-place (q .groups) group is in
-      let r : GroupRight g = rw here at (table-group-right (q .groups) right group g k) in
-      let result : withGroup q g ≡ q′ = cc in
-      subst (λ (c : Contents). Fits (machine c m)) result (group-fits q m f g r)
-
-  give-fits : (kind : Argument) (port x : ℕ) (q′ : Contents) → bitsFit 32 x ≡ true → give kind q port x ≡ accept q′ → Fits (machine q′ m)
-  give-fits kind port x q′ small h = subst (λ (c : Contents). Fits (machine c m)) (give-accepts kind q port x h .is) (go kind)
     where
-      go : (kind : Argument) → Fits (machine (argumentGiven kind port x q) m)
-      go LoadAddress = with-loads q m f (loadWithAddress x) (λ l h. h) (firstPlace (loadLacksAddress port) (q .loads))
-      go StoreAddress = with-stores q m f (storeWithAddress x) (λ s h. h) (firstPlace (storeLacksAddress port) (q .stores))
-      go StoreData =
-          with-stores q m f (storeWithWord x) (λ s h. and-both (and-left (bitsFit 5 (s .port)) _ h) small) (firstPlace (storeLacksWord port) (q .stores))
-
-  serve-fits : (serial : ℕ) (r : Served) → serve q m serial ≡ accept r → (bitsFit 32 (r .value) ≡ true) × Fits (machine (r .queue) m)
-  serve-fits serial r h = go (serve-accepts q m serial r h)
-    where
-      go : (l : Load) × (getElem? (q .loads) (loadPlace q serial) ≡ some l) × Serving q m (loadPlace q serial) r l
-          → (bitsFit 32 (r .value) ≡ true) × Fits (machine (r .queue) m)
-      go (l, at, s) =
-          let word : bitsFit 32 (s .loaded .value) ≡ true =
-          source-fits m (s .may .address) (storesBefore q l) (s .loaded) (f .memory) (all-take storeFits (l .before) (q .stores) (f .stores)) (s .may .gives) in
-          rw (s .result)
-          (word, with-loads q m f (loadWithValue (s .loaded .value)) (λ x h. and-both (and-left (bitsFit 5 (x .port)) _ h) word) (loadPlace q serial))
-
-  write-fits : (serial : ℕ) (r : Written) → write q m serial ≡ accept r → Fits (machine (r .queue) (r .memory))
-  write-fits serial r h = go (write-accepts q m serial r h)
-    where
-      go : (s : Store) × (getElem? (q .stores) (storePlace q serial) ≡ some s) × Writing q m (storePlace q serial) r s
-          → Fits (machine (r .queue) (r .memory))
-      go (s, at, w) =
-          let after : Contents = withStores q (updateAt storeDone (storePlace q serial) (q .stores)) in
-          let word : wordFits (some (w .put .word)) ≡ true =
-          rw (w .may .worded) at
-          (and-right (bitsFit 5 (s .port)) (wordFits (s .word)) (all-found storeFits (q .stores) (storePlace q serial) at (f .stores))) in
-          rw (w .result)
-          (with-memory (retire after) m (retire-fits after m (with-stores q m f storeDone (λ x h. h) (storePlace q serial)))
-          (w .put .address) (w .put .word) word)
-
-  take-fits : (port : ℕ) (r : Taken) → takeRule q port ≡ accept r → (bitsFit 32 (r .value) ≡ true) × Fits (machine (r .queue) m)
-  unfolding takeRule
-  take-fits port r h₀ =
-      let (t₁, h₁) = need-accepts (sound q) _ _ h₀ in
-      let (t₂, h₂) = need-accepts (anyOf (namesPort load port) (q .groups)) _ _ h₁ in
-      let place : ℕ = firstPlace (untaken port) (q .loads) in
-      let (l, at, h₃) = have-accepts (getElem? (q .loads) place) _ _ h₂ in
-      let (v, t₄, h₄) = have-accepts (l .value) _ _ h₃ in
-      let after : Contents = withLoads q (updateAt loadTaken place (q .loads)) in
-      let result : record { value = v; queue = retire after } ≡ r = cc in
-      let word : wordFits (some v) ≡ true =
-      rw t₄ at (and-right (bitsFit 5 (l .port)) (wordFits (l .value)) (all-found loadFits (q .loads) place at (f .loads))) in
-      subst (λ (x : Taken). (bitsFit 32 (x .value) ≡ true) × Fits (machine (x .queue) m)) result
-      (word, retire-fits after m (with-loads q m f loadTaken (λ x h. h) place))
+      new : (others : ℕ) (ps : List Pair) → ((i : ℕ) → i < length ps → getD ps i blankPair .port ≤ 31)
+          → allOf entryFits (map (entryAfter others) ps) ≡ true
+      new others ps port =
+          all-map entryFits (λ p. bitsFit 5 (p .port) && true) (entryAfter others) (λ p. refl) ps
+          ∙ all-by-place (λ p. bitsFit 5 (p .port) && true) blankPair ps
+          (λ i k. and-both (lt-ltb (getD ps i blankPair .port) 32 (omega (arith, port i k))) refl)
 
 -- ---- a call
 module _ (m : Machine) (f : Fits m) (right : checkTable (m .queue .groups) ≡ passed) where
-  refused-fits : {A : Type 0} (rule : Reply A) (n : ℕ) → small rule ≡ true → rule ≡ refuse n
-      → Fitting (record { number = n; value = none; machine = m })
-  refused-fits {A} rule n p e = record { number = rw (ap (λ (x : Reply A). number x) e) at (number-small rule p); value = refl; left = f }
+  abbrev q : Contents
+  q = m .queue
+
+  argument-fits : (argument : Argument) (x : ℕ) → bitsFit 32 x ≡ true → (e : Entry) → entryFits e ≡ true → entryFits (withArgument argument x e) ≡ true
+  argument-fits LoadAddress x small e h = h
+  argument-fits StoreAddress x small e h = h
+  argument-fits StoreData x small e h = and-both (and-left (bitsFit 5 (e .port)) _ h) small
+
+  fits : {c : Call} {s : Response} → Stepped m c s → argumentFits c ≡ true → Fitting s
+  fits (refused n nonzero low) h = record { number = low; value = refl; left = f }
+  fits (activated {group} g is room) h =
+      let (k, here) = found-place (q .groups) group is in
+      let r : GroupRight g = rw here at (table-group-right (q .groups) right group g k) in
+      record { number = omega arith; value = refl; left = group-fits q (m .memory) f g r }
+  fits (gave {argument} {port} {x} ranged waited) h =
+      record { number = omega arith; value = refl; left = with-anew q (m .memory) f (kindOf argument) (withArgument argument x) (argument-fits argument x h) _ }
+  fits (served {counts} {serial} l at s) h =
+      let word : bitsFit 32 (s .loaded .value) ≡ true =
+      source-fits (m .memory) (s .may .address) (othersBefore (q .stores) l) (s .loaded) (f .memory)
+      (all-take entryFits (l .before) (q .stores .entries) (f .entries Store)) (s .may .gives) in
+      record {
+        number = omega arith;
+        value = word;
+        left = with-anew q (m .memory) f Load (withWord (s .loaded .value)) (λ e h. and-both (and-left (bitsFit 5 (e .port)) _ h) word) (placeOf (q .loads) serial);
+      }
+  fits (wrote {serial} s at w) h =
+      let place : ℕ = placeOf (q .stores) serial in
+      let after : Contents = withEntries Store q (updateAt markFinished place (q .stores .entries)) in
+      let word : wordFits (some (w .put .word)) ≡ true =
+      rw (w .may .worded) at (word-of s (all-found entryFits (q .stores .entries) place at (f .entries Store))) in
+      record {
+        number = omega arith;
+        value = refl;
+        left = with-memory (retire after) (m .memory) (retire-fits after (m .memory) (with-anew q (m .memory) f Store markFinished (λ e h. h) place))
+            (w .put .address) (w .put .word) word;
+      }
+  fits (took {port} l v at has) h =
+      let place : ℕ = takePlace q port in
+      let after : Contents = withEntries Load q (updateAt markFinished place (q .loads .entries)) in
+      let word : wordFits (some v) ≡ true = rw has at (word-of l (all-found entryFits (q .loads .entries) place at (f .entries Load))) in
+      record { number = omega arith; value = word; left = retire-fits after (m .memory) (with-anew q (m .memory) f Load markFinished (λ e h. h) place) }
+  fits (readied n low) h = record { number = low; value = refl; left = f }
 
   pub step-fits : (c : Call) → argumentFits c ≡ true → Fitting (step m c)
-  step-fits (Activate g) h = go (activate (m .queue) g) refl
-    where
-      go : (r : Reply Contents) → activate (m .queue) g ≡ r → Fitting (moveResponse m r)
-      go (refuse n) e = refused-fits (activate (m .queue) g) n (activate-small (m .queue) g) e
-      go (accept q) e = record { number = omega arith; value = refl; left = activate-fits (m .queue) (m .memory) f right g q e }
-  step-fits (Give kind p x) h = go (give kind (m .queue) p x) refl
-    where
-      go : (r : Reply Contents) → give kind (m .queue) p x ≡ r → Fitting (moveResponse m r)
-      go (refuse n) e = refused-fits (give kind (m .queue) p x) n (give-small kind (m .queue) p x) e
-      go (accept q) e = record { number = omega arith; value = refl; left = give-fits (m .queue) (m .memory) f kind p x q h e }
-  step-fits (Serve c s) h = go (serve (m .queue) (m .memory) s) refl
-    where
-      go : (r : Reply Served) → serve (m .queue) (m .memory) s ≡ r → Fitting (serveResponse m r)
-      go (refuse n) e = refused-fits (serve (m .queue) (m .memory) s) n (serve-small (m .queue) (m .memory) s) e
-      go (accept r) e = let (v, l) = serve-fits (m .queue) (m .memory) f s r e in record { number = omega arith; value = v; left = l }
-  step-fits (Write s) h = go (write (m .queue) (m .memory) s) refl
-    where
-      go : (r : Reply Written) → write (m .queue) (m .memory) s ≡ r → Fitting (writeResponse m r)
-      go (refuse n) e = refused-fits (write (m .queue) (m .memory) s) n (write-small (m .queue) (m .memory) s) e
-      go (accept r) e = record { number = omega arith; value = refl; left = write-fits (m .queue) (m .memory) f s r e }
-  step-fits (Take p) h = go (takeRule (m .queue) p) refl
-    where
-      go : (r : Reply Taken) → takeRule (m .queue) p ≡ r → Fitting (takeResponse m r)
-      go (refuse n) e = refused-fits (takeRule (m .queue) p) n (take-small (m .queue) p) e
-      go (accept r) e = let (v, l) = take-fits (m .queue) (m .memory) f p r e in record { number = omega arith; value = v; left = l }
-  step-fits (Ready kind run) h =
-      record { number = number-small (ready kind (m .queue) run) (ready-small kind (m .queue) run); value = refl; left = f }
+  step-fits c h = fits (stepped m c) h

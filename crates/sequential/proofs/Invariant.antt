@@ -8,13 +8,14 @@ use mathlib.Core.List.{List, [], _∷_, _++_, map, map-append, append-nil, appen
 use mathlib.Core.Option.{Option, none, some}
 use lib.Dec.{eqb}
 use lib.ListN.{length, length-append, getElem?}
-use Rattle.number.specs.Basics.{pick, allOf, countWhere}
-use Rattle.table.specs.Group.{GroupPairs}
+use Rattle.number.specs.Basics.{pick, allOf, countWhere, isSome}
+use Rattle.table.specs.Group.{GroupPairs, uncounted}
 use Rattle.table.specs.Table.{checkTable}
 use Rattle.queue.specs.declared.arguments.Argument.{Argument}
 use Rattle.queue.specs.declared.Kind.{Kind}
-use Rattle.number.specs.Basics.{isSome}
-use Rattle.queue.specs.Contents.{Load, Store, Contents}
+use Rattle.queue.specs.declared.Kind.the-variants.{Load, Store}
+use Rattle.queue.specs.Entry.{Entry}
+use Rattle.queue.specs.Contents.{Contents, sideOf}
 use Rattle.queue.specs.Sound.{depthRight, memoryRight, addressRight}
 use Rattle.number.proofs.Both.{and-left, and-right}
 use Rattle.queue.proofs.Lists.{implies}
@@ -22,38 +23,45 @@ use Rattle.sequential.specs.Calls.{Call, Ready}
 use Rattle.sequential.specs.Answers.{Machine, Answered}
 use Rattle.sequential.specs.Plain.{Told, consOption, gather, activationOf, argumentOf, rowsOf, accessesOf, inOrder, accesses}
 use Rattle.sequential.specs.Demand3.{tell, told, takeOf, takenAt, serveOf, writeOf}
-use Rattle.sequential.proofs.Log.{LogEntry, ofLoad, ofStore, loads, stores, ownIn}
+use Rattle.sequential.proofs.Log.{LogEntry, ofLoad, ofStore, accessOf, loads, stores, ownIn}
 use Rattle.sequential.proofs.Window.{Windows}
-use Rattle.sequential.proofs.MemoryInvariant.{MemoriesAgree}
+use Rattle.sequential.proofs.CellLog.{CellsHold}
 use Rattle.sequential.proofs.Rows.{Row, given, valueTaken, AllRows}
-use Rattle.sequential.proofs.PlainRun.{accessOf}
 use Rattle.number.specs.Reply.{accepted}
 
 -- what is true of every entry: what is taken was served, what is served or written has its arguments, addresses are in range
-abbrev pub rightLoad : ℕ → Load → Bool
-rightLoad words l = implies (l .taken) (isSome (l .value)) && (implies (isSome (l .value)) (isSome (l .address)) && addressRight words (l .address))
+abbrev pub rightLoad : ℕ → Entry → Bool
+rightLoad words l = implies (l .finished) (isSome (l .word)) && (implies (isSome (l .word)) (isSome (l .address)) && addressRight words (l .address))
 
-abbrev pub rightStore : ℕ → Store → Bool
-rightStore words s = implies (s .written) (isSome (s .address) && isSome (s .word)) && addressRight words (s .address)
+abbrev pub rightStore : ℕ → Entry → Bool
+rightStore words s = implies (s .finished) (isSome (s .address) && isSome (s .word)) && addressRight words (s .address)
 
-pub taken-served : (words : ℕ) (l : Load) → rightLoad words l ≡ true → implies (l .taken) (isSome (l .value)) ≡ true
-taken-served words l h = and-left (implies (l .taken) (isSome (l .value))) _ h
+pub taken-served : (words : ℕ) (l : Entry) → rightLoad words l ≡ true → implies (l .finished) (isSome (l .word)) ≡ true
+taken-served words l h = and-left (implies (l .finished) (isSome (l .word))) _ h
 
-pub served-addressed : (words : ℕ) (l : Load) → rightLoad words l ≡ true → implies (isSome (l .value)) (isSome (l .address)) ≡ true
-served-addressed words l h = and-left (implies (isSome (l .value)) (isSome (l .address))) _ (and-right (implies (l .taken) (isSome (l .value))) _ h)
+pub served-addressed : (words : ℕ) (l : Entry) → rightLoad words l ≡ true → implies (isSome (l .word)) (isSome (l .address)) ≡ true
+served-addressed words l h = and-left (implies (isSome (l .word)) (isSome (l .address))) _ (and-right (implies (l .finished) (isSome (l .word))) _ h)
 
-pub load-in-range : (words : ℕ) (l : Load) → rightLoad words l ≡ true → addressRight words (l .address) ≡ true
-load-in-range words l h = and-right (implies (isSome (l .value)) (isSome (l .address))) _ (and-right (implies (l .taken) (isSome (l .value))) _ h)
+pub load-in-range : (words : ℕ) (l : Entry) → rightLoad words l ≡ true → addressRight words (l .address) ≡ true
+load-in-range words l h = and-right (implies (isSome (l .word)) (isSome (l .address))) _ (and-right (implies (l .finished) (isSome (l .word))) _ h)
 
-pub written-full : (words : ℕ) (s : Store) → rightStore words s ≡ true → implies (s .written) (isSome (s .address) && isSome (s .word)) ≡ true
-written-full words s h = and-left (implies (s .written) (isSome (s .address) && isSome (s .word))) _ h
+pub written-full : (words : ℕ) (s : Entry) → rightStore words s ≡ true → implies (s .finished) (isSome (s .address) && isSome (s .word)) ≡ true
+written-full words s h = and-left (implies (s .finished) (isSome (s .address) && isSome (s .word))) _ h
 
-pub store-in-range : (words : ℕ) (s : Store) → rightStore words s ≡ true → addressRight words (s .address) ≡ true
-store-in-range words s h = and-right (implies (s .written) (isSome (s .address) && isSome (s .word))) _ h
+pub store-in-range : (words : ℕ) (s : Entry) → rightStore words s ≡ true → addressRight words (s .address) ≡ true
+store-in-range words s h = and-right (implies (s .finished) (isSome (s .address) && isSome (s .word))) _ h
+
+abbrev pub rightEntry : Kind → ℕ → Entry → Bool
+rightEntry Load words e = rightLoad words e
+rightEntry Store words e = rightStore words e
+
+pub in-range : (K : Kind) (words : ℕ) (e : Entry) → rightEntry K words e ≡ true → addressRight words (e .address) ≡ true
+in-range Load words e h = load-in-range words e h
+in-range Store words e h = store-in-range words e h
 
 -- what is not served is not taken
-pub untaken-unserved : (words : ℕ) (l : Load) → rightLoad words l ≡ true → l .value ≡ none → l .taken ≡ false
-untaken-unserved words l h e = go (l .taken) (rw e at (taken-served words l h))
+pub untaken-unserved : (words : ℕ) (l : Entry) → rightLoad words l ≡ true → l .word ≡ none → l .finished ≡ false
+untaken-unserved words l h e = go (l .finished) (rw e at (taken-served words l h))
   where
     go : (taken : Bool) → implies taken false ≡ true → taken ≡ false
     go false t = refl
@@ -68,27 +76,26 @@ pub record Limits (groups : List GroupPairs) (words loadDepth storeDepth : ℕ) 
 
 -- a queue and a memory that the log led to from the opening memory
 pub record Holds (q : Contents) (m memory : List ℕ) (log : List LogEntry) : Type 0 where
-  pub limits : Limits (q .groups) (q .memoryLength) (q .loadDepth) (q .storeDepth)
-  pub roomLoads : length (q .loads) ≤ q .loadDepth
-  pub roomStores : length (q .stores) ≤ q .storeDepth
+  pub limits : Limits (q .groups) (q .memoryLength) (q .loads .depth) (q .stores .depth)
+  pub room : (K : Kind) → length (sideOf K q .entries) ≤ sideOf K q .depth
   pub long : length m ≡ q .memoryLength
-  pub windows : Windows loads stores log (q .loads) (q .stores)
-  pub rightLoads : allOf (rightLoad (q .memoryLength)) (ownIn loads log) ≡ true
-  pub rightStores : allOf (rightStore (q .memoryLength)) (ownIn stores log) ≡ true
-  pub agree : MemoriesAgree m memory log
+  pub opened : length memory ≡ q .memoryLength
+  pub windows : Windows loads stores log (q .loads .entries) (q .stores .entries)
+  pub right : (K : Kind) → allOf (rightEntry K (q .memoryLength)) (ownIn K log) ≡ true
+  pub cells : CellsHold m memory log
 
 -- served loads, written stores
 abbrev pub isServed : LogEntry → Bool
-isServed (ofLoad l) = isSome (l .value)
+isServed (ofLoad l) = isSome (l .word)
 isServed (ofStore s) = false
 
 abbrev pub isWritten : LogEntry → Bool
 isWritten (ofLoad l) = false
-isWritten (ofStore s) = s .written
+isWritten (ofStore s) = s .finished
 
 -- the answers so far, counted over the log
 pub record LogSeen (groups : List GroupPairs) (answered : List Answered) (log : List LogEntry) : Type 0 where
-  pub shape : map accessOf log ≡ accesses groups (told answered)
+  pub shape : map accessOf log ≡ map uncounted (accesses groups (told answered))
   pub rows : AllRows log (rowsOf (told answered))
   pub takes : (port : ℕ) → Row (valueTaken port) log (takenAt port answered)
   pub serves : countWhere isServed log ≡ length (gather serveOf (told answered))
@@ -135,15 +142,16 @@ module _ (groups : List GroupPairs) (answered : List Answered) (a : Answered) wh
 
   -- the log as it is after one more answer, which adds what it adds
   pub seen-more : (log : List LogEntry)
-      → map accessOf log ≡ accesses groups (told answered) ++ accesses groups (tell a ∷ [])
+      → map accessOf log ≡ map uncounted (accesses groups (told answered)) ++ map uncounted (accesses groups (tell a ∷ []))
       → ((kind : Argument) (port : ℕ) → Row (given kind port) log (rowsOf (told answered) kind port ++ rowsOf (tell a ∷ []) kind port))
       → ((port : ℕ) → Row (valueTaken port) log (takenAt port answered ++ takenAt port (a ∷ [])))
       → countWhere isServed log ≡ length (gather serveOf (told answered)) + length (gather serveOf (tell a ∷ []))
       → countWhere isWritten log ≡ length (gather writeOf (told answered)) + length (gather writeOf (tell a ∷ []))
       → LogSeen groups (answered ++ a ∷ []) log
   seen-more log shape rows takes serves writes = record {
-    shape = shape ∙ sym (ap (inOrder groups) (gather-told activationOf)
-        ∙ inOrder-append groups (gather activationOf (told answered)) (gather activationOf (tell a ∷ [])));
+    shape = shape ∙ sym (ap (map uncounted) (ap (inOrder groups) (gather-told activationOf)
+        ∙ inOrder-append groups (gather activationOf (told answered)) (gather activationOf (tell a ∷ [])))
+        ∙ map-append uncounted (accesses groups (told answered)) (accesses groups (tell a ∷ [])));
     rows = λ kind port. rw (gather-told (argumentOf kind port)) (rows kind port);
     takes = λ port. rw (takenAt-append port answered (a ∷ [])) (takes port);
     serves = serves ∙ sym (ap length (gather-told serveOf) ∙ length-append (gather serveOf (told answered)) (gather serveOf (tell a ∷ [])));
@@ -157,7 +165,7 @@ module _ (groups : List GroupPairs) (answered : List Answered) (a : Answered) wh
       → LogSeen groups (answered ++ a ∷ []) log
   silent log s no-group no-row no-take no-serve no-write =
       seen-more log
-      (rw (no-group, append-nil (accesses groups (told answered))) (s .shape))
+      (rw (no-group, append-nil (map uncounted (accesses groups (told answered)))) (s .shape))
       (λ kind port. rw (no-row kind port, append-nil (rowsOf (told answered) kind port)) (s .rows kind port))
       (λ port. rw (no-take port, append-nil (takenAt port answered)) (s .takes port))
       (rw (no-serve, add-zero (length (gather serveOf (told answered)))) (s .serves))

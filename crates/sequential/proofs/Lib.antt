@@ -1,12 +1,23 @@
 -- demand 3, from the ground up
 pub mod Log
 pub mod Window
-pub mod MemoryInvariant
+-- one cell: the invariant, and that every move keeps it
+pub mod EachLaws
+pub mod Cells
+pub mod CellInvariant
+pub mod CellMemory
+pub mod CellMoves
+pub mod AtOnce
+-- every cell of the log
+pub mod Lanes
+pub mod Views
+pub mod CellLog
 pub mod Rows
-pub mod PlainRun
 pub mod Invariant
 pub mod Anew
+pub mod PlainRun
 pub mod Slots
+pub mod Accepted
 pub mod Steps
 pub mod Run
 pub mod Serials
@@ -22,3 +33,5 @@ pub mod RunsExist
 pub mod RunsOnParts
 -- empty groups
 pub mod EmptyGroups
+-- where the plain run's words come from
+pub mod Sources

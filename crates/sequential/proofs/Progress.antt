@@ -10,45 +10,48 @@ use mathlib.Core.Option.{Option, none, some}
 use lib.Dec.{leb, eqb}
 use lib.ListN.{length, take, getElem?}
 use borrow.Author.Tests.{eq-eqb, leb-true}
-use Rattle.number.specs.Basics.{allOf, countWhere}
-use Rattle.table.specs.Group.{GroupPairs}
+use Rattle.number.specs.Basics.{allOf, countWhere, isSome}
+use Rattle.table.specs.Group.{GroupPairs, isLoad, isStore}
+use Rattle.queue.specs.Entry.{Entry, withBefore, served, written}
+use Rattle.queue.specs.Contents.{Contents, after, oldest, placeOf}
+use Rattle.queue.specs.Touch.{isApart, touch}
+use Rattle.queue.specs.Sound.{sound}
+use Rattle.queue.specs.Serve.{fromMemory, source, serve}
+use Rattle.queue.specs.Write.{noConflict, write}
+use Rattle.queue.specs.Retire.{finished}
+use Rattle.queue.specs.declared.Kind.{Kind}
 use Rattle.queue.specs.declared.arguments.Argument.{Argument}
 use Rattle.queue.specs.declared.arguments.Argument.the-variants.{LoadAddress, StoreAddress, StoreData}
-use Rattle.number.specs.Basics.{isSome}
 use Rattle.number.specs.Reply.{number}
-use Rattle.queue.specs.Contents.{Load, Store, Contents, after, oldest, loadPlace, storePlace}
-use Rattle.queue.specs.Sound.{sound}
-use Rattle.queue.specs.Serve.{hasAddress, fromMemory, source, serve}
-use Rattle.queue.specs.Write.{addressApart, noLoadConflict, noStoreConflict, write}
-use Rattle.queue.specs.Retire.{storeFinished}
 use Rattle.number.proofs.Both.{and-left, and-right}
 use Rattle.queue.proofs.Lists.{false-true, is-none, and-both, or-left, all-left, all-middle, getElem?-short}
-use Rattle.queue.proofs.SourceLaws.{source-memory}
+use Rattle.queue.proofs.SourceLaws.{source-memory, hasAddress}
 use Rattle.queue.proofs.Serials.{place-of-serial, oldest-small, after-small}
 use Rattle.sequential.specs.Answers.{Machine, Answered}
 use Rattle.sequential.specs.Plain.{rowsOf, accesses, consOption}
-use Rattle.sequential.specs.Demand3.{told, uses, isLoad, isStore, someUnserved, someUnwritten, allArguments, wouldMove}
-use Rattle.sequential.proofs.Log.{LogEntry, ofLoad, ofStore, LogKind, loads, stores, ownIn, loads-stores, stores-loads, ownIn-append}
+use Rattle.sequential.specs.Demand3.{told, uses, someUnserved, someUnwritten, allArguments, wouldMove}
+use Rattle.sequential.proofs.Log.{LogEntry, ofLoad, ofStore, accessOf, loads, stores, ownIn, loads-stores, stores-loads, ownIn-append, put}
+use Rattle.sequential.proofs.Log.{own, put-own}
 use Rattle.sequential.proofs.Window.{Located, turned, unfinished-queued, before-queued}
+use Rattle.sequential.proofs.PlainRun.{seen-count, loads-uncounted, stores-uncounted, uses-uncounted}
 use Rattle.sequential.proofs.Rows.{given, cellFor, lacking, row-full, eqb-self}
-use Rattle.sequential.proofs.PlainRun.{accessOf}
 use Rattle.sequential.proofs.Invariant.{Holds, Invariant, rightLoad, untaken-unserved, isServed, isWritten}
 use Rattle.sequential.proofs.ReachedSound.{holds-sound}
 
 -- ---- what is accepted
 
-serve-accepted : (q : Contents) (m : List ℕ) (serial : ℕ) (l : Load) (a : ℕ) → sound q ≡ true → length m ≡ q .memoryLength
-    → getElem? (q .loads) (loadPlace q serial) ≡ some l
-    → l .value ≡ none → l .address ≡ some a → source a fromMemory (take (l .before) (q .stores)) ≡ fromMemory
+serve-accepted : (q : Contents) (m : List ℕ) (serial : ℕ) (l : Entry) (a : ℕ) → sound q ≡ true → length m ≡ q .memoryLength
+    → getElem? (q .loads .entries) (placeOf (q .loads) serial) ≡ some l
+    → l .word ≡ none → l .address ≡ some a → source a fromMemory (take (l .before) (q .stores .entries)) ≡ fromMemory
     → number (serve q m serial) ≡ 0
 unfolding serve
 serve-accepted q m serial l a right long at unserved address sourced =
     rw (right, eq-eqb (length m) (q .memoryLength) long, at, unserved, address, sourced)
 
-write-accepted : (q : Contents) (m : List ℕ) (serial : ℕ) (s : Store) (a w : ℕ) → sound q ≡ true → length m ≡ q .memoryLength
-    → getElem? (q .stores) (storePlace q serial) ≡ some s
-    → s .written ≡ false → s .address ≡ some a → s .word ≡ some w → allOf (noLoadConflict a) (take (s .before) (q .loads)) ≡ true
-    → allOf (noStoreConflict a) (take (storePlace q serial) (q .stores)) ≡ true → number (write q m serial) ≡ 0
+write-accepted : (q : Contents) (m : List ℕ) (serial : ℕ) (s : Entry) (a w : ℕ) → sound q ≡ true → length m ≡ q .memoryLength
+    → getElem? (q .stores .entries) (placeOf (q .stores) serial) ≡ some s
+    → s .finished ≡ false → s .address ≡ some a → s .word ≡ some w → allOf (noConflict served a) (take (s .before) (q .loads .entries)) ≡ true
+    → allOf (noConflict written a) (take (placeOf (q .stores) serial) (q .stores .entries)) ≡ true → number (write q m serial) ≡ 0
 unfolding write
 write-accepted q m serial s a w right long at unwritten address word loadsApart storesApart =
     rw (right, eq-eqb (length m) (q .memoryLength) long, at, unwritten, address, word, loadsApart, storesApart)
@@ -60,19 +63,19 @@ complete (ofLoad l) = isSome (l .address)
 complete (ofStore s) = isSome (s .address) && isSome (s .word)
 
 abbrev isDone : LogEntry → Bool
-isDone (ofLoad l) = isSome (l .value)
-isDone (ofStore s) = s .written
+isDone (ofLoad l) = isSome (l .word)
+isDone (ofStore s) = s .finished
 
 -- a test of entries, read for one kind
-all-own : {A : Type 0} (K : LogKind A) (p : LogEntry → Bool) (r : A → Bool) → ((a : A) → p (K .put a) ≡ true → r a ≡ true)
+all-own : (K : Kind) (p : LogEntry → Bool) (r : Entry → Bool) → ((a : Entry) → p (put K a) ≡ true → r a ≡ true)
     → (es : List LogEntry)
     → allOf p es ≡ true → allOf r (ownIn K es) ≡ true
 all-own K p r w [] h = refl
-all-own {A} K p r w (e ∷ es) h = go (K .own e) refl (all-own K p r w es (and-right (p e) (allOf p es) h))
+all-own K p r w (e ∷ es) h = go (own K e) refl (all-own K p r w es (and-right (p e) (allOf p es) h))
   where
-    go : (o : Option A) → K .own e ≡ o → allOf r (ownIn K es) ≡ true → allOf r (consOption o (ownIn K es)) ≡ true
+    go : (o : Option Entry) → own K e ≡ o → allOf r (ownIn K es) ≡ true → allOf r (consOption o (ownIn K es)) ≡ true
     go none own k = k
-    go (some a) own k = let is : e ≡ K .put a = K .put-own e a own in and-both (w a (rw is at (and-left (p e) (allOf p es) h))) k
+    go (some a) own k = let is : e ≡ put K a = put-own K e a own in and-both (w a (rw is at (and-left (p e) (allOf p es) h))) k
 
 filled-some : (port : ℕ) (o : Option ℕ) → not (lacking (cellFor (eqb port port) o)) ≡ true → isSome o ≡ true
 filled-some port o h = go o (rw (eqb-self port) at h)
@@ -131,13 +134,13 @@ first-undone (e ∷ es) = go (isDone e) refl (first-undone es)
 done-served : (es : List LogEntry) → allOf isDone es ≡ true → countWhere isServed es ≡ countWhere isLoad (map accessOf es)
 done-served [] h = refl
 done-served (ofLoad l ∷ es) h =
-    rw (and-left (isSome (l .value)) (allOf isDone es) h) (ap suc (done-served es (and-right (isSome (l .value)) (allOf isDone es) h)))
-done-served (ofStore s ∷ es) h = done-served es (and-right (s .written) (allOf isDone es) h)
+    rw (and-left (isSome (l .word)) (allOf isDone es) h) (ap suc (done-served es (and-right (isSome (l .word)) (allOf isDone es) h)))
+done-served (ofStore s ∷ es) h = done-served es (and-right (s .finished) (allOf isDone es) h)
 
 done-written : (es : List LogEntry) → allOf isDone es ≡ true → countWhere isWritten es ≡ countWhere isStore (map accessOf es)
 done-written [] h = refl
-done-written (ofLoad l ∷ es) h = done-written es (and-right (isSome (l .value)) (allOf isDone es) h)
-done-written (ofStore s ∷ es) h = rw (and-left (s .written) (allOf isDone es) h) (ap suc (done-written es (and-right (s .written) (allOf isDone es) h)))
+done-written (ofLoad l ∷ es) h = done-written es (and-right (isSome (l .word)) (allOf isDone es) h)
+done-written (ofStore s ∷ es) h = rw (and-left (s .finished) (allOf isDone es) h) (ap suc (done-written es (and-right (s .finished) (allOf isDone es) h)))
 
 is-some : (o : Option ℕ) → isSome o ≡ true → (x : ℕ) × (o ≡ some x)
 is-some none h = false-true h
@@ -150,52 +153,52 @@ module _ (q : Contents) (m memory : List ℕ) (log : List LogEntry) (h : Holds q
   right = holds-sound q m memory log h
 
   -- a place of the queue is far below the number of serials
-  load-depth : q .loadDepth ≤ 64
-  load-depth = leb-true (q .loadDepth) 64 (and-right (leb 1 (q .loadDepth)) _ (h .limits .loadDepthRight))
+  load-depth : q .loads .depth ≤ 64
+  load-depth = leb-true (q .loads .depth) 64 (and-right (leb 1 (q .loads .depth)) _ (h .limits .loadDepthRight))
 
-  store-depth : q .storeDepth ≤ 64
-  store-depth = leb-true (q .storeDepth) 64 (and-right (leb 1 (q .storeDepth)) _ (h .limits .storeDepthRight))
+  store-depth : q .stores .depth ≤ 64
+  store-depth = leb-true (q .stores .depth) 64 (and-right (leb 1 (q .stores .depth)) _ (h .limits .storeDepthRight))
 
-  load-moves : (pre : List LogEntry) (l : Load) (post : List LogEntry) → log ≡ pre ++ ofLoad l ∷ post → allOf isDone pre ≡ true
-      → isSome (l .value) ≡ false
+  load-moves : (pre : List LogEntry) (l : Entry) (post : List LogEntry) → log ≡ pre ++ ofLoad l ∷ post → allOf isDone pre ≡ true
+      → isSome (l .word) ≡ false
       → wouldMove (record { queue = q; memory = m })
   load-moves pre l post log-is before unserved =
       go (unfinished-queued loads stores loads-stores (h .windows) pre l post log-is untaken)
       (is-some (l .address) (all-middle complete pre post (ofLoad l) (rw log-is at filled)))
     where
-      value : l .value ≡ none
-      value = is-none (l .value) (rw unserved)
+      value : l .word ≡ none
+      value = is-none (l .word) (rw unserved)
 
-      untaken : l .taken ≡ false
+      untaken : l .finished ≡ false
       untaken =
           untaken-unserved (q .memoryLength) l
           (all-middle (rightLoad (q .memoryLength)) (ownIn loads pre) (ownIn loads post) l
-          (rw (log-is, ownIn-append loads pre (ofLoad l ∷ post)) at (h .rightLoads))) value
+          (rw (log-is, ownIn-append loads pre (ofLoad l ∷ post)) at (h .right loads))) value
 
-      storesWritten : allOf storeFinished (ownIn stores pre) ≡ true
-      storesWritten = all-own stores isDone storeFinished (λ s t. t) pre before
+      storesWritten : allOf finished (ownIn stores pre) ≡ true
+      storesWritten = all-own stores isDone finished (λ s t. t) pre before
 
       storesAddressed : allOf hasAddress (ownIn stores pre) ≡ true
       storesAddressed = all-own stores complete hasAddress (λ s t. and-left (isSome (s .address)) _ t) pre
           (all-left complete pre (ofLoad l ∷ post) (rw log-is at filled))
 
-      go : (i : ℕ) × Located loads stores log (q .loads) (q .stores) i pre l post → (a : ℕ) × (l .address ≡ some a)
+      go : (i : ℕ) × Located loads stores log (q .loads .entries) (q .stores .entries) i pre l post → (a : ℕ) × (l .address ≡ some a)
           → wouldMove (record { queue = q; memory = m })
       go (i, place) (a, address) =
-          let low : i < 2 ^ 32 = (let short : i < length (q .loads) = getElem?-short (q .loads) i (place .at) in omega (arith, h .roomLoads, load-depth)) in
-          let serial : ℕ = after (oldest (q .nextLoad) (length (q .loads))) i in
-          let is : loadPlace q serial ≡ i =
-          place-of-serial (oldest (q .nextLoad) (length (q .loads))) i (oldest-small (q .nextLoad) (length (q .loads))) low in (
+          let low : i < 2 ^ 32 = (let short : i < length (q .loads .entries) = getElem?-short (q .loads .entries) i (place .at) in omega (arith, h .room loads, load-depth)) in
+          let serial : ℕ = after (oldest (q .loads .next) (length (q .loads .entries))) i in
+          let is : placeOf (q .loads) serial ≡ i =
+          place-of-serial (oldest (q .loads .next) (length (q .loads .entries))) i (oldest-small (q .loads .next) (length (q .loads .entries))) low in (
             serial,
-            after-small (oldest (q .nextLoad) (length (q .loads))) i,
+            after-small (oldest (q .loads .next) (length (q .loads .entries))) i,
             inl
-                (serve-accepted q m serial (loads .remember (place .number) l) a right (h .long) (ap (getElem? (q .loads)) is ∙ place .at) value address
-                (source-memory a (take (place .number) (q .stores)) (before-queued (place .before′) storeFinished (λ n s. refl) storesWritten)
+                (serve-accepted q m serial (withBefore (place .number) l) a right (h .long) (ap (getElem? (q .loads .entries)) is ∙ place .at) value address
+                (source-memory a (take (place .number) (q .stores .entries)) (before-queued (place .before′) finished (λ n s. refl) storesWritten)
                 (before-queued (place .before′) hasAddress (λ n s. refl) storesAddressed))),
           )
 
-  store-moves : (pre : List LogEntry) (s : Store) (post : List LogEntry) → log ≡ pre ++ ofStore s ∷ post → allOf isDone pre ≡ true
-      → s .written ≡ false
+  store-moves : (pre : List LogEntry) (s : Entry) (post : List LogEntry) → log ≡ pre ++ ofStore s ∷ post → allOf isDone pre ≡ true
+      → s .finished ≡ false
       → wouldMove (record { queue = q; memory = m })
   store-moves pre s post log-is before unwritten =
       go (unfinished-queued stores loads stores-loads (turned (h .windows)) pre s post log-is unwritten)
@@ -205,27 +208,27 @@ module _ (q : Contents) (m memory : List ℕ) (log : List LogEntry) (h : Holds q
       filled-it : isSome (s .address) && isSome (s .word) ≡ true
       filled-it = all-middle complete pre post (ofStore s) (rw log-is at filled)
 
-      loadsApart : (a : ℕ) → allOf (noLoadConflict a) (ownIn loads pre) ≡ true
-      loadsApart a = all-own loads isDone (noLoadConflict a) (λ l t. or-left (isSome (l .value)) (addressApart a (l .address)) t) pre before
+      loadsApart : (a : ℕ) → allOf (noConflict served a) (ownIn loads pre) ≡ true
+      loadsApart a = all-own loads isDone (noConflict served a) (λ l t. or-left (isSome (l .word)) (isApart (touch a (l .address))) t) pre before
 
-      storesApart : (a : ℕ) → allOf (noStoreConflict a) (ownIn stores pre) ≡ true
-      storesApart a = all-own stores isDone (noStoreConflict a) (λ r t. or-left (r .written) (addressApart a (r .address)) t) pre before
+      storesApart : (a : ℕ) → allOf (noConflict written a) (ownIn stores pre) ≡ true
+      storesApart a = all-own stores isDone (noConflict written a) (λ r t. or-left (r .finished) (isApart (touch a (r .address))) t) pre before
 
-      go : (i : ℕ) × Located stores loads log (q .stores) (q .loads) i pre s post → (a : ℕ) × (s .address ≡ some a)
+      go : (i : ℕ) × Located stores loads log (q .stores .entries) (q .loads .entries) i pre s post → (a : ℕ) × (s .address ≡ some a)
           → (w : ℕ) × (s .word ≡ some w)
           → wouldMove (record { queue = q; memory = m })
       go (i, place) (a, address) (w, word) =
-          let low : i < 2 ^ 32 = (let short : i < length (q .stores) = getElem?-short (q .stores) i (place .at) in omega (arith, h .roomStores, store-depth)) in
-          let serial : ℕ = after (oldest (q .nextStore) (length (q .stores))) i in
-          let is : storePlace q serial ≡ i = place-of-serial (oldest (q .nextStore) (length (q .stores))) i
-          (oldest-small (q .nextStore) (length (q .stores))) low in (
+          let low : i < 2 ^ 32 = (let short : i < length (q .stores .entries) = getElem?-short (q .stores .entries) i (place .at) in omega (arith, h .room stores, store-depth)) in
+          let serial : ℕ = after (oldest (q .stores .next) (length (q .stores .entries))) i in
+          let is : placeOf (q .stores) serial ≡ i = place-of-serial (oldest (q .stores .next) (length (q .stores .entries))) i
+          (oldest-small (q .stores .next) (length (q .stores .entries))) low in (
             serial,
-            after-small (oldest (q .nextStore) (length (q .stores))) i,
+            after-small (oldest (q .stores .next) (length (q .stores .entries))) i,
             inr
-                (write-accepted q m serial (stores .remember (place .number) s) a w right (h .long) (ap (getElem? (q .stores)) is ∙ place .at)
+                (write-accepted q m serial (withBefore (place .number) s) a w right (h .long) (ap (getElem? (q .stores .entries)) is ∙ place .at)
                 unwritten address word
-                (before-queued (place .before′) (noLoadConflict a) (λ n l. refl) (loadsApart a))
-                (rw is (before-queued (place .before) (noStoreConflict a) (λ n r. refl) (storesApart a)))),
+                (before-queued (place .before′) (noConflict served a) (λ n l. refl) (loadsApart a))
+                (rw is (before-queued (place .before) (noConflict written a) (λ n r. refl) (storesApart a)))),
           )
 
   -- some serve or write would be accepted, unless all is done
@@ -252,15 +255,15 @@ state-moves groups memory answered m st undone full = go (undone-moves (m .queue
     filled : allOf complete (st .log) ≡ true
     filled =
         all-complete (st .log) (λ kind port. row-full (given kind port) (st .log) (rowsOf (told answered) kind port) (st .seen .rows kind port)
-        (full kind port ∙ sym (ap (countWhere (uses kind port)) (st .seen .shape)) ∙ sym (count-uses kind port (st .log))))
+        (full kind port ∙ sym (seen-count (st .seen) (uses kind port) (uses-uncounted kind port)) ∙ sym (count-uses kind port (st .log))))
 
     go : (allOf isDone (st .log) ≡ true) ⊎ wouldMove m → (someUnserved groups (told answered) ⊎ someUnwritten groups (told answered)) → wouldMove m
     go (inr moves) u = moves
     go (inl h) (inl fewer) =
         let e : countWhere isServed (st .log) ≡ countWhere isLoad (accesses groups (told answered)) = done-served (st .log) h
-        ∙ ap (countWhere isLoad) (st .seen .shape) in
+        ∙ seen-count (st .seen) isLoad loads-uncounted in
         absurd (omega (arith, st .seen .serves))
     go (inl h) (inr fewer) =
         let e : countWhere isWritten (st .log) ≡ countWhere isStore (accesses groups (told answered)) = done-written (st .log) h
-        ∙ ap (countWhere isStore) (st .seen .shape) in
+        ∙ seen-count (st .seen) isStore stores-uncounted in
         absurd (omega (arith, st .seen .writes))

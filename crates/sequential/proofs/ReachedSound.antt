@@ -7,48 +7,41 @@ use lib.Dec.{leb}
 use lib.ListN.{length}
 use borrow.Author.Tests.{le-leb}
 use Rattle.number.specs.Basics.{allOf}
-use Rattle.queue.specs.Contents.{Contents}
-use Rattle.queue.specs.Sound.{addressRight, loadRight, storeRight, sound}
+use Rattle.queue.specs.declared.Kind.{Kind}
+use Rattle.queue.specs.declared.Kind.the-variants.{Load, Store}
+use Rattle.queue.specs.Contents.{Contents, sideOf}
+use Rattle.queue.specs.Sound.{depthRight, addressRight, entryRight, sound}
+use Rattle.queue.proofs.ContentsLaws.{opposite}
+use Rattle.queue.proofs.SoundLaws.{SideSound, parts-sound}
 use Rattle.queue.proofs.Lists.{and-both, all-weaken, all-weaken₂}
 use Rattle.sequential.specs.Answers.{machineAfter}
 use Rattle.sequential.specs.Demand3.{ReachedSound}
-use Rattle.sequential.proofs.Log.{LogEntry, loads, stores, ownIn, loads-stores, stores-loads}
+use Rattle.sequential.proofs.Log.{LogEntry, opposed, ownIn}
 use Rattle.sequential.proofs.Window.{window-before, before-queued, remembered-held}
-use Rattle.sequential.proofs.Invariant.{Holds, Invariant, rightLoad, rightStore, load-in-range, store-in-range}
+use Rattle.sequential.proofs.Invariant.{Holds, Invariant, rightEntry, in-range}
+use Rattle.sequential.proofs.Anew.{windows-of}
 use Rattle.sequential.proofs.Run.{reached}
 
-pub holds-sound : (q : Contents) (m memory : List ℕ) (log : List LogEntry) → Holds q m memory log → sound q ≡ true
-unfolding sound
-holds-sound q m memory log h =
-    and-both (and-both (and-both (and-both (and-both (and-both (and-both
-    (h .limits .loadDepthRight)
-    (h .limits .storeDepthRight))
-    (h .limits .wordsRight))
-    (le-leb (length (q .loads)) (q .loadDepth) (h .roomLoads)))
-    (le-leb (length (q .stores)) (q .storeDepth) (h .roomStores)))
-    loadsRight)
-    storesRight)
-    (h .limits .tableRight)
-  where
-    words : ℕ
-    words = q .memoryLength
+module _ (q : Contents) (m memory : List ℕ) (log : List LogEntry) (h : Holds q m memory log) where
+  entries-right : (K : Kind) → allOf (entryRight (q .memoryLength) (length (sideOf (opposite K) q .entries))) (sideOf K q .entries) ≡ true
+  entries-right K =
+      let w = windows-of h K in
+      all-weaken₂ (λ e. leb (e .before) (length (sideOf (opposite K) q .entries))) (λ e. addressRight (q .memoryLength) (e .address))
+      (entryRight (q .memoryLength) (length (sideOf (opposite K) q .entries))) (λ e s t. and-both s t) (sideOf K q .entries)
+      (remembered-held K (opposite K) (opposed K) log (w .ours) (w .theirs))
+      (before-queued (window-before K (opposite K) (opposed K) (w .ours)) (λ e. addressRight (q .memoryLength) (e .address)) (λ n e. refl)
+      (all-weaken (rightEntry K (q .memoryLength)) (λ e. addressRight (q .memoryLength) (e .address)) (in-range K (q .memoryLength)) (ownIn K log) (h .right K)))
 
-    loadsRight : allOf (loadRight words (length (q .stores))) (q .loads) ≡ true
-    loadsRight =
-        all-weaken₂ (λ l. leb (l .before) (length (q .stores))) (λ l. addressRight words (l .address)) (loadRight words (length (q .stores)))
-        (λ l s t. and-both s t) (q .loads)
-        (remembered-held loads stores loads-stores log (h .windows .ours) (h .windows .theirs))
-        (before-queued (window-before loads stores loads-stores (h .windows .ours)) (λ l. addressRight words (l .address)) (λ n l. refl)
-        (all-weaken (rightLoad words) (λ l. addressRight words (l .address))
-        (load-in-range words) (ownIn loads log) (h .rightLoads)))
+  side-sound : (K : Kind) → depthRight (sideOf K q .depth) ≡ true → SideSound (q .memoryLength) (sideOf K q) (sideOf (opposite K) q)
+  side-sound K depth =
+      record { depth = depth; few = le-leb (length (sideOf K q .entries)) (sideOf K q .depth) (h .room K); entries = entries-right K }
 
-    storesRight : allOf (storeRight words (length (q .loads))) (q .stores) ≡ true
-    storesRight =
-        all-weaken₂ (λ s. leb (s .before) (length (q .loads))) (λ s. addressRight words (s .address)) (storeRight words (length (q .loads)))
-        (λ s t u. and-both t u) (q .stores)
-        (remembered-held stores loads stores-loads log (h .windows .theirs) (h .windows .ours))
-        (before-queued (window-before stores loads stores-loads (h .windows .theirs)) (λ s. addressRight words (s .address)) (λ n s. refl)
-        (all-weaken (rightStore words) (λ s. addressRight words (s .address)) (store-in-range words) (ownIn stores log) (h .rightStores)))
+  pub holds-sound : sound q ≡ true
+  holds-sound = parts-sound q (record {
+    words = h .limits .wordsRight;
+    sides = elim [ Load ↦ side-sound Load (h .limits .loadDepthRight) | Store ↦ side-sound Store (h .limits .storeDepthRight) ];
+    table = h .limits .tableRight;
+  })
 
 -- The queue that a list of calls leaves is sound.
 pub reached-sound : ReachedSound

@@ -27,17 +27,16 @@ use Rattle.queue.specs.Arguments.{give}
 use Rattle.queue.specs.Serve.{Served, serve}
 use Rattle.queue.specs.Write.{Written, write}
 use Rattle.queue.specs.Take.{Taken, takeRule}
-use Rattle.queue.specs.Outcome.{valueIn, Handed, handed, noValue, Accepted, HandedCounts, Moves, Takes, Serves, Writes, Opens, withCounts}
 use Rattle.queue.specs.Ready.{ready, Readies}
+use Rattle.queue.specs.Outcome.{valueIn, Handed, handed, noValue, Accepted, HandedCounts, Moves, Takes, Serves, Writes, Opens, withCounts}
 use Rattle.queue.specs.Parts.{queueOf, OpensFrame}
 use Rattle.number.proofs.ReplyLaws.{need-among, andThen-among, notZero}
 use Rattle.queue.proofs.Refusals.{proper}
 use Rattle.sequential.specs.Calls.{Call, Activate, Give, Serve, Write, Take, Ready}
-use Rattle.sequential.specs.Answers.{Machine, Response, moveResponse, serveResponse, writeResponse, takeResponse}
-use Rattle.sequential.specs.Answers.{step, Answered, answers, machineAfter, machine}
-use Rattle.sequential.specs.Records.{answeredWith, Hands, Runs, run-none, run-one, machineOf, OpenedRecord}
-use Rattle.sequential.specs.Records.{ServeCountedHands, ServeHands, ReadyIntoHands, ReadyHands}
-use Rattle.sequential.specs.Records.{RecordsDemand3, FramesDemand3, AlikeRecords, RecordsSound}
+use Rattle.sequential.specs.Answers.{Machine, Response, moveResponse, serveResponse, writeResponse, takeResponse, step, Answered, answers}
+use Rattle.sequential.specs.Answers.{machineAfter, machine}
+use Rattle.sequential.specs.Records.{answeredWith, Hands, Runs, run-none, run-one, machineOf, OpenedRecord, ServeCountedHands, ServeHands}
+use Rattle.sequential.specs.Records.{ReadyIntoHands, ReadyHands, RecordsDemand3, FramesDemand3, AlikeRecords, RecordsSound}
 use Rattle.sequential.specs.Demand3.{Opening}
 use Rattle.sequential.proofs.ReachedSound.{reached-sound}
 use Rattle.sequential.proofs.Demand3.{demand3, alike}

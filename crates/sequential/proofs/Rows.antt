@@ -9,17 +9,16 @@ use mathlib.Core.Option.{Option, none, some}
 use lib.Dec.{eqb}
 use lib.ListN.{length}
 use borrow.Author.Tests.{eqb-true, eqb-false, eq-eqb, ne-eqb}
-use Rattle.number.specs.Basics.{pick, allOf, countWhere}
+use Rattle.number.specs.Basics.{pick, allOf, countWhere, isSome}
+use Rattle.queue.specs.declared.Kind.{Kind}
 use Rattle.queue.specs.declared.arguments.Argument.{Argument}
 use Rattle.queue.specs.declared.arguments.Argument.the-variants.{LoadAddress, StoreAddress, StoreData}
-use Rattle.number.specs.Basics.{isSome}
-use Rattle.queue.specs.Contents.{Load, Store}
+use Rattle.queue.specs.Entry.{Entry}
 use Rattle.number.proofs.Both.{and-left, and-right}
 use Rattle.queue.proofs.Lists.{false-true, and-both}
-use Rattle.sequential.specs.Plain.{Rows, nextOf, usedUp}
-use Rattle.sequential.specs.Plain.{consOption}
-use Rattle.sequential.proofs.Log.{LogEntry, ofLoad, ofStore, LogKind, ownIn}
-use Rattle.sequential.proofs.MemoryInvariant.{valueFits}
+use Rattle.sequential.specs.Plain.{Rows, nextOf, usedUp, consOption}
+use Rattle.sequential.proofs.Log.{LogEntry, ofLoad, ofStore, ownIn, own, put, put-own}
+use Rattle.sequential.proofs.CellInvariant.{fits}
 
 -- An entry's cell: none where the entry has no part in the row, else what it has, or none yet.
 abbrev pub RowCell : Type 0
@@ -38,7 +37,7 @@ given StoreData port (ofLoad l) = none
 given StoreData port (ofStore s) = cellFor (eqb (s .port) port) (s .word)
 
 abbrev pub valueTaken : ℕ → LogEntry → RowCell
-valueTaken port (ofLoad l) = cellFor (eqb (l .port) port) (pick (l .taken) (l .value) none)
+valueTaken port (ofLoad l) = cellFor (eqb (l .port) port) (pick (l .finished) (l .word) none)
 valueTaken port (ofStore s) = none
 
 abbrev pub fed : RowCell → (List ℕ → Type 0) → List ℕ → Type 0
@@ -140,22 +139,22 @@ row-of-port cell e e′ x port pre post waits filled t other rows h p = go (eqb 
     go false differs = rw (append-nil (rows p)) (row-same (cell p) e e′ (other p differs) post pre (rows p) (h p))
 
 -- no cell before waits, where no entry of the kind does
-pub none-waits : {A : Type 0} (K : LogKind A) (cell : LogEntry → RowCell) → ((e : LogEntry) → K .own e ≡ none → not (lacking (cell e)) ≡ true)
-    → (pre : List LogEntry) → allOf (λ a. not (lacking (cell (K .put a)))) (ownIn K pre) ≡ true → allOf (λ d. not (lacking (cell d))) pre ≡ true
+pub none-waits : (K : Kind) (cell : LogEntry → RowCell) → ((e : LogEntry) → own K e ≡ none → not (lacking (cell e)) ≡ true)
+    → (pre : List LogEntry) → allOf (λ a. not (lacking (cell (put K a)))) (ownIn K pre) ≡ true → allOf (λ d. not (lacking (cell d))) pre ≡ true
 none-waits K cell other [] t = refl
-none-waits {A} K cell other (e ∷ pre) t = go (K .own e) refl t (λ k. none-waits K cell other pre k)
+none-waits K cell other (e ∷ pre) t = go (own K e) refl t (λ k. none-waits K cell other pre k)
   where
-    go : (o : Option A) → K .own e ≡ o → allOf (λ a. not (lacking (cell (K .put a)))) (consOption o (ownIn K pre)) ≡ true
-        → (allOf (λ a. not (lacking (cell (K .put a)))) (ownIn K pre) ≡ true → allOf (λ d. not (lacking (cell d))) pre ≡ true)
+    go : (o : Option Entry) → own K e ≡ o → allOf (λ a. not (lacking (cell (put K a)))) (consOption o (ownIn K pre)) ≡ true
+        → (allOf (λ a. not (lacking (cell (put K a)))) (ownIn K pre) ≡ true → allOf (λ d. not (lacking (cell d))) pre ≡ true)
         → not (lacking (cell e)) && allOf (λ d. not (lacking (cell d))) pre ≡ true
     go none own k rec = and-both (other e own) (rec k)
     go (some a) own k rec =
-        let is : e ≡ K .put a = K .put-own e a own in
-        and-both {a = not (lacking (cell e))} (rw is (and-left (not (lacking (cell (K .put a)))) _ k)) (rec (and-right (not (lacking (cell (K .put a)))) _ k))
+        let is : e ≡ put K a = put-own K e a own in
+        and-both {a = not (lacking (cell e))} (rw is (and-left (not (lacking (cell (put K a)))) _ k)) (rec (and-right (not (lacking (cell (put K a)))) _ k))
 
 -- ---- the plain run takes from the rows what the entries have
 
-pub fed-fits : (o : Option ℕ) (P : List ℕ → Type 0) (row : List ℕ) (filled : ℕ) → fed (some o) P row → valueFits o (nextOf row filled)
+pub fed-fits : (o : Option ℕ) (P : List ℕ → Type 0) (row : List ℕ) (filled : ℕ) → fed (some o) P row → fits o (nextOf row filled)
 fed-fits none P row filled h = tt
 fed-fits (some x) P row filled (r, is, h) = rw is
 
@@ -184,13 +183,13 @@ fed-used a b o P row h = rw (eqb-turned b a) (go (eqb a b) h)
 abbrev pub AllRows : List LogEntry → Rows → Type 0
 AllRows es rows = (kind : Argument) (port : ℕ) → Row (given kind port) es (rows kind port)
 
-pub rows-after-load : (l : Load) (es : List LogEntry) (rows : Rows) → AllRows (ofLoad l ∷ es) rows → AllRows es (usedUp LoadAddress (l .port) rows)
+pub rows-after-load : (l : Entry) (es : List LogEntry) (rows : Rows) → AllRows (ofLoad l ∷ es) rows → AllRows es (usedUp LoadAddress (l .port) rows)
 rows-after-load l es rows h LoadAddress port = fed-used (l .port) port (l .address) (Row (given LoadAddress port) es) (rows LoadAddress port)
     (h LoadAddress port)
 rows-after-load l es rows h StoreAddress port = h StoreAddress port
 rows-after-load l es rows h StoreData port = h StoreData port
 
-pub rows-after-store : (s : Store) (es : List LogEntry) (rows : Rows) → AllRows (ofStore s ∷ es) rows
+pub rows-after-store : (s : Entry) (es : List LogEntry) (rows : Rows) → AllRows (ofStore s ∷ es) rows
     → AllRows es (usedUp StoreData (s .port) (usedUp StoreAddress (s .port) rows))
 rows-after-store s es rows h LoadAddress port = h LoadAddress port
 rows-after-store s es rows h StoreAddress port = fed-used (s .port) port (s .address) (Row (given StoreAddress port) es) (rows StoreAddress port)
@@ -198,20 +197,20 @@ rows-after-store s es rows h StoreAddress port = fed-used (s .port) port (s .add
 rows-after-store s es rows h StoreData port = fed-used (s .port) port (s .word) (Row (given StoreData port) es) (rows StoreData port) (h StoreData port)
 
 -- what the plain run takes completes the entry
-pub load-fits : (l : Load) (es : List LogEntry) (rows : Rows) (filled : ℕ) → AllRows (ofLoad l ∷ es) rows
-    → valueFits (l .address) (nextOf (rows LoadAddress (l .port)) filled)
+pub load-fits : (l : Entry) (es : List LogEntry) (rows : Rows) (filled : ℕ) → AllRows (ofLoad l ∷ es) rows
+    → fits (l .address) (nextOf (rows LoadAddress (l .port)) filled)
 load-fits l es rows filled h =
     fed-fits (l .address) (Row (given LoadAddress (l .port)) es) (rows LoadAddress (l .port)) filled
     (rw (eqb-self (l .port)) at (h LoadAddress (l .port)))
 
-pub store-fits : (s : Store) (es : List LogEntry) (rows : Rows) (filled : ℕ) → AllRows (ofStore s ∷ es) rows
-    → valueFits (s .address) (nextOf (rows StoreAddress (s .port)) filled)
+pub store-fits : (s : Entry) (es : List LogEntry) (rows : Rows) (filled : ℕ) → AllRows (ofStore s ∷ es) rows
+    → fits (s .address) (nextOf (rows StoreAddress (s .port)) filled)
 store-fits s es rows filled h =
     fed-fits (s .address) (Row (given StoreAddress (s .port)) es) (rows StoreAddress (s .port)) filled
     (rw (eqb-self (s .port)) at (h StoreAddress (s .port)))
 
-pub word-fits : (s : Store) (es : List LogEntry) (rows : Rows) (filled : ℕ) → AllRows (ofStore s ∷ es) rows
-    → valueFits (s .word) (nextOf (rows StoreData (s .port)) filled)
+pub word-fits : (s : Entry) (es : List LogEntry) (rows : Rows) (filled : ℕ) → AllRows (ofStore s ∷ es) rows
+    → fits (s .word) (nextOf (rows StoreData (s .port)) filled)
 word-fits s es rows filled h =
     fed-fits (s .word) (Row (given StoreData (s .port)) es) (rows StoreData (s .port)) filled
     (rw (eqb-self (s .port)) at (h StoreData (s .port)))

@@ -2,30 +2,24 @@
 use Prim.Native.Nat.{ℕ}
 use native.Mathlib.Omega.{arith}
 use mathlib.Core.Path.{_≡_, refl, sym, subst, ap}
-use mathlib.Core.Bool.{false}
 use mathlib.Core.List.{List, [], _∷_, _++_, append-assoc, append-nil}
 use mathlib.Core.Option.{none}
-use lib.Dec.{eqb}
 use lib.ListN.{length}
 use Rattle.number.specs.Basics.{allOf}
 use Rattle.table.specs.Group.{GroupPairs}
 use Rattle.table.specs.Table.{checkTable}
-use Rattle.number.specs.Reply.{Reply, refuse, accept, number, accepted}
+use Rattle.number.specs.Reply.{accept, accepted}
+use Rattle.queue.specs.declared.Kind.the-variants.{Load, Store}
 use Rattle.queue.specs.Contents.{Contents}
 use Rattle.queue.specs.Sound.{depthRight, memoryRight}
 use Rattle.queue.specs.Open.{groupFits, opened, openQueue}
-use Rattle.queue.specs.Activate.{activate}
-use Rattle.queue.specs.Arguments.{give}
-use Rattle.queue.specs.Serve.{Served, serve}
-use Rattle.queue.specs.Write.{Written, write}
-use Rattle.queue.specs.Take.{Taken, takeRule}
-use Rattle.queue.specs.Ready.{ready}
-use Rattle.number.proofs.ReplyLaws.{refusal-not-zero, need-accepts, andThen-accepts}
-use Rattle.queue.proofs.Refusals.{activate-proper, give-proper, serve-proper, write-proper, take-proper}
-use Rattle.sequential.specs.Calls.{Call, Activate, Give, Serve, Write, Take, Ready}
-use Rattle.sequential.specs.Answers.{Machine, Response, Answered, moveResponse, serveResponse, writeResponse, takeResponse, step, answers, machineAfter}
+use Rattle.number.proofs.ReplyLaws.{need-accepts, andThen-accepts}
+use Rattle.sequential.specs.Calls.{Call}
+use Rattle.sequential.specs.Answers.{Machine, Response, Answered, step, answers, machineAfter}
 use Rattle.sequential.specs.Demand3.{Opening}
+use Rattle.sequential.proofs.CellLog.{cells-opened}
 use Rattle.sequential.proofs.Invariant.{Limits, Invariant, seen-refused, seen-ready}
+use Rattle.sequential.proofs.Accepted.{Stepped, refused, activated, gave, served, wrote, took, readied, stepped}
 use Rattle.sequential.proofs.Steps.Activate.{activate-keeps}
 use Rattle.sequential.proofs.Steps.Give.{give-keeps}
 use Rattle.sequential.proofs.Steps.Serve.{serve-keeps}
@@ -53,18 +47,17 @@ opened-state groups memory loadDepth storeDepth first limits = record {
   table = refl;
   holds = record {
     limits = limits;
-    roomLoads = omega arith;
-    roomStores = omega arith;
+    room = elim [ Load ↦ omega arith | Store ↦ omega arith ];
     long = refl;
+    opened = refl;
     windows = record {
       gone = 0;
       gone′ = 0;
       ours = record { old = []; live = []; parts = refl; many = refl; ended = refl; shows = refl };
       theirs = record { old = []; live = []; parts = refl; many = refl; ended = refl; shows = refl };
     };
-    rightLoads = refl;
-    rightStores = refl;
-    agree = refl;
+    right = elim [ Load ↦ refl | Store ↦ refl ];
+    cells = cells-opened memory;
   };
   seen = record { shape = refl; rows = λ kind port. refl; takes = λ port. refl; serves = refl; writes = refl };
 }
@@ -84,49 +77,23 @@ opening-state {groups} {memory} {m} o =
 
 module _ (groups : List GroupPairs) (memory : List ℕ) (answered : List Answered) (m : Machine) (st : Invariant groups memory answered m) where
   -- the state after a call that was answered so
-  After : Call → Response → Type 0
+  abbrev After : Call → Response → Type 0
   After c s = Invariant groups memory (answered ++ record { call = c; number = s .number; value = s .value } ∷ []) (s .machine)
 
-  refused : (c : Call) (n : ℕ) → eqb n 0 ≡ false → After c (record { number = n; value = none; machine = m })
-  unfolding After
-  refused c n e = record { log = st .log; table = st .table; holds = st .holds; seen = seen-refused groups answered c n none e (st .log) (st .seen) }
+  keeps : {c : Call} {s : Response} → Stepped m c s → After c s
+  keeps (refused {c} n nonzero low) =
+      record { log = st .log; table = st .table; holds = st .holds; seen = seen-refused groups answered c n none nonzero (st .log) (st .seen) }
+  keeps (activated {group} g is fits) = activate-keeps groups memory answered m st group g is fits
+  keeps (gave {argument} {port} {x} ranged waited) = give-keeps groups memory answered m st argument port x ranged waited
+  keeps (served {counts} {serial} l at s) = serve-keeps groups memory answered m st counts serial l at s
+  keeps (wrote {serial} s at w) = write-keeps groups memory answered m st serial s at w
+  keeps (took {port} l v at has) = take-keeps groups memory answered m st port l v at has
+  keeps (readied {kind} {run} n low) =
+      record { log = st .log; table = st .table; holds = st .holds; seen = seen-ready groups answered kind run n (st .log) (st .seen) }
 
   pub step-keeps : (c : Call)
       → Invariant groups memory (answered ++ record { call = c; number = step m c .number; value = step m c .value } ∷ []) (step m c .machine)
-  unfolding After
-  step-keeps (Activate g) = go (activate (m .queue) g) refl
-    where
-      go : (r : Reply Contents) → activate (m .queue) g ≡ r → After (Activate g) (moveResponse m r)
-      go (refuse n) e = refused (Activate g) n (refusal-not-zero (activate (m .queue) g) n (activate-proper (m .queue) g) e)
-      go (accept q) e = activate-keeps groups memory answered m st g q e
-  step-keeps (Give kind p x) = go (give kind (m .queue) p x) refl
-    where
-      go : (r : Reply Contents) → give kind (m .queue) p x ≡ r → After (Give kind p x) (moveResponse m r)
-      go (refuse n) e = refused (Give kind p x) n (refusal-not-zero (give kind (m .queue) p x) n (give-proper kind (m .queue) p x) e)
-      go (accept q) e = give-keeps groups memory answered m st kind p x q e
-  step-keeps (Serve c s) = go (serve (m .queue) (m .memory) s) refl
-    where
-      go : (r : Reply Served) → serve (m .queue) (m .memory) s ≡ r → After (Serve c s) (serveResponse m r)
-      go (refuse n) e = refused (Serve c s) n (refusal-not-zero (serve (m .queue) (m .memory) s) n (serve-proper (m .queue) (m .memory) s) e)
-      go (accept r) e = serve-keeps groups memory answered m st c s r e
-  step-keeps (Write s) = go (write (m .queue) (m .memory) s) refl
-    where
-      go : (r : Reply Written) → write (m .queue) (m .memory) s ≡ r → After (Write s) (writeResponse m r)
-      go (refuse n) e = refused (Write s) n (refusal-not-zero (write (m .queue) (m .memory) s) n (write-proper (m .queue) (m .memory) s) e)
-      go (accept r) e = write-keeps groups memory answered m st s r e
-  step-keeps (Take p) = go (takeRule (m .queue) p) refl
-    where
-      go : (r : Reply Taken) → takeRule (m .queue) p ≡ r → After (Take p) (takeResponse m r)
-      go (refuse n) e = refused (Take p) n (refusal-not-zero (takeRule (m .queue) p) n (take-proper (m .queue) p) e)
-      go (accept r) e = take-keeps groups memory answered m st p r e
-  step-keeps (Ready kind run) =
-      record {
-        log = st .log;
-        table = st .table;
-        holds = st .holds;
-        seen = seen-ready groups answered kind run (number (ready kind (m .queue) run))
-            (st .log) (st .seen);
-      }
+  step-keeps c = keeps (stepped m c)
 
 -- ---- a list of calls
 

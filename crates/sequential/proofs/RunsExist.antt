@@ -12,6 +12,7 @@ use Rattle.table.specs.Group.{GroupPairs}
 use Rattle.table.specs.Table.{groupsOf, checkTable}
 use Rattle.counts.specs.declared.Counts.{Counts}
 use Rattle.counts.specs.Counts.{counted}
+use Rattle.queue.specs.declared.Kind.the-variants.{Load, Store}
 use Rattle.queue.specs.declared.Value.the-variants.{Word, Nothing}
 use Rattle.queue.specs.declared.Queue.{Queue}
 use Rattle.queue.specs.declared.Outcome.{Outcome}
@@ -34,7 +35,8 @@ use Rattle.sequential.specs.Calls.{Call, Activate, Give, Serve, Write, T
 use Rattle.sequential.specs.Answers.{Machine, Response, Answered, moveResponse, serveResponse, writeResponse, takeResponse, step, machine}
 use Rattle.sequential.specs.Records.{answeredWith, Hands, run-none, run-one, machineOf}
 use Rattle.sequential.specs.Demand3.{Opening}
-use Rattle.sequential.specs.RunsExist.{bitsFit, argumentFits, StoredEntries, Stored, StoredOutcome, Throughout, SomeRun, RunsExist, OpeningsExist}
+use Rattle.sequential.specs.RunsExist.{bitsFit, argumentFits, StoredEntries, Stored, StoredOutcome, Throughout, SomeRun, RunsExist}
+use Rattle.sequential.specs.RunsExist.{OpeningsExist}
 use Rattle.sequential.proofs.Invariant.{Limits, Invariant}
 use Rattle.sequential.proofs.Run.{limits-opened, opening-state, step-keeps}
 use Rattle.sequential.proofs.ReachedSound.{holds-sound}
@@ -128,7 +130,7 @@ module _ (groups : List GroupPairs) (memory : List ℕ) (before : List Answered)
   chosen : Next q after (Hands q m c)
   chosen =
       next-of q m c
-      (record-holds (q .frame .table) (after .machine .queue) right (fitting .left .loads) (fitting .left .stores)
+      (record-holds (q .frame .table) (after .machine .queue) right (fitting .left .entries)
       (groups-held q ∙ st .table ∙ sym (state .table)))
 
   same : Same after (chosen .outcome) (chosen .left)
@@ -146,8 +148,8 @@ module _ (groups : List GroupPairs) (memory : List ℕ) (before : List Answered)
       go (inl e) = rw e s
       go (inr e) =
           rw e
-          (record-stored (q .frame .table) (after .machine .queue) right (fitting .left .loads) (fitting .left .stores)
-          (fitting .left .nextLoad) (fitting .left .nextStore))
+          (record-stored (q .frame .table) (after .machine .queue) right (fitting .left .entries)
+          (fitting .left .next))
 
   table-kept : chosen .outcome .queue .frame .table ≡ q .frame .table
   table-kept = go (chosen .kept)
@@ -195,7 +197,7 @@ opening-fits : {groups : List GroupPairs} {memory : List ℕ} {m : Machine} → 
 opening-fits {groups} {memory} {m} o words =
     let (limits, queue-is) = limits-opened groups (o .loadDepth) (o .storeDepth) (o .first) (length memory) (m .queue) (o .accepted) in
     subst Fits (ap₂ machine queue-is (sym (o .lent)))
-    (record { loads = refl; stores = refl; nextLoad = o .serial; nextStore = o .serial; memory = words })
+    (record { entries = elim [ Load ↦ refl | Store ↦ refl ]; next = elim [ Load ↦ o .serial | Store ↦ o .serial ]; memory = words })
 
 pub runs-exist : RunsExist
 runs-exist table memory o w words calls small =

@@ -13,16 +13,16 @@ use Rattle.queue.specs.declared.opening.OpenedFrame.{OpenedFrame}
 use Rattle.number.specs.Reply.{Reply, refuse, accept, number}
 use Rattle.queue.specs.Contents.{Contents, contentsOf}
 use Rattle.queue.specs.Open.{openQueue, freshFrame}
-use Rattle.queue.specs.Outcome.{noValue}
 use Rattle.queue.specs.Ready.{ready, Readies}
+use Rattle.queue.specs.Outcome.{noValue}
 use Rattle.queue.specs.Parts.{queueOf, whole, readiedOf, OpensFrame}
 use Rattle.queue.proofs.PartsLaws.{both-whole}
 use Rattle.sequential.specs.Calls.{Call, Activate, Give, Serve, Write, Take, Ready}
 use Rattle.sequential.specs.Answers.{Answered}
 use Rattle.sequential.specs.Records.{Hands, Runs, run-none, run-one}
 use Rattle.sequential.specs.RunsExist.{StoredEntries, Stored, StoredOutcome, Throughout, SomeRun}
-use Rattle.sequential.specs.RunsOnParts.{onEntries, HandsOnParts, RunsOnParts, parts-none, parts-one, ThroughoutParts}
-use Rattle.sequential.specs.RunsOnParts.{ServeInHands, ReadyInHands, PartsAreRecords, PartsDemand3, RunsOnPartsExist}
+use Rattle.sequential.specs.RunsOnParts.{onEntries, HandsOnParts, RunsOnParts, parts-none, parts-one, ThroughoutParts, ServeInHands}
+use Rattle.sequential.specs.RunsOnParts.{ReadyInHands, PartsAreRecords, PartsDemand3, RunsOnPartsExist}
 use Rattle.sequential.proofs.Run.{limits-opened}
 use Rattle.sequential.proofs.RecordsDemand3.{open-proper, opened-frame, frames-demand3}
 use Rattle.sequential.proofs.RunsExist.{fresh-stored, runs-exist}

@@ -1,107 +1,90 @@
--- The three kinds of argument are three slots of an entry; what they share is said once.
+-- The three kinds of argument: what an entry has of one, and what giving it changes.
 use Prim.Native.Nat.{ℕ}
 use mathlib.Core.Path.{_≡_, refl}
 use mathlib.Core.Logic.{_⊎_, inl, inr}
-use mathlib.Core.Bool.{Bool, true, false, not, _&&_}
-use mathlib.Core.Option.{Option, none, some}
+use mathlib.Core.Bool.{true, false}
+use mathlib.Core.List.{List}
+use mathlib.Core.Option.{none, some}
 use lib.Dec.{eqb}
 use Rattle.queue.specs.declared.arguments.Argument.{Argument}
 use Rattle.queue.specs.declared.arguments.Argument.the-variants.{LoadAddress, StoreAddress, StoreData}
-use Rattle.number.specs.Basics.{isSome}
-use Rattle.queue.specs.Contents.{Load}
-use Rattle.queue.specs.Arguments.{loadWithAddress, storeWithAddress, storeWithWord}
+use Rattle.queue.specs.Entry.{Entry, withBefore}
+use Rattle.queue.specs.Arguments.{kindOf, argumentIn, withArgument}
 use Rattle.sequential.specs.Plain.{sameKind}
-use Rattle.sequential.proofs.Log.{LogEntry, ofLoad, ofStore, LogKind, loads, stores}
+use Rattle.sequential.proofs.Log.{LogEntry, ofLoad, ofStore, accessOf, put, own}
 use Rattle.sequential.proofs.Rows.{given, valueTaken, cellFor}
-use Rattle.sequential.proofs.PlainRun.{accessOf}
+use Rattle.sequential.proofs.Cells.{Seen}
+use Rattle.sequential.proofs.CellMoves.{Moves, load-address, store-address, store-word}
+use Rattle.sequential.proofs.Views.{view}
 use Rattle.sequential.proofs.Invariant.{isServed, isWritten}
 
--- the place of an argument in the entries of a kind
-pub record Slot {A : Type 0} (K : LogKind A) : Type 0 where
-  pub kind : Argument
-  pub port : A → ℕ
-  pub has : A → Option ℕ
-  pub fill : ℕ → A → A
-  -- its cell is what it has, and other cells are as they were
-  pub cell : (p : ℕ) (a : A) → given kind p (K .put a) ≡ cellFor (eqb (port a) p) (has a)
-  pub cellFilled : (p x : ℕ) (a : A) → given kind p (K .put (fill x a)) ≡ cellFor (eqb (port a) p) (some x)
-  pub cellOther : (p : ℕ) (e : LogEntry) → K .own e ≡ none → given kind p e ≡ none
-  pub kindSame : sameKind kind kind ≡ true
-  pub kindOther : (k : Argument)
-      → (k ≡ kind) ⊎ ((sameKind kind k ≡ false) × ((p x : ℕ) (a : A) → given k p (K .put a) ≡ given k p (K .put (fill x a))))
-  pub valueSame : (p x : ℕ) (a : A) → valueTaken p (K .put a) ≡ valueTaken p (K .put (fill x a))
-  pub accessSame : (x : ℕ) (a : A) → accessOf (K .put (fill x a)) ≡ accessOf (K .put a)
-  pub servedSame : (x : ℕ) (a : A) → isServed (K .put (fill x a)) ≡ isServed (K .put a)
-  pub writtenSame : (x : ℕ) (a : A) → isWritten (K .put (fill x a)) ≡ isWritten (K .put a)
-  pub portBlind : (n : ℕ) (a : A) → port (K .remember n a) ≡ port a
-  pub hasBlind : (n : ℕ) (a : A) → has (K .remember n a) ≡ has a
+-- its cell in the row of the argument is what it has; once the argument is given, that
+pub cell-is : (argument : Argument) (p : ℕ) (e : Entry) → given argument p (put (kindOf argument) e) ≡ cellFor (eqb (e .port) p) (argumentIn argument e)
+cell-is LoadAddress p e = refl
+cell-is StoreAddress p e = refl
+cell-is StoreData p e = refl
 
-abbrev pub slotLacks : {A : Type 0} {K : LogKind A} → Slot K → ℕ → A → Bool
-slotLacks S p a = eqb (S .port a) p && not (isSome (S .has a))
+pub cell-filled : (argument : Argument) (p x : ℕ) (e : Entry)
+    → given argument p (put (kindOf argument) (withArgument argument x e)) ≡ cellFor (eqb (e .port) p) (some x)
+cell-filled LoadAddress p x e = refl
+cell-filled StoreAddress p x e = refl
+cell-filled StoreData p x e = refl
 
-unfoldable pub loadAddresses : Slot loads
-loadAddresses = record {
-  kind = LoadAddress;
-  port = λ l. l .port;
-  has = λ l. l .address;
-  fill = loadWithAddress;
-  cell = λ p l. refl;
-  cellFilled = λ p x l. refl;
-  cellOther = other;
-  kindSame = refl;
-  kindOther = elim [ LoadAddress ↦ inl refl | StoreAddress ↦ inr (refl, λ p x l. refl) | StoreData ↦ inr (refl, λ p x l. refl) ];
-  valueSame = λ p x l. refl;
-  accessSame = λ x l. refl;
-  servedSame = λ x l. refl;
-  writtenSame = λ x l. refl;
-  portBlind = λ n l. refl;
-  hasBlind = λ n l. refl;
-}
-  where
-    other : (p : ℕ) (e : LogEntry) → loads .own e ≡ none → given LoadAddress p e ≡ none
-    other p (ofLoad l) h = cc
-    other p (ofStore s) h = refl
+-- an entry of the other kind has none there
+pub cell-other : (argument : Argument) (p : ℕ) (d : LogEntry) → own (kindOf argument) d ≡ none → given argument p d ≡ none
+cell-other LoadAddress p (ofLoad e) h = cc
+cell-other LoadAddress p (ofStore e) h = refl
+cell-other StoreAddress p (ofLoad e) h = refl
+cell-other StoreAddress p (ofStore e) h = cc
+cell-other StoreData p (ofLoad e) h = refl
+cell-other StoreData p (ofStore e) h = cc
 
--- where no entry of the kind stands, a store's slots have no cell
-pub store-other : (kind : Argument) → ((p : ℕ) (l : Load) → given kind p (ofLoad l) ≡ none) → (p : ℕ) (e : LogEntry) → stores .own e ≡ none
-    → given kind p e ≡ none
-store-other kind h p (ofLoad l) e = h p l
-store-other kind h p (ofStore s) e = cc
+pub same-kind : (argument : Argument) → sameKind argument argument ≡ true
+same-kind LoadAddress = refl
+same-kind StoreAddress = refl
+same-kind StoreData = refl
 
-unfoldable pub storeAddresses : Slot stores
-storeAddresses = record {
-  kind = StoreAddress;
-  port = λ s. s .port;
-  has = λ s. s .address;
-  fill = storeWithAddress;
-  cell = λ p s. refl;
-  cellFilled = λ p x s. refl;
-  cellOther = store-other StoreAddress (λ p l. refl);
-  kindSame = refl;
-  kindOther = elim [ LoadAddress ↦ inr (refl, λ p x s. refl) | StoreAddress ↦ inl refl | StoreData ↦ inr (refl, λ p x s. refl) ];
-  valueSame = λ p x s. refl;
-  accessSame = λ x s. refl;
-  servedSame = λ x s. refl;
-  writtenSame = λ x s. refl;
-  portBlind = λ n s. refl;
-  hasBlind = λ n s. refl;
-}
+-- what else of the entry the rows and the answers go by is as it was
+pub rows-kept : (argument k : Argument)
+    → (k ≡ argument)
+    ⊎ ((sameKind argument k ≡ false)
+    × ((p x : ℕ) (e : Entry) → given k p (put (kindOf argument) e) ≡ given k p (put (kindOf argument) (withArgument argument x e))))
+rows-kept LoadAddress LoadAddress = inl refl
+rows-kept LoadAddress StoreAddress = inr (refl, λ p x e. refl)
+rows-kept LoadAddress StoreData = inr (refl, λ p x e. refl)
+rows-kept StoreAddress LoadAddress = inr (refl, λ p x e. refl)
+rows-kept StoreAddress StoreAddress = inl refl
+rows-kept StoreAddress StoreData = inr (refl, λ p x e. refl)
+rows-kept StoreData LoadAddress = inr (refl, λ p x e. refl)
+rows-kept StoreData StoreAddress = inr (refl, λ p x e. refl)
+rows-kept StoreData StoreData = inl refl
 
-unfoldable pub storeWords : Slot stores
-storeWords = record {
-  kind = StoreData;
-  port = λ s. s .port;
-  has = λ s. s .word;
-  fill = storeWithWord;
-  cell = λ p s. refl;
-  cellFilled = λ p x s. refl;
-  cellOther = store-other StoreData (λ p l. refl);
-  kindSame = refl;
-  kindOther = elim [ LoadAddress ↦ inr (refl, λ p x s. refl) | StoreAddress ↦ inr (refl, λ p x s. refl) | StoreData ↦ inl refl ];
-  valueSame = λ p x s. refl;
-  accessSame = λ x s. refl;
-  servedSame = λ x s. refl;
-  writtenSame = λ x s. refl;
-  portBlind = λ n s. refl;
-  hasBlind = λ n s. refl;
-}
+-- the value that was taken, the access, and whether it is served or written
+pub record OthersKept (argument : Argument) (x : ℕ) (e : Entry) : Type 0 where
+  pub value : (p : ℕ) → valueTaken p (put (kindOf argument) e) ≡ valueTaken p (put (kindOf argument) (withArgument argument x e))
+  pub access : accessOf (put (kindOf argument) (withArgument argument x e)) ≡ accessOf (put (kindOf argument) e)
+  pub served : isServed (put (kindOf argument) (withArgument argument x e)) ≡ isServed (put (kindOf argument) e)
+  pub written : isWritten (put (kindOf argument) (withArgument argument x e)) ≡ isWritten (put (kindOf argument) e)
+
+pub others-kept : (argument : Argument) (x : ℕ) (e : Entry) → OthersKept argument x e
+others-kept LoadAddress x e = record { value = λ p. refl; access = refl; served = refl; written = refl }
+others-kept StoreAddress x e = record { value = λ p. refl; access = refl; served = refl; written = refl }
+others-kept StoreData x e = record { value = λ p. refl; access = refl; served = refl; written = refl }
+
+-- what is known of the entry only grows, as every cell sees
+pub given-moves : (argument : Argument) (x : ℕ) (e : Entry) → argumentIn argument e ≡ none → (m b j : ℕ) (pre : List (Seen ℕ))
+    → Moves m pre (view b j (put (kindOf argument) e)) (view b j (put (kindOf argument) (withArgument argument x e))) m
+given-moves LoadAddress x e h m b j pre = rw h load-address
+given-moves StoreAddress x e h m b j pre = rw h store-address
+given-moves StoreData x e h m b j pre = rw h store-word
+
+-- which number the entry is shown with is nothing to the argument
+pub remembered-kept : (argument : Argument) (n : ℕ) (e : Entry) → argumentIn argument (withBefore n e) ≡ argumentIn argument e
+remembered-kept LoadAddress n e = refl
+remembered-kept StoreAddress n e = refl
+remembered-kept StoreData n e = refl
+
+pub before-kept : (argument : Argument) (x n : ℕ) (e : Entry) → withArgument argument x (withBefore n e) ≡ withBefore n (withArgument argument x e)
+before-kept LoadAddress x n e = refl
+before-kept StoreAddress x n e = refl
+before-kept StoreData x n e = refl

@@ -11,30 +11,29 @@ use lib.ListN.{length, replicate, length-append, length-map, length-replicate}
 use lib.Seq.{take-at}
 use borrow.Author.Tests.{leb-true, ltb-true, lt-ltb}
 use Rattle.table.specs.declared.Table.{Table}
-use Rattle.number.specs.Basics.{pick, allOf, held}
-use Rattle.table.specs.Table.{groupsOf, checkTable}
+use Rattle.number.specs.Basics.{pick, allOf, held, isSome}
+use Rattle.table.specs.Table.{groupsOf}
 use Rattle.number.proofs.HeldLaws.{held-few}
-use Rattle.queue.specs.declared.Entry.{Entry}
+use Rattle.queue.specs.declared.Kind.{Kind}
+use Rattle.queue.specs.declared.Kind.the-variants.{Load, Store}
+use Rattle.queue.specs.declared.Entry.{Entry as EntryStruct}
+use Rattle.queue.specs.declared.Side.{Side as SideStruct}
 use Rattle.queue.specs.declared.Queue.{Queue}
-use Rattle.number.specs.Basics.{isSome}
-use Rattle.queue.specs.Entry.{numberOf, bit, Small}
-use Rattle.queue.specs.Contents.{Load, Store, Contents, loadOf, storeOf, loadIn, storeIn, contentsOf}
-use Rattle.queue.specs.Sound.{depthRight, memoryRight, addressRight, loadRight, storeRight, sound}
+use Rattle.queue.specs.Entry.{Entry, entryOf, entryIn, numberOf, bit, Small, entryStruct}
+use Rattle.queue.specs.Contents.{Side, Contents, entriesHeld, contentsOf, sideOf}
+use Rattle.queue.specs.Sound.{addressRight, entryRight, sound}
 use Rattle.number.proofs.Both.{and-left, and-right}
 use Rattle.queue.proofs.Lists.{all-join, all-weaken₂, all-map}
 use Rattle.queue.proofs.EntryLaws.{bit-small, entry-number}
-use Rattle.queue.proofs.SoundLaws.{within-most, Parts, parts}
-use Rattle.sequential.specs.RunsExist.{bitsFit, wordFits, StoredEntries, Stored}
-use Rattle.number.specs.Reply.{accepted}
+use Rattle.queue.proofs.SoundLaws.{within-most, sound-parts}
+use Rattle.queue.proofs.ContentsLaws.{opposite}
+use Rattle.sequential.specs.RunsExist.{bitsFit, wordFits, StoredSide, StoredEntries, Stored}
 
 -- what is true of every entry beside what a sound queue says: its port has five bits, and its word has 32
-abbrev pub loadFits : Load → Bool
-loadFits l = bitsFit 5 (l .port) && wordFits (l .value)
+abbrev pub entryFits : Entry → Bool
+entryFits e = bitsFit 5 (e .port) && wordFits (e .word)
 
-abbrev pub storeFits : Store → Bool
-storeFits s = bitsFit 5 (s .port) && wordFits (s .word)
-
--- ---- an entry of a load, of a store
+-- ---- the record of an entry
 abbrev numberIn : Option ℕ → ℕ
 numberIn none = 0
 numberIn (some n) = n
@@ -43,33 +42,12 @@ read-option : (o : Option ℕ) → pick (isSome o) (some (numberIn o)) none ≡ 
 read-option none = refl
 read-option (some n) = refl
 
-abbrev entryOfLoad : Load → Entry
-entryOfLoad l = record {
-  port = l .port;
-  before = l .before;
-  addressed = isSome (l .address);
-  filled = isSome (l .value);
-  finished = l .taken;
-  address = numberIn (l .address);
-  word = numberIn (l .value);
-}
+abbrev structOf : Entry → EntryStruct
+structOf e =
+    entryStruct (e .port) (isSome (e .address)) (numberIn (e .address)) (isSome (e .word)) (numberIn (e .word)) (e .finished) (e .before)
 
-abbrev entryOfStore : Store → Entry
-entryOfStore s = record {
-  port = s .port;
-  before = s .before;
-  addressed = isSome (s .address);
-  filled = isSome (s .word);
-  finished = s .written;
-  address = numberIn (s .address);
-  word = numberIn (s .word);
-}
-
-load-entry : (l : Load) → loadOf (entryOfLoad l) ≡ l
-load-entry l = rw (read-option (l .address), read-option (l .value))
-
-store-entry : (s : Store) → storeOf (entryOfStore s) ≡ s
-store-entry s = rw (read-option (s .address), read-option (s .word))
+entry-struct : (e : Entry) → entryOf (structOf e) ≡ e
+entry-struct e = rw (read-option (e .address), read-option (e .word))
 
 -- its fields have room
 word-small : (o : Option ℕ) → wordFits o ≡ true → numberIn o < 4294967296
@@ -80,24 +58,16 @@ address-small : (words : ℕ) (o : Option ℕ) → words ≤ 4096 → addressRig
 address-small words none m h = omega arith
 address-small words (some a) m h = omega (arith, ltb-true a words h)
 
-module _ (words others : ℕ) (few : words ≤ 4096) (most : others ≤ 64) where
-  load-small : (l : Load) → loadRight words others l ≡ true → loadFits l ≡ true → Small (entryOfLoad l)
-  load-small l right h = record {
-    port = ltb-true (l .port) 32 (and-left (bitsFit 5 (l .port)) (wordFits (l .value)) h);
-    before = omega (arith, leb-true (l .before) others (and-left (leb (l .before) others) _ right));
-    address = address-small words (l .address) few (and-right (leb (l .before) others) _ right);
-    word = word-small (l .value) (and-right (bitsFit 5 (l .port)) (wordFits (l .value)) h);
-  }
+struct-small : (words others : ℕ) → words ≤ 4096 → others ≤ 64 → (e : Entry) → entryRight words others e ≡ true → entryFits e ≡ true
+    → Small (structOf e)
+struct-small words others few most e right h = record {
+  port = ltb-true (e .port) 32 (and-left (bitsFit 5 (e .port)) (wordFits (e .word)) h);
+  before = omega (arith, leb-true (e .before) others (and-left (leb (e .before) others) _ right));
+  address = address-small words (e .address) few (and-right (leb (e .before) others) _ right);
+  word = word-small (e .word) (and-right (bitsFit 5 (e .port)) (wordFits (e .word)) h);
+}
 
-  store-small : (s : Store) → storeRight words others s ≡ true → storeFits s ≡ true → Small (entryOfStore s)
-  store-small s right h = record {
-    port = ltb-true (s .port) 32 (and-left (bitsFit 5 (s .port)) (wordFits (s .word)) h);
-    before = omega (arith, leb-true (s .before) others (and-left (leb (s .before) others) _ right));
-    address = address-small words (s .address) few (and-right (leb (s .before) others) _ right);
-    word = word-small (s .word) (and-right (bitsFit 5 (s .port)) (wordFits (s .word)) h);
-  }
-
-number-small : (e : Entry) → Small e → bitsFit 64 (numberOf e) ≡ true
+number-small : (e : EntryStruct) → Small e → bitsFit 64 (numberOf e) ≡ true
 unfolding numberOf
 number-small e s =
     lt-ltb (numberOf e) (2 ^ 64)
@@ -144,78 +114,62 @@ module _ {A : Type 0} (f : A → ℕ) (g : ℕ → A) (p r : A → Bool) where
   }
 
 -- ---- the record of a table and of what it is to hold
+abbrev sideStruct : Side → SideStruct
+sideStruct s = record { depth = s .depth; count = length (s .entries); next = s .next }
+
+abbrev packed : Side → List ℕ
+packed s = padded (map (λ e. numberOf (structOf e)) (s .entries))
+
 abbrev pub recordOf : Table → Contents → Queue
 recordOf table c = record {
-  frame = record {
-    table = table;
-    «memory_length» = c .memoryLength;
-    loads = record { depth = c .loadDepth; count = length (c .loads); next = c .nextLoad };
-    stores = record { depth = c .storeDepth; count = length (c .stores); next = c .nextStore };
-  };
-  «load_entries» = padded (map (λ l. numberOf (entryOfLoad l)) (c .loads));
-  «store_entries» = padded (map (λ s. numberOf (entryOfStore s)) (c .stores));
+  frame = record { table = table; «memory_length» = c .memoryLength; loads = sideStruct (c .loads); stores = sideStruct (c .stores) };
+  «load_entries» = packed (c .loads);
+  «store_entries» = packed (c .stores);
 }
 
-module _ (table : Table) (c : Contents) (right : sound c ≡ true) (loads : allOf loadFits (c .loads) ≡ true) (stores : allOf storeFits (c .stores) ≡ true) where
-  said : Parts
-      (depthRight (c .loadDepth))
-      (depthRight (c .storeDepth))
-      (memoryRight (c .memoryLength))
-      (leb (length (c .loads)) (c .loadDepth))
-      (leb (length (c .stores)) (c .storeDepth))
-      (allOf (loadRight (c .memoryLength) (length (c .stores))) (c .loads))
-      (allOf (storeRight (c .memoryLength) (length (c .loads))) (c .stores))
-      (accepted (checkTable (c .groups)))
-  unfolding sound
-  said = parts _ _ _ _ _ _ _ _ right
-
+module _ (table : Table) (c : Contents) (right : sound c ≡ true) (fit : (K : Kind) → allOf entryFits (sideOf K c .entries) ≡ true) where
   words-few : c .memoryLength ≤ 4096
-  words-few = within-most 1 4096 (c .memoryLength) (said .part3)
+  words-few = within-most 1 4096 (c .memoryLength) (sound-parts c right .words)
 
-  load-depth-few : c .loadDepth ≤ 64
-  load-depth-few = within-most 1 64 (c .loadDepth) (said .part1)
+  depth-few : (K : Kind) → sideOf K c .depth ≤ 64
+  depth-few K = within-most 1 64 (sideOf K c .depth) (sound-parts c right .sides K .depth)
 
-  store-depth-few : c .storeDepth ≤ 64
-  store-depth-few = within-most 1 64 (c .storeDepth) (said .part2)
+  side-few : (K : Kind) → length (sideOf K c .entries) ≤ 64
+  side-few K = le-trans (leb-true (length (sideOf K c .entries)) (sideOf K c .depth) (sound-parts c right .sides K .few)) (depth-few K)
 
-  loads-few : length (c .loads) ≤ 64
-  loads-few = le-trans (leb-true (length (c .loads)) (c .loadDepth) (said .part4)) load-depth-few
+  module _ (K : Kind) where
+    abbrev others : ℕ
+    others = length (sideOf (opposite K) c .entries)
 
-  stores-few : length (c .stores) ≤ 64
-  stores-few = le-trans (leb-true (length (c .stores)) (c .storeDepth) (said .part5)) store-depth-few
+    small : (e : Entry) → entryRight (c .memoryLength) others e ≡ true → entryFits e ≡ true → Small (structOf e)
+    small = struct-small (c .memoryLength) others words-few (side-few (opposite K))
 
-  small-load : (l : Load) → loadRight (c .memoryLength) (length (c .stores)) l ≡ true → loadFits l ≡ true → Small (entryOfLoad l)
-  small-load = load-small (c .memoryLength) (length (c .stores)) words-few stores-few
+    entries-back : entriesHeld (length (sideOf K c .entries)) (packed (sideOf K c)) ≡ sideOf K c .entries
+    entries-back =
+        side-back (λ e. numberOf (structOf e)) entryIn (entryRight (c .memoryLength) others) entryFits
+        (λ e h k. ap entryOf (entry-number (structOf e) (small e h k)) ∙ entry-struct e)
+        (sideOf K c .entries) (sound-parts c right .sides K .entries) (fit K)
 
-  small-store : (s : Store) → storeRight (c .memoryLength) (length (c .loads)) s ≡ true → storeFits s ≡ true → Small (entryOfStore s)
-  small-store = store-small (c .memoryLength) (length (c .loads)) words-few loads-few
+    entries-stored : StoredEntries (packed (sideOf K c))
+    entries-stored =
+        side-stored (λ e. numberOf (structOf e)) entryIn (entryRight (c .memoryLength) others) entryFits
+        (λ e h k. number-small (structOf e) (small e h k))
+        (sideOf K c .entries) (side-few K) (sound-parts c right .sides K .entries) (fit K)
+
+    side-stored-too : sideOf K c .next < 2 ^ 32 → StoredSide (sideStruct (sideOf K c))
+    side-stored-too next = record { depth = omega (arith, depth-few K); count = omega (arith, side-few K); next = next }
 
   -- it holds just that
   pub record-holds : groupsOf table ≡ c .groups → contentsOf (recordOf table c) ≡ c
   unfolding contentsOf
-  record-holds same =
-      rw (
-        same,
-        side-back (λ l. numberOf (entryOfLoad l)) loadIn (loadRight (c .memoryLength) (length (c .stores))) loadFits
-            (λ l h k. ap loadOf (entry-number (entryOfLoad l) (small-load l h k)) ∙ load-entry l)
-            (c .loads) (said .part6) loads,
-        side-back (λ s. numberOf (entryOfStore s)) storeIn (storeRight (c .memoryLength) (length (c .loads))) storeFits
-            (λ s h k. ap storeOf (entry-number (entryOfStore s) (small-store s h k)) ∙ store-entry s)
-            (c .stores) (said .part7) stores,
-      )
+  record-holds same = rw (same, entries-back Load, entries-back Store)
 
   -- and a program holds it
-  pub record-stored : c .nextLoad < 2 ^ 32 → c .nextStore < 2 ^ 32 → Stored (recordOf table c)
-  record-stored nextLoad nextStore = record {
+  pub record-stored : ((K : Kind) → sideOf K c .next < 2 ^ 32) → Stored (recordOf table c)
+  record-stored next = record {
     words = omega (arith, words-few);
-    loads = record { depth = omega (arith, load-depth-few); count = omega (arith, loads-few); next = nextLoad };
-    stores = record { depth = omega (arith, store-depth-few); count = omega (arith, stores-few); next = nextStore };
-    loadEntries =
-        side-stored (λ l. numberOf (entryOfLoad l)) loadIn (loadRight (c .memoryLength) (length (c .stores))) loadFits
-        (λ l h k. number-small (entryOfLoad l) (small-load l h k))
-        (c .loads) loads-few (said .part6) loads;
-    storeEntries =
-        side-stored (λ s. numberOf (entryOfStore s)) storeIn (storeRight (c .memoryLength) (length (c .loads))) storeFits
-        (λ s h k. number-small (entryOfStore s) (small-store s h k))
-        (c .stores) stores-few (said .part7) stores;
+    loads = side-stored-too Load (next Load);
+    stores = side-stored-too Store (next Store);
+    loadEntries = entries-stored Load;
+    storeEntries = entries-stored Store;
   }

@@ -12,74 +12,76 @@ use lib.Dec.{leb}
 use lib.ListN.{length, take, length-append, length-map, getElem?}
 use lib.Seq.{take-at}
 use borrow.Author.Tests.{le-leb, leb-true}
-use Rattle.number.specs.Basics.{allOf, frontWhile, afterWhile}
+use Rattle.number.specs.Basics.{allOf, frontWhile, afterWhile, isSome}
 use Rattle.table.proofs.Order.{frontWhile-afterWhile}
-use Rattle.number.specs.Basics.{isSome}
+use Rattle.queue.specs.Entry.{Entry, withBefore}
 use Rattle.queue.specs.Contents.{updateAt}
+use Rattle.queue.specs.Retire.{finished, retiring, afterRetiring}
 use Rattle.queue.proofs.Lists.{false-true, all-left, all-right, all-join, all-take, all-map, all-weaken, all-weaken₂, take-append, take-map}
-use Rattle.queue.proofs.Lists.{getElem?-map, map-same, failing-behind, getElem?-split, getElem?-seam, updateAt-seam}
-use Rattle.queue.proofs.Lists.{all-frontWhile, afterWhile-map, length-frontWhile-map}
+use Rattle.queue.proofs.Lists.{getElem?-map, map-same, failing-behind, getElem?-split, getElem?-seam, updateAt-seam, all-frontWhile, afterWhile-map}
+use Rattle.queue.proofs.Lists.{length-frontWhile-map}
 use Rattle.sequential.specs.Plain.{consOption}
-use Rattle.sequential.proofs.Log.{LogEntry, LogKind, Opposite, Placed, place, placedEntry, side, ownIn}
-use Rattle.sequential.proofs.Log.{others, counting, side-append, map-side, side-length, side-before, side-split}
+use Rattle.sequential.proofs.Log.{LogEntry, Opposite, Placed, place, placedEntry, side, ownIn, own, put, own-put, others, counting}
+use Rattle.sequential.proofs.Log.{side-append, map-side, side-length, side-before, side-split}
+use Rattle.queue.specs.declared.Kind.{Kind}
 
 -- an entry as the queue shows it, where `gone` of the other side have left
-abbrev pub remembering : {A : Type 0} → LogKind A → ℕ → Placed A → A
-remembering K out x = K .remember (x .before - out) (x .entry)
+abbrev pub shown : ℕ → Placed → Entry
+shown out x = withBefore (x .before - out) (x .entry)
 
-abbrev pub isOver : {A : Type 0} → LogKind A → Placed A → Bool
-isOver K x = K .finished (x .entry)
+abbrev pub isOver : Placed → Bool
+isOver x = finished (x .entry)
 
 -- one side, where `gone` of its own and `out` of the other side have left
-pub record Window {A : Type 0} (K : LogKind A) (log : List LogEntry) (gone out : ℕ) (held : List A) : Type 0 where
-  pub old : List (Placed A)
-  pub live : List (Placed A)
+pub record Window (K : Kind) (log : List LogEntry) (gone out : ℕ) (held : List Entry) : Type 0 where
+  pub old : List Placed
+  pub live : List Placed
   pub parts : side K 0 log ≡ old ++ live
   pub many : length old ≡ gone
-  pub ended : allOf (isOver K) old ≡ true
-  pub shows : held ≡ map (remembering K out) live
+  pub ended : allOf isOver old ≡ true
+  pub shows : held ≡ map (shown out) live
 
 -- both sides
-pub record Windows {A B : Type 0} (K : LogKind A) (K′ : LogKind B) (log : List LogEntry) (held : List A) (held′ : List B) : Type 0 where
+pub record Windows (K K′ : Kind) (log : List LogEntry) (held held′ : List Entry) : Type 0 where
   pub gone : ℕ
   pub gone′ : ℕ
   pub ours : Window K log gone gone′ held
   pub theirs : Window K′ log gone′ gone held′
 
-pub turned : {A B : Type 0} {K : LogKind A} {K′ : LogKind B} {log : List LogEntry} {held : List A} {held′ : List B} → Windows K K′ log held held′
+pub turned : {K K′ : Kind} {log : List LogEntry} {held held′ : List Entry} → Windows K K′ log held held′
     → Windows K′ K log held′ held
 turned w = record { gone = w .gone′; gone′ = w .gone; ours = w .theirs; theirs = w .ours }
 
 -- The entries of a kind in the first part of the log, beside those of them that are still queued: the others are finished.
-pub record Before {A : Type 0} (K : LogKind A) (queued : List A) (pre : List LogEntry) : Type 0 where
+pub record Before (K : Kind) (queued : List Entry) (pre : List LogEntry) : Type 0 where
   pub out : ℕ
-  pub past : List (Placed A)
-  pub rest : List (Placed A)
+  pub past : List Placed
+  pub rest : List Placed
   pub parts : ownIn K pre ≡ map placedEntry past ++ map placedEntry rest
-  pub ended : allOf (isOver K) past ≡ true
-  pub shows : queued ≡ map (remembering K out) rest
+  pub ended : allOf isOver past ≡ true
+  pub shows : queued ≡ map (shown out) rest
 
 -- A queued entry and its place in the log: all that the calls need of the window.
-pub record Located {A B : Type 0} (K : LogKind A) (K′ : LogKind B) (log : List LogEntry) (held : List A) (held′ : List B)
-    (i : ℕ) (pre : List LogEntry) (it : A) (post : List LogEntry) : Type 0 where
-  pub log-is : log ≡ pre ++ K .put it ∷ post
+pub record Located (K K′ : Kind) (log : List LogEntry) (held held′ : List Entry)
+    (i : ℕ) (pre : List LogEntry) (it : Entry) (post : List LogEntry) : Type 0 where
+  pub log-is : log ≡ pre ++ put K it ∷ post
   -- the queue shows it with this remembered number
   pub number : ℕ
-  pub at : getElem? held i ≡ some (K .remember number it)
+  pub at : getElem? held i ≡ some (withBefore number it)
   -- the entries before it, of its own side and of the other
   pub before : Before K (take i held) pre
   pub before′ : Before K′ (take number held′) pre
   -- both sides after it is made anew
-  pub anew : (f : A → A) → ((n : ℕ) (a : A) → f (K .remember n a) ≡ K .remember n (f a))
-      → Windows K K′ (pre ++ K .put (f it) ∷ post) (updateAt f i held) held′
+  pub anew : (f : Entry → Entry) → ((n : ℕ) (a : Entry) → f (withBefore n a) ≡ withBefore n (f a))
+      → Windows K K′ (pre ++ put K (f it) ∷ post) (updateAt f i held) held′
 
 -- ---- what a test says of the queue's part it says of the log's, and back
 
-module _ {A : Type 0} {K : LogKind A} {queued : List A} {pre : List LogEntry} (b : Before K queued pre) (p : A → Bool) (blind : (n : ℕ) (a : A)
-    → p (K .remember n a) ≡ p a) where
+module _ {K : Kind} {queued : List Entry} {pre : List LogEntry} (b : Before K queued pre) (p : Entry → Bool) (blind : (n : ℕ) (a : Entry)
+    → p (withBefore n a) ≡ p a) where
   -- the queue's part, for a test that does not look at remembered numbers
   queued-all : allOf p queued ≡ allOf (λ x. p (x .entry)) (b .rest)
-  queued-all = rw (b .shows) (all-map p (λ x. p (x .entry)) (remembering K (b .out)) (λ x. blind (x .before - b .out) (x .entry)) (b .rest))
+  queued-all = rw (b .shows) (all-map p (λ x. p (x .entry)) (shown (b .out)) (λ x. blind (x .before - b .out) (x .entry)) (b .rest))
 
   rest-all : allOf p (map placedEntry (b .rest)) ≡ allOf (λ x. p (x .entry)) (b .rest)
   rest-all = all-map p (λ x. p (x .entry)) placedEntry (λ x. refl) (b .rest)
@@ -89,52 +91,52 @@ module _ {A : Type 0} {K : LogKind A} {queued : List A} {pre : List LogEntry} (b
   before-queued h = queued-all ∙ sym rest-all ∙ all-right p (map placedEntry (b .past)) (map placedEntry (b .rest)) (rw (b .parts) at h)
 
   -- what has left passes since it is finished, and right
-  module _ (right : A → Bool) (w : (a : A) → right a ≡ true → K .finished a ≡ true → p a ≡ true) (h : allOf right (ownIn K pre) ≡ true) where
+  module _ (right : Entry → Bool) (w : (a : Entry) → right a ≡ true → finished a ≡ true → p a ≡ true) (h : allOf right (ownIn K pre) ≡ true) where
     pub past-passes : allOf p (map placedEntry (b .past)) ≡ true
     past-passes =
-        all-weaken₂ right (K .finished) p w (map placedEntry (b .past))
+        all-weaken₂ right finished p w (map placedEntry (b .past))
         (all-left right (map placedEntry (b .past)) (map placedEntry (b .rest)) (rw (b .parts) at h))
-        (all-map (K .finished) (isOver K) placedEntry (λ x. refl) (b .past) ∙ b .ended)
+        (all-map finished isOver placedEntry (λ x. refl) (b .past) ∙ b .ended)
 
     -- from the queue to the log
     pub before-log : allOf p queued ≡ true → allOf p (ownIn K pre) ≡ true
     before-log k = rw (b .parts) (all-join p (map placedEntry (b .past)) (map placedEntry (b .rest)) past-passes (rest-all ∙ sym queued-all ∙ k))
 
-module _ {A B : Type 0} (K : LogKind A) (K′ : LogKind B) (opposite : Opposite K K′) where
+module _ (K K′ : Kind) (opposite : Opposite K K′) where
   -- as many others as the other kind has
   pub others-length : (es : List LogEntry) → others K es ≡ length (ownIn K′ es)
   others-length [] = refl
-  others-length (e ∷ es) = go (K .own e) (K′ .own e) (opposite e) (others-length es)
+  others-length (e ∷ es) = go (own K e) (own K′ e) (opposite e) (others-length es)
     where
-      go : (o : Option A) (o′ : Option B) → isSome o ≡ not (isSome o′) → others K es ≡ length (ownIn K′ es)
+      go : (o : Option Entry) (o′ : Option Entry) → isSome o ≡ not (isSome o′) → others K es ≡ length (ownIn K′ es)
           → counting o (others K es) ≡ length (consOption o′ (ownIn K′ es))
       go none none t h = false-true t
       go none (some b) t h = ap suc h
       go (some a) none t h = h
       go (some a) (some b) t h = false-true (sym t)
 
-  pub put-other : (a : A) → K′ .own (K .put a) ≡ none
-  put-other a = go (K′ .own (K .put a)) (rw (K .own-put a) at (opposite (K .put a)))
+  pub put-other : (a : Entry) → own K′ (put K a) ≡ none
+  put-other a = go (own K′ (put K a)) (rw (own-put K a) at (opposite (put K a)))
     where
-      go : (o : Option B) → true ≡ not (isSome o) → o ≡ none
+      go : (o : Option Entry) → true ≡ not (isSome o) → o ≡ none
       go none t = refl
       go (some b) t = false-true (sym t)
 
-  side-put : (n : ℕ) (a : A) (es : List LogEntry) → side K n (K .put a ∷ es) ≡ place n a ∷ side K n es
-  side-put n a es = rw (K .own-put a)
+  side-put : (n : ℕ) (a : Entry) (es : List LogEntry) → side K n (put K a ∷ es) ≡ place n a ∷ side K n es
+  side-put n a es = rw (own-put K a)
 
   -- the other side does not see which entry of this kind it is
-  side′-put : (a a′ : A) (pre post : List LogEntry) → side K′ 0 (pre ++ K .put a ∷ post) ≡ side K′ 0 (pre ++ K .put a′ ∷ post)
-  side′-put a a′ pre post = rw (side-append K′ 0 pre (K .put a ∷ post), side-append K′ 0 pre (K .put a′ ∷ post), put-other a, put-other a′)
+  side′-put : (a a′ : Entry) (pre post : List LogEntry) → side K′ 0 (pre ++ put K a ∷ post) ≡ side K′ 0 (pre ++ put K a′ ∷ post)
+  side′-put a a′ pre post = rw (side-append K′ 0 pre (put K a ∷ post), side-append K′ 0 pre (put K a′ ∷ post), put-other a, put-other a′)
 
   -- ---- a queued entry, located
 
-  module _ {log : List LogEntry} (pre post : List LogEntry) (it : A) (log-is : log ≡ pre ++ K .put it ∷ post)
-      {gone gone′ : ℕ} {held : List A} {held′ : List B} (w : Window K log gone gone′ held) (w′ : Window K′ log gone′ gone held′)
-      (near : List (Placed A)) (pre-is : side K 0 pre ≡ w .old ++ near) where
-    side-is : (a : A) → side K 0 (pre ++ K .put a ∷ post) ≡ w .old ++ (near ++ place (others K pre) a ∷ side K (others K pre) post)
+  module _ {log : List LogEntry} (pre post : List LogEntry) (it : Entry) (log-is : log ≡ pre ++ put K it ∷ post)
+      {gone gone′ : ℕ} {held held′ : List Entry} (w : Window K log gone gone′ held) (w′ : Window K′ log gone′ gone held′)
+      (near : List Placed) (pre-is : side K 0 pre ≡ w .old ++ near) where
+    side-is : (a : Entry) → side K 0 (pre ++ put K a ∷ post) ≡ w .old ++ (near ++ place (others K pre) a ∷ side K (others K pre) post)
     side-is a =
-        side-append K 0 pre (K .put a ∷ post)
+        side-append K 0 pre (put K a ∷ post)
         ∙ rw (zero-add (others K pre), side-put (others K pre) a post, pre-is)
         (append-assoc (w .old) near (place (others K pre) a ∷ side K (others K pre) post))
 
@@ -142,16 +144,16 @@ module _ {A B : Type 0} (K : LogKind A) (K′ : LogKind B) (opposite : Opposite 
     live-is = append-cancel-left (w .old) (w .live) (near ++ place (others K pre) it ∷ side K (others K pre) post) (sym (w .parts)
         ∙ ap (side K 0) log-is ∙ side-is it)
 
-    held-is : held ≡ map (remembering K gone′) near ++ remembering K gone′ (place (others K pre) it) ∷ map (remembering K gone′) (side K (others K pre) post)
-    held-is = rw (w .shows, live-is) (map-append (remembering K gone′) near (place (others K pre) it ∷ side K (others K pre) post))
+    held-is : held ≡ map (shown gone′) near ++ shown gone′ (place (others K pre) it) ∷ map (shown gone′) (side K (others K pre) post)
+    held-is = rw (w .shows, live-is) (map-append (shown gone′) near (place (others K pre) it ∷ side K (others K pre) post))
 
-    i-is : length (map (remembering K gone′) near) ≡ length near
-    i-is = length-map near (remembering K gone′)
+    i-is : length (map (shown gone′) near) ≡ length near
+    i-is = length-map near (shown gone′)
 
-    located-at : getElem? held (length near) ≡ some (remembering K gone′ (place (others K pre) it))
+    located-at : getElem? held (length near) ≡ some (shown gone′ (place (others K pre) it))
     located-at = rw (held-is, ← i-is)
-        (getElem?-seam (map (remembering K gone′) near) (remembering K gone′ (place (others K pre) it))
-        (map (remembering K gone′) (side K (others K pre) post)))
+        (getElem?-seam (map (shown gone′) near) (shown gone′ (place (others K pre) it))
+        (map (shown gone′) (side K (others K pre) post)))
 
     located-before : Before K (take (length near) held) pre
     located-before = record {
@@ -160,15 +162,15 @@ module _ {A B : Type 0} (K : LogKind A) (K′ : LogKind B) (opposite : Opposite 
       rest = near;
       parts = sym (map-side K 0 pre) ∙ ap (map placedEntry) pre-is ∙ map-append placedEntry (w .old) near;
       ended = w .ended;
-      shows = rw held-is (take-at (map (remembering K gone′) near)
-          (remembering K gone′ (place (others K pre) it) ∷ map (remembering K gone′) (side K (others K pre) post)) (length near) i-is);
+      shows = rw held-is (take-at (map (shown gone′) near)
+          (shown gone′ (place (others K pre) it) ∷ map (shown gone′) (side K (others K pre) post)) (length near) i-is);
     }
 
     -- the other side's entries of the first part
     side′-pre : side K′ 0 pre ≡ take (others K pre) (w′ .old) ++ take (others K pre - gone′) (w′ .live)
     side′-pre =
-        sym (take-at (side K′ 0 pre) (side K′ (0 + others K′ pre) (K .put it ∷ post)) (others K pre) (side-length K′ 0 pre ∙ sym (others-length pre)))
-        ∙ ap (take (others K pre)) (sym (side-append K′ 0 pre (K .put it ∷ post)) ∙ ap (side K′ 0) (sym log-is) ∙ w′ .parts)
+        sym (take-at (side K′ 0 pre) (side K′ (0 + others K′ pre) (put K it ∷ post)) (others K pre) (side-length K′ 0 pre ∙ sym (others-length pre)))
+        ∙ ap (take (others K pre)) (sym (side-append K′ 0 pre (put K it ∷ post)) ∙ ap (side K′ 0) (sym log-is) ∙ w′ .parts)
         ∙ take-append (others K pre) (w′ .old) (w′ .live)
         ∙ ap (λ (k : ℕ). take (others K pre) (w′ .old) ++ take (others K pre - k) (w′ .live)) (w′ .many)
 
@@ -179,21 +181,21 @@ module _ {A B : Type 0} (K : LogKind A) (K′ : LogKind B) (opposite : Opposite 
       rest = take (others K pre - gone′) (w′ .live);
       parts = sym (map-side K′ 0 pre) ∙ ap (map placedEntry) side′-pre
           ∙ map-append placedEntry (take (others K pre) (w′ .old)) (take (others K pre - gone′) (w′ .live));
-      ended = all-take (isOver K′) (others K pre) (w′ .old) (w′ .ended);
-      shows = rw (w′ .shows) (take-map (remembering K′ gone) (others K pre - gone′) (w′ .live));
+      ended = all-take isOver (others K pre) (w′ .old) (w′ .ended);
+      shows = rw (w′ .shows) (take-map (shown gone) (others K pre - gone′) (w′ .live));
     }
 
-    updated : (f : A → A) → ((n : ℕ) (a : A) → f (K .remember n a) ≡ K .remember n (f a))
-        → updateAt f (length (map (remembering K gone′) near))
-        (map (remembering K gone′) near ++ remembering K gone′ (place (others K pre) it) ∷ map (remembering K gone′) (side K (others K pre) post))
-        ≡ map (remembering K gone′) near ++ remembering K gone′ (place (others K pre) (f it)) ∷ map (remembering K gone′) (side K (others K pre) post)
+    updated : (f : Entry → Entry) → ((n : ℕ) (a : Entry) → f (withBefore n a) ≡ withBefore n (f a))
+        → updateAt f (length (map (shown gone′) near))
+        (map (shown gone′) near ++ shown gone′ (place (others K pre) it) ∷ map (shown gone′) (side K (others K pre) post))
+        ≡ map (shown gone′) near ++ shown gone′ (place (others K pre) (f it)) ∷ map (shown gone′) (side K (others K pre) post)
     updated f blind =
-        updateAt-seam f (map (remembering K gone′) near) (remembering K gone′ (place (others K pre) it))
-        (map (remembering K gone′) (side K (others K pre) post))
+        updateAt-seam f (map (shown gone′) near) (shown gone′ (place (others K pre) it))
+        (map (shown gone′) (side K (others K pre) post))
         ∙ rw (blind (others K pre - gone′) it)
 
-    located-anew : (f : A → A) → ((n : ℕ) (a : A) → f (K .remember n a) ≡ K .remember n (f a))
-        → Windows K K′ (pre ++ K .put (f it) ∷ post) (updateAt f (length near) held) held′
+    located-anew : (f : Entry → Entry) → ((n : ℕ) (a : Entry) → f (withBefore n a) ≡ withBefore n (f a))
+        → Windows K K′ (pre ++ put K (f it) ∷ post) (updateAt f (length near) held) held′
     located-anew f blind = record {
       gone = gone;
       gone′ = gone′;
@@ -203,7 +205,7 @@ module _ {A B : Type 0} (K : LogKind A) (K′ : LogKind B) (opposite : Opposite 
         parts = side-is (f it);
         many = w .many;
         ended = w .ended;
-        shows = rw (held-is, map-append (remembering K gone′) near (place (others K pre) (f it) ∷ side K (others K pre) post), ← i-is) (updated f blind);
+        shows = rw (held-is, map-append (shown gone′) near (place (others K pre) (f it) ∷ side K (others K pre) post), ← i-is) (updated f blind);
       };
       theirs = record {
         old = w′ .old;
@@ -226,43 +228,43 @@ module _ {A B : Type 0} (K : LogKind A) (K′ : LogKind B) (opposite : Opposite 
     }
 
   -- the entry at a place of the queue
-  pub locate : {log : List LogEntry} {held : List A} {held′ : List B} → Windows K K′ log held held′ → (i : ℕ) {x : A} → getElem? held i ≡ some x
-      → (pre : List LogEntry) × (it : A) × (post : List LogEntry) × Located K K′ log held held′ i pre it post
-  locate {log} {held} {held′} w i {x} h = at-live (getElem?-map (remembering K (w .gone′)) (w .ours .live) i (rw (w .ours .shows) at h))
+  pub locate : {log : List LogEntry} {held held′ : List Entry} → Windows K K′ log held held′ → (i : ℕ) {x : Entry} → getElem? held i ≡ some x
+      → (pre : List LogEntry) × (it : Entry) × (post : List LogEntry) × Located K K′ log held held′ i pre it post
+  locate {log} {held} {held′} w i {x} h = at-live (getElem?-map (shown (w .gone′)) (w .ours .live) i (rw (w .ours .shows) at h))
     where
-      at-log : (near far : List (Placed A)) (y : Placed A) → w .ours .live ≡ near ++ y ∷ far → length near ≡ i
-          → ((pre post : List LogEntry) × (log ≡ pre ++ K .put (y .entry) ∷ post) × (side K 0 pre ≡ w .ours .old ++ near))
-          → (pre : List LogEntry) × (it : A) × (post : List LogEntry) × Located K K′ log held held′ i pre it post
+      at-log : (near far : List Placed) (y : Placed) → w .ours .live ≡ near ++ y ∷ far → length near ≡ i
+          → ((pre post : List LogEntry) × (log ≡ pre ++ put K (y .entry) ∷ post) × (side K 0 pre ≡ w .ours .old ++ near))
+          → (pre : List LogEntry) × (it : Entry) × (post : List LogEntry) × Located K K′ log held held′ i pre it post
       at-log near far y e l (pre, post, log-is, pre-is) = (pre, y .entry, post, rw l at (located pre post (y .entry) log-is (w .ours) (w .theirs) near pre-is))
 
-      at-place : (y : Placed A) → ((near far : List (Placed A)) × (w .ours .live ≡ near ++ y ∷ far) × (length near ≡ i))
-          → (pre : List LogEntry) × (it : A) × (post : List LogEntry) × Located K K′ log held held′ i pre it post
+      at-place : (y : Placed) → ((near far : List Placed) × (w .ours .live ≡ near ++ y ∷ far) × (length near ≡ i))
+          → (pre : List LogEntry) × (it : Entry) × (post : List LogEntry) × Located K K′ log held held′ i pre it post
       at-place y (near, far, e, l) =
           at-log near far y e l (side-split K 0 log (w .ours .old ++ near) y far (w .ours .parts ∙ rw e (sym (append-assoc (w .ours .old) near (y ∷ far)))))
 
-      at-live : (y : Placed A) × (getElem? (w .ours .live) i ≡ some y) → (pre : List LogEntry) × (it : A) × (post : List LogEntry)
+      at-live : (y : Placed) × (getElem? (w .ours .live) i ≡ some y) → (pre : List LogEntry) × (it : Entry) × (post : List LogEntry)
           × Located K K′ log held held′ i pre it post
       at-live (y, e) = at-place y (getElem?-split (w .ours .live) i e)
 
   -- an unfinished entry of the log has a place in the queue
-  pub unfinished-queued : {log : List LogEntry} {held : List A} {held′ : List B} → Windows K K′ log held held′
-      → (pre : List LogEntry) (it : A) (post : List LogEntry)
-      → log ≡ pre ++ K .put it ∷ post → K .finished it ≡ false → (i : ℕ) × Located K K′ log held held′ i pre it post
+  pub unfinished-queued : {log : List LogEntry} {held held′ : List Entry} → Windows K K′ log held held′
+      → (pre : List LogEntry) (it : Entry) (post : List LogEntry)
+      → log ≡ pre ++ put K it ∷ post → finished it ≡ false → (i : ℕ) × Located K K′ log held held′ i pre it post
   unfinished-queued {log} {held} {held′} w pre it post log-is f =
-      go (failing-behind (isOver K) (side K 0 pre) (place (others K pre) it) (side K (others K pre) post) (w .ours .old) (w .ours .live) parts
+      go (failing-behind isOver (side K 0 pre) (place (others K pre) it) (side K (others K pre) post) (w .ours .old) (w .ours .live) parts
       (w .ours .ended) f)
     where
       parts : side K 0 pre ++ place (others K pre) it ∷ side K (others K pre) post ≡ w .ours .old ++ w .ours .live
-      parts = sym (side-append K 0 pre (K .put it ∷ post) ∙ rw (zero-add (others K pre), side-put (others K pre) it post))
+      parts = sym (side-append K 0 pre (put K it ∷ post) ∙ rw (zero-add (others K pre), side-put (others K pre) it post))
           ∙ ap (side K 0) (sym log-is) ∙ w .ours .parts
 
-      go : (near : List (Placed A)) × (side K 0 pre ≡ w .ours .old ++ near) → (i : ℕ) × Located K K′ log held held′ i pre it post
+      go : (near : List Placed) × (side K 0 pre ≡ w .ours .old ++ near) → (i : ℕ) × Located K K′ log held held′ i pre it post
       go (near, pre-is) = (length near, located pre post it log-is (w .ours) (w .theirs) near pre-is)
 
   -- ---- the whole window
 
   -- all of the log, beside all that is queued
-  pub window-before : {log : List LogEntry} {gone out : ℕ} {held : List A} → Window K log gone out held → Before K held log
+  pub window-before : {log : List LogEntry} {gone out : ℕ} {held : List Entry} → Window K log gone out held → Before K held log
   window-before {log} {out = out} w = record {
     out = out;
     past = w .old;
@@ -273,36 +275,36 @@ module _ {A B : Type 0} (K : LogKind A) (K′ : LogKind B) (opposite : Opposite 
   }
 
   -- of the other side `gone` have left, and the others are queued
-  pub others-queued : (log : List LogEntry) {gone gone′ : ℕ} {held′ : List B} → Window K′ log gone′ gone held′
+  pub others-queued : (log : List LogEntry) {gone gone′ : ℕ} {held′ : List Entry} → Window K′ log gone′ gone held′
       → others K log ≡ gone′ + length held′
   others-queued log {gone} {gone′} {held′} w =
       others-length log ∙ sym (side-length K′ 0 log) ∙ ap length (w .parts) ∙ length-append (w .old) (w .live)
-      ∙ rw (w .many, w .shows, length-map (w .live) (remembering K′ gone))
+      ∙ rw (w .many, w .shows, length-map (w .live) (shown gone))
 
   -- no entry remembers more of the other kind than are held
-  pub remembered-held : (log : List LogEntry) {gone gone′ : ℕ} {held : List A} {held′ : List B} → Window K log gone gone′ held
+  pub remembered-held : (log : List LogEntry) {gone gone′ : ℕ} {held held′ : List Entry} → Window K log gone gone′ held
       → Window K′ log gone′ gone held′
-      → allOf (λ a. leb (K .remembered a) (length held′)) held ≡ true
+      → allOf (λ a. leb (a .before) (length held′)) held ≡ true
   remembered-held log {gone} {gone′} {held} {held′} w w′ =
       rw (w .shows)
-      (all-map (λ a. leb (K .remembered a) (length held′)) (λ x. leb (x .before - gone′) (length held′)) (remembering K gone′)
-      (λ x. rw (K .remembered-remember (x .before - gone′) (x .entry))) (w .live)
+      (all-map (λ a. leb (a .before) (length held′)) (λ x. leb (x .before - gone′) (length held′)) (shown gone′)
+      (λ x. refl) (w .live)
       ∙ all-weaken (λ x. leb (x .before) (others K log)) (λ x. leb (x .before - gone′) (length held′)) lower (w .live)
       (all-right (λ x. leb (x .before) (others K log)) (w .old) (w .live) known))
     where
       known : allOf (λ x. leb (x .before) (others K log)) (w .old ++ w .live) ≡ true
       known = rw (← w .parts, ← zero-add (others K log)) (side-before K 0 log)
 
-      lower : (x : Placed A) → leb (x .before) (others K log) ≡ true → leb (x .before - gone′) (length held′) ≡ true
+      lower : (x : Placed) → leb (x .before) (others K log) ≡ true → leb (x .before - gone′) (length held′) ≡ true
       lower x h =
           let some-are : x .before ≤ others K log = leb-true (x .before) (others K log) h in
           let all-are : others K log ≡ gone′ + length held′ = others-queued log w′ in
           le-leb (x .before - gone′) (length held′) (omega arith)
 
   -- new entries at the end of the log
-  pub window-append : (log : List LogEntry) {gone gone′ : ℕ} {held : List A} {held′ : List B} → Window K log gone gone′ held
+  pub window-append : (log : List LogEntry) {gone gone′ : ℕ} {held held′ : List Entry} → Window K log gone gone′ held
       → Window K′ log gone′ gone held′
-      → (new : List LogEntry) → Window K (log ++ new) gone gone′ (held ++ map (remembering K gone′) (side K (gone′ + length held′) new))
+      → (new : List LogEntry) → Window K (log ++ new) gone gone′ (held ++ map (shown gone′) (side K (gone′ + length held′) new))
   window-append log {gone} {gone′} {held} {held′} w w′ new = record {
     old = w .old;
     live = w .live ++ side K (gone′ + length held′) new;
@@ -310,33 +312,27 @@ module _ {A B : Type 0} (K : LogKind A) (K′ : LogKind B) (opposite : Opposite 
         ∙ rw (zero-add (others K log), others-queued log w′, w .parts) (append-assoc (w .old) (w .live) (side K (gone′ + length held′) new));
     many = w .many;
     ended = w .ended;
-    shows = rw (w .shows) (sym (map-append (remembering K gone′) (w .live) (side K (gone′ + length held′) new)));
+    shows = rw (w .shows) (sym (map-append (shown gone′) (w .live) (side K (gone′ + length held′) new)));
   }
 
   -- finished entries leave this side, and j the other
-  pub window-leave : (leave : ℕ → A → A) → ((j n : ℕ) (a : A) → leave j (K .remember n a) ≡ K .remember (n - j) a)
-      → {log : List LogEntry} {gone out : ℕ} {held : List A} → Window K log gone out held → (j : ℕ)
-      → Window K log (gone + length (frontWhile (K .finished) held)) (out + j) (map (leave j) (afterWhile (K .finished) held))
-  window-leave leave lowers {log} {gone} {out} {held} w j = record {
-    old = w .old ++ frontWhile (isOver K) (w .live);
-    live = afterWhile (isOver K) (w .live);
+  pub window-leave : {log : List LogEntry} {gone out : ℕ} {held : List Entry} → Window K log gone out held → (j : ℕ)
+      → Window K log (gone + retiring held) (out + j) (map (afterRetiring j) (afterWhile finished held))
+  window-leave {log} {gone} {out} {held} w j = record {
+    old = w .old ++ frontWhile isOver (w .live);
+    live = afterWhile isOver (w .live);
     parts =
-        w .parts ∙ ap (λ (l : List (Placed A)). w .old ++ l) (sym (frontWhile-afterWhile (isOver K) (w .live)))
-        ∙ sym (append-assoc (w .old) (frontWhile (isOver K) (w .live)) (afterWhile (isOver K) (w .live)));
+        w .parts ∙ ap (λ (l : List Placed). w .old ++ l) (sym (frontWhile-afterWhile isOver (w .live)))
+        ∙ sym (append-assoc (w .old) (frontWhile isOver (w .live)) (afterWhile isOver (w .live)));
     many =
-        length-append (w .old) (frontWhile (isOver K) (w .live))
-        ∙ rw (
-          w .many,
-          w .shows,
-          length-frontWhile-map (K .finished) (isOver K) (remembering K out)
-              (λ x. K .finished-remember (x .before - out) (x .entry)) (w .live),
-        );
-    ended = all-join (isOver K) (w .old) (frontWhile (isOver K) (w .live)) (w .ended) (all-frontWhile (isOver K) (w .live));
+        length-append (w .old) (frontWhile isOver (w .live))
+        ∙ rw (w .many, w .shows, length-frontWhile-map finished isOver (shown out) (λ x. refl) (w .live));
+    ended = all-join isOver (w .old) (frontWhile isOver (w .live)) (w .ended) (all-frontWhile isOver (w .live));
     shows =
-        rw (w .shows, afterWhile-map (K .finished) (isOver K) (remembering K out) (λ x. K .finished-remember (x .before - out) (x .entry)) (w .live))
-        (map-map (leave j) (remembering K out) (afterWhile (isOver K) (w .live))
-        ∙ map-same (λ x. leave j (remembering K out x)) (remembering K (out + j)) lower (afterWhile (isOver K) (w .live)));
+        rw (w .shows, afterWhile-map finished isOver (shown out) (λ x. refl) (w .live))
+        (map-map (afterRetiring j) (shown out) (afterWhile isOver (w .live))
+        ∙ map-same (λ x. afterRetiring j (shown out x)) (shown (out + j)) lower (afterWhile isOver (w .live)));
   }
     where
-      lower : (x : Placed A) → leave j (remembering K out x) ≡ remembering K (out + j) x
-      lower x = lowers j (x .before - out) (x .entry) ∙ ap (λ (n : ℕ). K .remember n (x .entry)) (omega arith)
+      lower : (x : Placed) → afterRetiring j (shown out x) ≡ shown (out + j) x
+      lower x = ap (λ (n : ℕ). withBefore n (x .entry)) (omega arith)

@@ -14,7 +14,7 @@ use mathlib.Core.Option.{Option, none, some}
 use lib.Dec.{eqb}
 use lib.ListN.{length, getElem?}
 use Rattle.number.specs.Basics.{pick, countWhere}
-use Rattle.table.specs.Group.{GroupPairs, Access, load, store}
+use Rattle.table.specs.Group.{GroupPairs, Access, load, store, isLoad, isStore}
 use Rattle.queue.specs.declared.arguments.Argument.{Argument}
 use Rattle.queue.specs.declared.arguments.Argument.the-variants.{LoadAddress, StoreAddress, StoreData}
 use Rattle.number.specs.Reply.{accept, number}
@@ -66,23 +66,14 @@ writeOf (Write s) = some s
 writeOf (Take p) = none
 writeOf (Ready kind run) = none
 
--- the loads and the stores among accesses
-abbrev pub isLoad : Access → Bool
-isLoad (load p) = true
-isLoad (store p) = false
-
-abbrev pub isStore : Access → Bool
-isStore (load p) = false
-isStore (store p) = true
-
 -- does the access use this kind of argument of this port
 abbrev pub uses : Argument → ℕ → Access → Bool
-uses LoadAddress port (load p) = eqb p port
+uses LoadAddress port (load p) = eqb (p .port) port
 uses LoadAddress port (store p) = false
 uses StoreAddress port (load p) = false
-uses StoreAddress port (store p) = eqb p port
+uses StoreAddress port (store p) = eqb (p .port) port
 uses StoreData port (load p) = false
-uses StoreData port (store p) = eqb p port
+uses StoreData port (store p) = eqb (p .port) port
 
 -- "A load is unserved while accepted serves are fewer than the loads of the accepted activations; a store is unwritten while
 -- accepted writes are fewer than their stores, and every store is written when they are as many."

@@ -83,8 +83,8 @@ OnlyEmpty groups log = Each (λ (group : ℕ). getElem? groups group ≡ some em
 
 -- a queue holds no entry
 pub record NoEntry (q : Contents) : Type 0 where
-  pub loads : q .loads ≡ []
-  pub stores : q .stores ≡ []
+  pub loads : q .loads .entries ≡ []
+  pub stores : q .stores .entries ≡ []
 
 -- "A queue with only empty groups activated since opening holds no entry", whatever other calls were made and however they were
 -- answered. More than that: queue and memory are as they were at the opening, serials included.

@@ -7,3 +7,4 @@ pub mod Records
 pub mod RunsExist
 pub mod RunsOnParts
 pub mod EmptyGroups
+pub mod Sources

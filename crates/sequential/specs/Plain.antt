@@ -17,14 +17,14 @@ pub record Told : Type 0 where
   pub call : Call
   pub accepted : Bool
 
--- What of each accepted call a reading of it picks out, in list order.
+-- What `part` picks out of each accepted call, in list order.
 abbrev pub consOption : {A : Type 0} → Option A → List A → List A
 consOption none rest = rest
 consOption (some a) rest = a ∷ rest
 
 abbrev pub gather : {A : Type 0} → (Call → Option A) → List Told → List A
-gather reading [] = []
-gather reading (t ∷ ts) = pick (t .accepted) (consOption (reading (t .call)) (gather reading ts)) (gather reading ts)
+gather part [] = []
+gather part (t ∷ ts) = pick (t .accepted) (consOption (part (t .call)) (gather part ts)) (gather part ts)
 
 -- the group of an activation
 abbrev pub activationOf : Call → Option ℕ
@@ -91,51 +91,63 @@ nextOf (x ∷ xs) filled = x
 abbrev pub usedUp : Argument → ℕ → Rows → Rows
 usedUp kind port rows k p = pick (sameKind k kind && eqb p port) (tail (rows k p)) (rows k p)
 
+-- What a word of the run's memory is to a reading of the run: `beyond` is read past the memory's end, and a store leaves `put k w`, k
+-- being its number among the run's accesses and w its data.
+pub record Reading (A : Type 0) : Type 0 where
+  pub beyond : A
+  pub put : ℕ → ℕ → A
+
+-- The plain run reads words; specs/Sources.antt reads where they come from.
+abbrev pub wordReading : Reading ℕ
+wordReading = record { beyond = 0; put = λ k w. w }
+
 -- "Its state is then a memory and what is left of the rows."
-pub record PlainState : Type 0 where
-  pub memory : List ℕ
+pub record PlainState (A : Type 0) : Type 0 where
+  pub memory : List A
   pub rows : Rows
 
 -- a value that a port loads
-pub record PortValue : Type 0 where
+pub record PortValue (A : Type 0) : Type 0 where
   pub port : ℕ
-  pub value : ℕ
+  pub value : A
 
--- "A load uses up the next address of its port's row; the memory word there is the next value its port loads."
-abbrev pub loadedAt : PlainState → ℕ → ℕ → ℕ
-loadedAt s port filled = getD (s .memory) (nextOf (s .rows LoadAddress port) filled) 0
-
-abbrev pub afterLoad : PlainState → ℕ → PlainState
+-- "A load uses up the next address of its port's row ..
+abbrev pub afterLoad : {A : Type 0} → PlainState A → ℕ → PlainState A
 afterLoad s port = record { memory = s .memory; rows = usedUp LoadAddress port (s .rows) }
 
--- "A store uses up the next address and the next data of its port's rows and puts the data there."
-abbrev pub afterStore : PlainState → ℕ → ℕ → ℕ → PlainState
-afterStore s port filledAddress filledWord = record {
-  memory = set (s .memory) (nextOf (s .rows StoreAddress port) filledAddress) (nextOf (s .rows StoreData port) filledWord);
-  rows = usedUp StoreData port (usedUp StoreAddress port (s .rows));
-}
+module _ {A : Type 0} (reading : Reading A) (fill : Filling) where
+  -- .. the memory word there is the next value its port loads."
+  abbrev pub loadedAt : ℕ → PlainState A → ℕ → A
+  loadedAt k s port = getD (s .memory) (nextOf (s .rows LoadAddress port) (fill .address k)) (reading .beyond)
 
--- The values loaded, and the memory at the end, of the accesses from the kth on.
-abbrev pub valuesFrom : Filling → ℕ → PlainState → List Access → List PortValue
-valuesFrom fill k s [] = []
-valuesFrom fill k s (load p ∷ rest) = record { port = p; value = loadedAt s p (fill .address k) } ∷ valuesFrom fill (suc k) (afterLoad s p) rest
-valuesFrom fill k s (store p ∷ rest) = valuesFrom fill (suc k) (afterStore s p (fill .address k) (fill .word k)) rest
+  -- "A store uses up the next address and the next data of its port's rows and puts the data there."
+  abbrev pub afterStore : ℕ → PlainState A → ℕ → PlainState A
+  afterStore k s port = record {
+    memory = set (s .memory) (nextOf (s .rows StoreAddress port) (fill .address k)) (reading .put k (nextOf (s .rows StoreData port) (fill .word k)));
+    rows = usedUp StoreData port (usedUp StoreAddress port (s .rows));
+  }
 
-abbrev pub memoryFrom : Filling → ℕ → PlainState → List Access → List ℕ
-memoryFrom fill k s [] = s .memory
-memoryFrom fill k s (load p ∷ rest) = memoryFrom fill (suc k) (afterLoad s p) rest
-memoryFrom fill k s (store p ∷ rest) = memoryFrom fill (suc k) (afterStore s p (fill .address k) (fill .word k)) rest
+  -- The values loaded, and the memory at the end, of the accesses from the kth on.
+  abbrev pub valuesFrom : ℕ → PlainState A → List Access → List (PortValue A)
+  valuesFrom k s [] = []
+  valuesFrom k s (load p ∷ rest) = record { port = p .port; value = loadedAt k s (p .port) } ∷ valuesFrom (suc k) (afterLoad s (p .port)) rest
+  valuesFrom k s (store p ∷ rest) = valuesFrom (suc k) (afterStore k s (p .port)) rest
 
-abbrev pub plainStart : List ℕ → List Told → PlainState
+  abbrev pub memoryFrom : ℕ → PlainState A → List Access → List A
+  memoryFrom k s [] = s .memory
+  memoryFrom k s (load p ∷ rest) = memoryFrom (suc k) (afterLoad s (p .port)) rest
+  memoryFrom k s (store p ∷ rest) = memoryFrom (suc k) (afterStore k s (p .port)) rest
+
+abbrev pub plainStart : {A : Type 0} → List A → List Told → PlainState A
 plainStart memory ts = record { memory = memory; rows = rowsOf ts }
 
 -- The plain run: the values that a port loads, in order, and the memory that it leaves.
-abbrev pub valuesAt : ℕ → List PortValue → List ℕ
+abbrev pub valuesAt : {A : Type 0} → ℕ → List (PortValue A) → List A
 valuesAt port [] = []
 valuesAt port (l ∷ ls) = pick (eqb (l .port) port) (l .value ∷ valuesAt port ls) (valuesAt port ls)
 
 unfoldable pub plainLoads : List GroupPairs → List ℕ → List Told → Filling → ℕ → List ℕ
-plainLoads groups memory ts fill port = valuesAt port (valuesFrom fill 0 (plainStart memory ts) (accesses groups ts))
+plainLoads groups memory ts fill port = valuesAt port (valuesFrom wordReading fill 0 (plainStart memory ts) (accesses groups ts))
 
 unfoldable pub plainMemory : List GroupPairs → List ℕ → List Told → Filling → List ℕ
-plainMemory groups memory ts fill = memoryFrom fill 0 (plainStart memory ts) (accesses groups ts)
+plainMemory groups memory ts fill = memoryFrom wordReading fill 0 (plainStart memory ts) (accesses groups ts)

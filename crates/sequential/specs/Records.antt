@@ -19,16 +19,16 @@ use Rattle.queue.specs.declared.Readied.{Readied}
 use Rattle.queue.specs.declared.opening.OpenedFrame.{OpenedFrame}
 use Rattle.number.specs.Reply.{number}
 use Rattle.queue.specs.Contents.{contentsOf}
+use Rattle.queue.specs.Sound.{sound}
 use Rattle.queue.specs.Open.{openQueue, freshFrame}
 use Rattle.queue.specs.Activate.{activate}
 use Rattle.queue.specs.Arguments.{give}
 use Rattle.queue.specs.Serve.{serve}
 use Rattle.queue.specs.Write.{write}
 use Rattle.queue.specs.Take.{takeRule}
-use Rattle.queue.specs.Outcome.{valueIn, handed, noValue, Moves, Takes, Serves, Writes, Opens, withCounts, withoutCounts}
 use Rattle.queue.specs.Ready.{ready, Readies, Fronts}
+use Rattle.queue.specs.Outcome.{valueIn, handed, noValue, Moves, Takes, Serves, Writes, Opens, withCounts, withoutCounts}
 use Rattle.queue.specs.Parts.{queueOf, answered, OpensFrame}
-use Rattle.queue.specs.Sound.{sound}
 use Rattle.sequential.specs.Calls.{Call, Activate, Give, Serve, Write, Take, Ready}
 use Rattle.sequential.specs.Answers.{Machine, Answered}
 use Rattle.sequential.specs.Plain.{Filling}

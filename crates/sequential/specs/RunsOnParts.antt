@@ -24,8 +24,8 @@ use Rattle.queue.specs.Arguments.{give}
 use Rattle.queue.specs.Serve.{serve}
 use Rattle.queue.specs.Write.{write}
 use Rattle.queue.specs.Take.{takeRule}
-use Rattle.queue.specs.Outcome.{handed, noValue, Moves, Takes, Serves, Writes, withCounts, withoutCounts}
 use Rattle.queue.specs.Ready.{ready, Readies}
+use Rattle.queue.specs.Outcome.{handed, noValue, Moves, Takes, Serves, Writes, withCounts, withoutCounts}
 use Rattle.queue.specs.Parts.{queueOf, onParts, answered, countedOf, readiedOf, OpensFrame}
 use Rattle.sequential.specs.Calls.{Call, Activate, Give, Serve, Write, Take, Ready}
 use Rattle.sequential.specs.Answers.{Answered}

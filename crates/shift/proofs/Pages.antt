@@ -14,13 +14,13 @@ use Rattle.number.specs.Basics.{pick, allOf, flatMap}
 use Rattle.number.specs.Texts.{bytes, digitsUpTo, decimal}
 use Rattle.number.proofs.Both.{and-left, and-right}
 use Rattle.queue.proofs.Lists.{and-both, all-join}
-use Rattle.queue.proofs.SoundLaws.{all-at}
+use Rattle.number.proofs.AllLaws.{all-at}
 use Rattle.sequential.specs.RunsExist.{bitsFit}
 use Rattle.shift.specs.declared.ShiftRecord.{ShiftRecord}
 use Rattle.shift.specs.Record.{takesOf, lastValueOf, StoredRecord}
-use Rattle.shift.specs.Page.{blanks, padLeft, header, footer, portLine, upFrom, ports, pageLines, withLineFeed, valueShown, page}
-use Rattle.shift.specs.Page.{isCharacter, isLine, PagesShaped, columns, FieldsInColumns, TenDigits, lineAt, behindLine, PagesStand}
-use Rattle.shift.specs.Page.{numberFrom, numberIn, PagesReadBack}
+use Rattle.shift.specs.Page.{blanks, padLeft, header, footer, portLine, upFrom, ports, pageLines, withLineFeed, valueShown, page, isCharacter}
+use Rattle.shift.specs.Page.{isLine, PagesShaped, columns, FieldsInColumns, TenDigits, lineAt, behindLine, PagesStand, numberFrom, numberIn}
+use Rattle.shift.specs.Page.{PagesReadBack}
 use Rattle.shift.proofs.DigitLaws.{leftover, decimal-step}
 use Rattle.shift.proofs.PageLaws.{port-wide, number-wide, shown-small, line-wide, line-feed-wide}
 
@@ -205,12 +205,12 @@ between-last top f many bottom =
 -- the numbers of a record as a program holds it
 module _ (r : ShiftRecord) (s : StoredRecord r) (port : ℕ) (low : port < 32) where
   takes-fit : takesOf r port < 2 ^ 32
-  takes-fit = ltb-true (takesOf r port) (2 ^ 32) (all-at (bitsFit 32) (r .takes) (s .takes) port 0 (omega (arith, s .ports)))
+  takes-fit = ltb-true (takesOf r port) (2 ^ 32) (all-at (bitsFit 32) (r .takes) port 0 (s .takes) (omega (arith, s .ports)))
 
   value-fits : valueShown r port < 2 ^ 32
   value-fits =
       shown-small (takesOf r port) (lastValueOf r port)
-      (ltb-true (lastValueOf r port) (2 ^ 32) (all-at (bitsFit 32) (r .values) (s .values) port 0 (omega (arith, s .ports-too))))
+      (ltb-true (lastValueOf r port) (2 ^ 32) (all-at (bitsFit 32) (r .values) port 0 (s .values) (omega (arith, s .ports-too))))
 
 module _ (r : ShiftRecord) where
   -- the line of a port

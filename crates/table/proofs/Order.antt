@@ -1,30 +1,11 @@
 -- A group's program order holds the group's loads and its stores, each in the order of their pairs.
 use Prim.Native.Nat.{ℕ, suc}
-use mathlib.Core.Path.{_≡_, refl, sym, ap, _∙_}
+use mathlib.Core.Path.{_≡_, refl, ap, _∙_}
 use mathlib.Core.Bool.{Bool, true, false}
-use mathlib.Core.List.{List, [], _∷_, _++_, map, map-append, append-nil}
+use mathlib.Core.List.{List, [], _∷_, _++_, map, append-nil}
 use Rattle.table.specs.declared.Pair.{Pair}
 use Rattle.number.specs.Basics.{pick, frontWhile, afterWhile}
-use Rattle.table.specs.Group.{GroupPairs, portOf, Access, load, store, asLoad, beforeStore, orderFrom, order}
-
--- the ports of the loads, of the stores, among accesses
-abbrev pub loadPorts : List Access → List ℕ
-loadPorts [] = []
-loadPorts (load p ∷ rest) = p ∷ loadPorts rest
-loadPorts (store p ∷ rest) = loadPorts rest
-
-abbrev pub storePorts : List Access → List ℕ
-storePorts [] = []
-storePorts (load p ∷ rest) = storePorts rest
-storePorts (store p ∷ rest) = p ∷ storePorts rest
-
-loads-first : (ls : List Pair) (rest : List Access) → loadPorts (map asLoad ls ++ rest) ≡ map portOf ls ++ loadPorts rest
-loads-first [] rest = refl
-loads-first (l ∷ ls) rest = ap (λ (t : List ℕ). l .port ∷ t) (loads-first ls rest)
-
-no-stores-first : (ls : List Pair) (rest : List Access) → storePorts (map asLoad ls ++ rest) ≡ storePorts rest
-no-stores-first [] rest = refl
-no-stores-first (l ∷ ls) rest = no-stores-first ls rest
+use Rattle.table.specs.Group.{GroupPairs, Access, load, store, isLoad, isStore, pairsWhere, beforeStore, orderFrom, order}
 
 pub frontWhile-afterWhile : {A : Type 0} (p : A → Bool) (xs : List A) → frontWhile p xs ++ afterWhile p xs ≡ xs
 frontWhile-afterWhile p [] = refl
@@ -34,22 +15,22 @@ frontWhile-afterWhile {A} p (x ∷ xs) = go (p x) (frontWhile-afterWhile p xs)
     go true h = ap (λ (l : List A). x ∷ l) h
     go false h = refl
 
-loads-from : (j : ℕ) (ls ss : List Pair) → loadPorts (orderFrom j ls ss) ≡ map portOf ls
-loads-from j ls [] = ap loadPorts (sym (append-nil (map asLoad ls))) ∙ loads-first ls [] ∙ append-nil (map portOf ls)
-loads-from j ls (s ∷ ss) =
-    loads-first (frontWhile (beforeStore j) ls) (store (s .port) ∷ orderFrom (suc j) (afterWhile (beforeStore j) ls) ss)
-    ∙ ap (λ (t : List ℕ). map portOf (frontWhile (beforeStore j) ls) ++ t) (loads-from (suc j) (afterWhile (beforeStore j) ls) ss)
-    ∙ sym (map-append portOf (frontWhile (beforeStore j) ls) (afterWhile (beforeStore j) ls))
-    ∙ ap (map portOf) (frontWhile-afterWhile (beforeStore j) ls)
+-- the loads among the accesses are these, and the stores are those
+abbrev Holds : List Access → List Pair → List Pair → Type 0
+Holds accesses loads stores = (pairsWhere isLoad accesses ≡ loads) × (pairsWhere isStore accesses ≡ stores)
 
-stores-from : (j : ℕ) (ls ss : List Pair) → storePorts (orderFrom j ls ss) ≡ map portOf ss
-stores-from j ls [] = ap storePorts (sym (append-nil (map asLoad ls))) ∙ no-stores-first ls []
-stores-from j ls (s ∷ ss) =
-    no-stores-first (frontWhile (beforeStore j) ls) (store (s .port) ∷ orderFrom (suc j) (afterWhile (beforeStore j) ls) ss)
-    ∙ ap (λ (t : List ℕ). s .port ∷ t) (stores-from (suc j) (afterWhile (beforeStore j) ls) ss)
+loads-first : (ls loads stores : List Pair) (rest : List Access) → Holds rest loads stores → Holds (map load ls ++ rest) (ls ++ loads) stores
+loads-first [] loads stores rest h = h
+loads-first (l ∷ ls) loads stores rest h = let (a, b) = loads-first ls loads stores rest h in (ap (λ (t : List Pair). l ∷ t) a, b)
 
-pub order-loads : (g : GroupPairs) → loadPorts (order g) ≡ map portOf (g .loads)
-order-loads g = loads-from 0 (g .loads) (g .stores)
+order-from : (j : ℕ) (ls ss : List Pair) → Holds (orderFrom j ls ss) ls ss
+order-from j ls [] = rw (append-nil ls, append-nil (map load ls)) at (loads-first ls [] [] [] (refl, refl))
+order-from j ls (s ∷ ss) =
+    let after = afterWhile (beforeStore j) ls in
+    let (a, b) = order-from (suc j) after ss in
+    let rest = store s ∷ orderFrom (suc j) after ss in
+    let (c, d) = loads-first (frontWhile (beforeStore j) ls) after (s ∷ ss) rest (a, ap (λ (t : List Pair). s ∷ t) b) in
+    (c ∙ frontWhile-afterWhile (beforeStore j) ls, d)
 
-pub order-stores : (g : GroupPairs) → storePorts (order g) ≡ map portOf (g .stores)
-order-stores g = stores-from 0 (g .loads) (g .stores)
+pub order-pairs : (g : GroupPairs) → (pairsWhere isLoad (order g) ≡ g .loads) × (pairsWhere isStore (order g) ≡ g .stores)
+order-pairs g = order-from 0 (g .loads) (g .stores)

@@ -1,7 +1,7 @@
 -- In a right group the offsets are the numbers that program order gives: a load's counts the stores before it, a store's the
 -- loads before it. So the pairs that are read off the order are the group's own pairs.
 use Prim.Native.Nat.{ℕ, zero, suc, _+_, _≤_, _<_}
-use native.Mathlib.Nat.{le-trans, le-antisymm, not-suc-le-zero, le-of-suc-le-suc, zero-add, add-zero, add-suc, suc-add, add-assoc}
+use native.Mathlib.Nat.{le-trans, le-antisymm, not-suc-le-zero, le-of-suc-le-suc, zero-add, add-zero, suc-add, add-assoc}
 use native.Mathlib.Omega.{arith}
 use mathlib.Core.Path.{_≡_, refl, sym, ap, _∙_}
 use mathlib.Core.Bool.{Bool, true, false}
@@ -12,11 +12,13 @@ use borrow.Author.Tests.{le-leb, lt-leb, leb-true, leb-false, eqb-true}
 use Rattle.table.specs.declared.Pair.{Pair}
 use Rattle.number.specs.Basics.{pick, countWhere, frontWhile, afterWhile}
 use Rattle.number.specs.Reply.{passed}
-use Rattle.table.specs.Group.{GroupPairs, blankPair, Access, store, asLoad, beforeStore, orderFrom, order, loadPairs, storePairs}
-use Rattle.table.specs.Table.{loadRule, storeRule, checkPairs, Seen, noneSeen, seenAfter, checkGroup, checkGroups, checkTable, OffsetsCountOrder}
+use Rattle.table.specs.Group.{GroupPairs, blankPair, Access, load, store, isLoad, isStore, pairsWhere, beforeStore, orderFrom, order, atOffset}
+use Rattle.table.specs.Group.{offsetsCounted, countedPairs}
+use Rattle.table.specs.Table.{loadRule, storeRule, checkPairs, Seen, noneSeen, seenAfter, checkGroup, checkGroups, checkTable}
+use Rattle.table.specs.Table.{OffsetsCountOrder}
 use Rattle.number.proofs.Both.{and-left, and-right}
 use Rattle.table.proofs.CheckLaws.{count-most, pairs-passed, group-passed, groups-passed, table-passed}
-use Rattle.table.proofs.Order.{frontWhile-afterWhile}
+use Rattle.table.proofs.Order.{order-pairs}
 
 -- ---- loads
 
@@ -28,14 +30,6 @@ Between low top (p ∷ ps) = (low ≤ p .offset) × (p .offset ≤ top) × Betwe
 lower : (low low′ top : ℕ) (ls : List Pair) → low′ ≤ low → Between low top ls → Between low′ top ls
 lower low low′ top [] h b = tt
 lower low low′ top (p ∷ ps) h b = (le-trans h (b .0), b .1, b .2)
-
--- loads before the next store, among those that no store before has passed: their offset is the number of those stores
-loads-first : (j : ℕ) (ls : List Pair) (rest : List Access) → Between j j ls → loadPairs j (map asLoad ls ++ rest) ≡ ls ++ loadPairs j rest
-loads-first j [] rest b = refl
-loads-first j (l ∷ ls) rest b =
-    let e : l .offset ≡ j = le-antisymm (b .1) (b .0) in
-    ap (λ (t : List Pair). record { offset = j; port = l .port } ∷ t) (loads-first j ls rest (lower (l .offset) j j ls (b .0) (b .2)))
-    ∙ ap (λ (o : ℕ). record { offset = o; port = l .port } ∷ (ls ++ loadPairs j rest)) (sym e)
 
 between-while : (j low top : ℕ) (ls : List Pair) → j ≤ low → Between low top ls → Between j j (frontWhile (beforeStore j) ls)
 between-while j low top [] h b = tt
@@ -54,19 +48,6 @@ between-rest j low top (p ∷ ps) b = go (leb (p .offset) j) refl (between-rest 
         → Between (suc j) top (pick t (afterWhile (beforeStore j) ps) (p ∷ ps))
     go true e r = r
     go false e r = (leb-false (p .offset) j e, b .1, b .2)
-
-loads-from : (j : ℕ) (ls ss : List Pair) → Between j (j + length ss) ls → loadPairs j (orderFrom j ls ss) ≡ ls
-loads-from j ls [] b =
-    let b′ : Between j j ls = rw add-zero at b in
-    ap (loadPairs j) (sym (append-nil (map asLoad ls))) ∙ loads-first j ls [] b′ ∙ append-nil ls
-loads-from j ls (s ∷ ss) b =
-    let e : j + suc (length ss) ≡ suc j + length ss = omega arith in
-    let b′ : Between j (suc j + length ss) ls = rw e at b in
-    loads-first j (frontWhile (beforeStore j) ls) (store (s .port) ∷ orderFrom (suc j) (afterWhile (beforeStore j) ls) ss)
-    (between-while j j (suc j + length ss) ls (omega arith) b′)
-    ∙ ap (λ (t : List Pair). frontWhile (beforeStore j) ls ++ t)
-    (loads-from (suc j) (afterWhile (beforeStore j) ls) ss (between-rest j j (suc j + length ss) ls b′))
-    ∙ frontWhile-afterWhile (beforeStore j) ls
 
 -- ---- stores
 
@@ -108,20 +89,31 @@ agree-on passed j i ls (s ∷ ss) h a = (
   agree-on passed j (suc i) ls ss (omega arith) (a .1),
 )
 
-no-stores-first : (k : ℕ) (ls : List Pair) (rest : List Access) → storePairs k (map asLoad ls ++ rest) ≡ storePairs (k + length ls) rest
-no-stores-first k [] rest = rw add-zero
-no-stores-first k (l ∷ ls) rest = no-stores-first (suc k) ls rest ∙ rw (suc-add, add-suc)
+-- ---- both
 
-stores-from : (k j low top : ℕ) (ls ss : List Pair) → Between low top ls → Agree k j ls ss → storePairs k (orderFrom j ls ss) ≡ ss
-stores-from k j low top ls [] b a = ap (storePairs k) (sym (append-nil (map asLoad ls))) ∙ no-stores-first k ls []
-stores-from k j low top ls (s ∷ ss) b a =
-    let n = length (frontWhile (beforeStore j) ls) in
-    let e : s .offset ≡ k + n = a .0 ∙ ap (λ (m : ℕ). k + m) (count-here j low top ls b) in
-    no-stores-first k (frontWhile (beforeStore j) ls) (store (s .port) ∷ orderFrom (suc j) (afterWhile (beforeStore j) ls) ss)
-    ∙ ap (λ (t : List Pair). record { offset = k + n; port = s .port } ∷ t)
-    (stores-from (k + n) (suc j) (suc j) top (afterWhile (beforeStore j) ls) ss (between-rest j low top ls b)
-    (agree-on k j (suc j) ls ss (omega arith) (a .1)))
-    ∙ ap (λ (o : ℕ). record { offset = o; port = s .port } ∷ ss) (sym e)
+-- loads before the next store, among those that no store before has passed: their offset is the number of those stores
+loads-first : (k j : ℕ) (ls : List Pair) (rest : List Access) → Between j j ls
+    → offsetsCounted k j (map load ls ++ rest) ≡ map load ls ++ offsetsCounted (k + length ls) j rest
+loads-first k j [] rest b = rw add-zero
+loads-first k j (l ∷ ls) rest b =
+    let e : j ≡ l .offset = le-antisymm (b .0) (b .1) in
+    let more : suc k + length ls ≡ k + suc (length ls) = omega arith in
+    ap (λ (n : ℕ). load (atOffset n l) ∷ offsetsCounted (suc k) j (map load ls ++ rest)) e
+    ∙ ap (λ (t : List Access). load l ∷ t) (loads-first (suc k) j ls rest (lower (l .offset) j j ls (b .0) (b .2)))
+    ∙ ap (λ (n : ℕ). load l ∷ map load ls ++ offsetsCounted n j rest) more
+
+order-counted : (k j : ℕ) (ls ss : List Pair) → Between j (j + length ss) ls → Agree k j ls ss → offsetsCounted k j (orderFrom j ls ss) ≡ orderFrom j ls ss
+order-counted k j ls [] b a = let b′ : Between j j ls = rw add-zero at b in rw append-nil at (loads-first k j ls [] b′)
+order-counted k j ls (s ∷ ss) b a =
+    let e : j + suc (length ss) ≡ suc j + length ss = omega arith in
+    let b′ : Between j (suc j + length ss) ls = rw e at b in
+    let front = frontWhile (beforeStore j) ls in
+    let after = afterWhile (beforeStore j) ls in
+    let here : k + length front ≡ s .offset = sym (a .0 ∙ ap (λ (m : ℕ). k + m) (count-here j j (suc j + length ss) ls b′)) in
+    loads-first k j front (store s ∷ orderFrom (suc j) after ss) (between-while j j (suc j + length ss) ls (omega arith) b′)
+    ∙ ap (λ (t : List Access). map load front ++ store (atOffset (k + length front) s) ∷ t)
+    (order-counted (k + length front) (suc j) after ss (between-rest j j (suc j + length ss) ls b′) (agree-on k j (suc j) ls ss (omega arith) (a .1)))
+    ∙ ap (λ (n : ℕ). map load front ++ store (atOffset n s) ∷ orderFrom (suc j) after ss) here
 
 -- ---- from the check
 
@@ -166,14 +158,15 @@ pub record GroupRight (g : GroupPairs) : Type 0 where
   pub store-offset : (i : ℕ) → i < length (g .stores) → getD (g .stores) i blankPair .offset ≤ 16
   pub load-port : (i : ℕ) → i < length (g .loads) → getD (g .loads) i blankPair .port ≤ 31
   pub store-port : (i : ℕ) → i < length (g .stores) → getD (g .stores) i blankPair .port ≤ 31
-  pub loads-are : loadPairs 0 (order g) ≡ g .loads
-  pub stores-are : storePairs 0 (order g) ≡ g .stores
+  pub loads-are : countedPairs isLoad 0 0 (order g) ≡ g .loads
+  pub stores-are : countedPairs isStore 0 0 (order g) ≡ g .stores
 
 right-group : (seen : Seen) (g : GroupPairs) → checkGroup seen g ≡ passed → GroupRight g
 right-group seen g e =
     let (few, fewer, ls, ss) = group-passed seen g e in
     let between : Between 0 (length (g .stores)) (g .loads) = loads-checked (length (g .stores)) 0 0 (seen .loads) (g .loads) ls in
     let agree : Agree 0 0 (g .loads) (g .stores) = stores-checked (g .loads) 0 0 (seen .stores) (g .stores) ss in
+    let e : offsetsCounted 0 0 (order g) ≡ order g = order-counted 0 0 (g .loads) (g .stores) (rw (zero-add (length (g .stores))) between) agree in
     record {
       few-loads = few;
       few-stores = fewer;
@@ -181,8 +174,8 @@ right-group seen g e =
       store-offset = λ i h. le-trans (agree-at 0 (g .loads) (g .stores) agree i h) few;
       load-port = ports-checked (loadRule (length (g .stores))) 0 0 (seen .loads) (g .loads) ls;
       store-port = ports-checked (storeRule (g .loads)) 0 0 (seen .stores) (g .stores) ss;
-      loads-are = loads-from 0 (g .loads) (g .stores) (rw (zero-add (length (g .stores))) between);
-      stores-are = stores-from 0 0 0 (length (g .stores)) (g .loads) (g .stores) between agree;
+      loads-are = ap (pairsWhere isLoad) e ∙ order-pairs g .0;
+      stores-are = ap (pairsWhere isStore) e ∙ order-pairs g .1;
     }
 
 groups-right : (seen : Seen) (gs : List GroupPairs) → checkGroups seen gs ≡ passed → (i : ℕ) (d : GroupPairs) → i < length gs

@@ -15,14 +15,13 @@ use Rattle.table.specs.declared.read.GroupRead.{GroupRead}
 use Rattle.number.specs.Refusal.{badCounts}
 use Rattle.number.specs.Reply.{Reply, refuse, accept, need, andThen, passed}
 use Rattle.number.specs.Number.{Got, got, thenRead, readNumber, placeOf, reading, readIn, before}
-use Rattle.table.specs.Packed.{pairIn, packedPair, SmallPair}
+use Rattle.table.specs.Packed.{pair, pairIn, packedPair, SmallPair}
 use Rattle.table.specs.Group.{GroupPairs}
 use Rattle.table.specs.Table.{loadRule, storeRule, checkPair, seeing, countsRight, Seen, noneSeen, seenAfter, checkGroup}
-use Rattle.table.specs.TableBytes.{pair, readPairs, readGroup, readGroups, pack}
+use Rattle.table.specs.TableBytes.{readPairs, readGroup, readGroups, pack}
 use Rattle.table.specs.Internal.{Two, twoNumbers, readTwo, Finds, Tells, seenOf, pairsIn, packPairs, GroupFound, Growing, Grown}
 use Rattle.number.proofs.ReplyLaws.{thenRead-accepts, refusesAmong, thenRead-among, notZero}
-use Rattle.number.proofs.RoundTrip.{NumberGot, number-got}
-use Rattle.number.proofs.RoundTrip.{number-among}
+use Rattle.number.proofs.RoundTrip.{NumberGot, number-got, number-among}
 use Rattle.table.proofs.PackedLaws.{pairs-read-back, map-append}
 use Rattle.number.proofs.HeldLaws.{held-few}
 use Rattle.table.proofs.PackLaws.{Marks, marks-none, marks-room, marks-more, Packed, packed-none, packed-more}

@@ -13,12 +13,12 @@ use borrow.Author.Tests.{leb-true, le-leb, eqb-true, eqb-false, eq-eqb, ne-eqb}
 use Rattle.table.specs.declared.Pair.{Pair}
 use Rattle.number.specs.Basics.{anyOf, countWhere}
 use Rattle.number.specs.Reply.{passed}
-use Rattle.table.specs.Group.{GroupPairs, blankPair, portOf, beforeStore}
-use Rattle.table.specs.Table.{loadRule, storeRule, checkPairs, seeing, countsRight}
-use Rattle.table.specs.Table.{Seen, noneSeen, seenAfter, checkGroup, checkGroups, checkTable}
+use Rattle.table.specs.Group.{GroupPairs, blankPair, beforeStore}
+use Rattle.table.specs.Table.{loadRule, storeRule, checkPairs, seeing, countsRight, Seen, noneSeen, seenAfter, checkGroup, checkGroups}
+use Rattle.table.specs.Table.{checkTable}
 use Rattle.table.specs.TableBytes.{loadsIn, storesIn}
-use Rattle.table.specs.RightTables.{Each, Distinct, NeverFall, offsetOf, RightTable, RightTables}
-use Rattle.table.specs.RightTables.{CountsWithin, LoadsNeverFall, LoadsWithin, StoresAgree}
+use Rattle.table.specs.RightTables.{Each, Distinct, NeverFall, offsetOf, portOf, RightTable, RightTables, CountsWithin, LoadsNeverFall}
+use Rattle.table.specs.RightTables.{LoadsWithin, StoresAgree}
 use Rattle.number.proofs.Both.{and-left, and-right}
 use Rattle.table.proofs.CheckLaws.{pairs-passed, group-passed, group-pass, groups-passed, table-passed, table-pass}
 
@@ -113,7 +113,7 @@ differs-unmarked n [] d = refl
 differs-unmarked n (m ∷ done) d = rw (ne-eqb n m (d .0)) (differs-unmarked n done (d .1))
 
 -- ---- pairs of one kind, whatever the rule for their offsets
-abbrev Offsets : (ℕ → ℕ → ℕ → Bool) → ℕ → ℕ → List Pair → Type 0
+abbrev pub Offsets : (ℕ → ℕ → ℕ → Bool) → ℕ → ℕ → List Pair → Type 0
 Offsets rule low i [] = Unit {0}
 Offsets rule low i (p ∷ ps) = (rule low i (p .offset) ≡ true) × Offsets rule (p .offset) (suc i) ps
 
@@ -143,7 +143,7 @@ marked-after marks done [] w f = w
 marked-after marks done (p ∷ ps) w f = marked-after (set marks (p .port) true) (p .port ∷ done) ps (marked-more (f .0) w) (f .2)
 
 -- ---- offsets
-loads-rise : (stores low i : ℕ) (ls : List Pair) → Offsets (loadRule stores) low i ls →
+pub loads-rise : (stores low i : ℕ) (ls : List Pair) → Offsets (loadRule stores) low i ls →
     Each (λ (o : ℕ). low ≤ o) (map offsetOf ls) × NeverFall (map offsetOf ls) × Each (λ (o : ℕ). o ≤ stores) (map offsetOf ls)
 loads-rise stores low i [] o = (tt, tt, tt)
 loads-rise stores low i (l ∷ ls) o =
@@ -166,7 +166,7 @@ each-above (n ∷ ns) = (omega arith, each-above ns)
 abbrev Agreeing : List Pair → ℕ → List Pair → Type 0
 Agreeing loads i ss = (j : ℕ) → j < length ss → getD ss j blankPair .offset ≡ countWhere (beforeStore (i + j)) loads
 
-stores-count : (loads : List Pair) (low i : ℕ) (ss : List Pair) → Offsets (storeRule loads) low i ss → Agreeing loads i ss
+pub stores-count : (loads : List Pair) (low i : ℕ) (ss : List Pair) → Offsets (storeRule loads) low i ss → Agreeing loads i ss
 stores-count loads low i [] o j h = absurd (omega arith)
 stores-count loads low i (s ∷ ss) o zero h = rw add-zero (eqb-true (s .offset) (countWhere (beforeStore i) loads) (o .0))
 stores-count loads low i (s ∷ ss) o (suc j) h = rw (add-suc, ← suc-add) (stores-count loads (s .offset) (suc i) ss (o .1) j (omega arith))

@@ -5,9 +5,13 @@ use Rattle.table.specs.declared.Pair.{Pair}
 use Rattle.table.specs.declared.Span.{Span}
 use Rattle.table.specs.declared.Group.{Group}
 
+-- Every pair is built by this.
+abbrev pub pair : ℕ → ℕ → Pair
+pair offset port = record { offset = offset; port = port }
+
 -- what a number holds: the offset in its lowest eight bits, the port in the next eight
 unfoldable pub pairIn : ℕ → Pair
-pairIn n = record { offset = n % 256; port = n / 256 % 256 }
+pairIn n = pair (n % 256) (n / 256 % 256)
 
 -- the number that holds a pair
 unfoldable pub packedPair : Pair → ℕ

@@ -8,7 +8,7 @@ use lib.ListN.{length, getD}
 use Rattle.table.specs.declared.Pair.{Pair}
 use Rattle.number.specs.Basics.{countWhere}
 use Rattle.number.specs.Reply.{passed}
-use Rattle.table.specs.Group.{GroupPairs, blankPair, portOf, beforeStore}
+use Rattle.table.specs.Group.{GroupPairs, blankPair, beforeStore}
 use Rattle.table.specs.Table.{checkTable}
 use Rattle.table.specs.TableBytes.{loadsIn, storesIn}
 
@@ -29,6 +29,9 @@ NeverFall (n ∷ ns) = Each (λ (m : ℕ). n ≤ m) ns × NeverFall ns
 
 abbrev pub offsetOf : Pair → ℕ
 offsetOf p = p .offset
+
+abbrev pub portOf : Pair → ℕ
+portOf p = p .port
 
 -- each count is 0 to 16
 abbrev pub CountsWithin : GroupPairs → Type 0

@@ -14,7 +14,7 @@ use Rattle.number.specs.Basics.{pick, held, countWhere, within}
 use Rattle.number.specs.Reply.{Reply, need, number, passed, both}
 use Rattle.number.specs.Refusal.{badGroupCount, badCounts, badOffset, badPort, portSeen}
 use Rattle.table.specs.Packed.{groupIn}
-use Rattle.table.specs.Group.{GroupPairs, pairsOf, beforeStore, order, loadPairs, storePairs}
+use Rattle.table.specs.Group.{GroupPairs, pairsOf, isLoad, isStore, beforeStore, order, countedPairs}
 
 -- `count` accesses from the place `first` on. A span that runs past the 32 places stands for 17, more than a group may have: a
 -- record with such a group is never right, since it meets 5 (`GroupsWithinPlaces`). No access is none, wherever it stands.
@@ -127,4 +127,4 @@ GroupsWithinPlaces =
 abbrev pub OffsetsCountOrder : Type 0
 OffsetsCountOrder =
     (gs : List GroupPairs) → checkTable gs ≡ passed → (i : ℕ) (d : GroupPairs) → i < length gs →
-    (loadPairs 0 (order (getD gs i d)) ≡ getD gs i d .loads) × (storePairs 0 (order (getD gs i d)) ≡ getD gs i d .stores)
+    (countedPairs isLoad 0 0 (order (getD gs i d)) ≡ getD gs i d .loads) × (countedPairs isStore 0 0 (order (getD gs i d)) ≡ getD gs i d .stores)

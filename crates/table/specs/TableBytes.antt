@@ -13,12 +13,9 @@ use Rattle.number.specs.Basics.{flatMap, within}
 use Rattle.number.specs.Refusal.{badFields, badGroupCount, badCounts, leftOver}
 use Rattle.number.specs.Reply.{Reply, refuse, accept, need, andThen}
 use Rattle.number.specs.Number.{Got, got, thenRead, readNumber, bytesOf, Wrote, wroteIf, before}
-use Rattle.table.specs.Packed.{packedPair, packedGroup}
+use Rattle.table.specs.Packed.{pair, packedPair, packedGroup}
 use Rattle.table.specs.Group.{GroupPairs}
 use Rattle.table.specs.Table.{loadRule, storeRule, checkPair, countsRight, Seen, noneSeen, seenAfter, checkTable}
-
-abbrev pub pair : ℕ → ℕ → Pair
-pair offset port = record { offset = offset; port = port }
 
 -- n pairs of one kind, from the ith on: each is read whole, and then 8, 6, 7
 unfoldable pub readPairs : (ℕ → ℕ → ℕ → Bool) → ℕ → ℕ → ℕ → List Bool → List ℕ → Reply (Got (List Pair))

@@ -50,8 +50,8 @@ use Rattle.counts.proofs.Counts as N
 use Rattle.counts.proofs.Counts.Laws as N′
 use Rattle.queue.proofs.Leave.{leaves}
 use Rattle.queue.specs.Contents.{contentsOf}
-use Rattle.queue.specs.Serve as rule
 use Rattle.queue.specs.Outcome.{Serves, withoutCounts}
+use Rattle.queue.specs.Serve as rule
 use Rattle.queue.specs.declared.Queue.{Queue}
 use Rattle.queue.specs.declared.Counted.{Counted}
 use Rattle.queue.proofs.Queue as Q

@@ -2,8 +2,12 @@
 use Prim.Native.Nat.{_<_}
 use mathlib.Core.Path.{_≡_, refl, sym, ap, _∙_}
 use mathlib.Core.Bool.{true}
+use Rattle.queue.specs.declared.Kind.the-variants as Kind
+use Rattle.queue.specs.Contents.{contentsOf}
+use Rattle.queue.specs.Activate.{room, withGroup, activate}
 use Rattle.queue.specs.Outcome.{Handed, handed}
 use Rattle.queue.specs.Parts.{frameOf, queueOf, outcomeOf}
+use Rattle.queue.specs.Internal.{PairsFit}
 use Rattle.queue.proofs.PartsLaws.{PartsFit, fit, unfit}
 use borrow.Author.Needs.{needs}
 use borrow.Author.Tests.{not-true, not-false}
@@ -14,12 +18,9 @@ use Rattle.queue.specs.declared.Frame.{Frame}
 use Rattle.queue.specs.declared.Queue.{Queue}
 use mathlib.Core.Option.{none}
 use Rattle.queue.specs.declared.answering.Step.{Step}
-use Rattle.queue.specs.Contents.{contentsOf}
 use Rattle.number.specs.Refusal.{noPlace}
 use Rattle.number.specs.Reply.{accept, need}
-use Rattle.queue.specs.Activate.{room, withGroup, activate}
-use Rattle.queue.specs.Internal.{PairsFit}
-use Rattle.queue.proofs.SoundLaws.{table-right, loads-few, stores-few}
+use Rattle.queue.proofs.SoundLaws.{table-right, count-most}
 use Rattle.queue.proofs.GroupLaws.{groups-few, group-right}
 use Rattle.queue.proofs.ActivateLaws.{with-group-is, room-record, appended-both, group-fits, activate-unsound, activate-no-group, activate-group}
 use Rattle.queue.proofs.activation.activate_in.Statement.{statement}
@@ -111,14 +112,14 @@ append-requires c κs =
     let e = c .before .before .before in
     let g = chosen (e .before) in
     let s = begun g in
-    (fits e .0, stores-few (queueIn s) (good (checked g) .right), good (checked g) .loads-whole)
+    (fits e .0, count-most (queueIn s) (good (checked g) .right) Kind.Store, good (checked g) .loads-whole)
 
 append-requires-2 : tie.Need-append-requires-2
 append-requires-2 c κs =
     let e = c .before .before .before .before .before .before .before in
     let g = chosen (e .before) in
     let s = begun g in
-    (fits e .1, loads-few (queueIn s) (good (checked g) .right), good (checked g) .stores-whole)
+    (fits e .1, count-most (queueIn s) (good (checked g) .right) Kind.Load, good (checked g) .stores-whole)
 
 longer-requires : tie.Need-longer-requires
 longer-requires c κs = fits (c .before .before .before .before .before .before .before .before .before .before) .0 .room

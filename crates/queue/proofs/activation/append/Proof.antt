@@ -1,6 +1,6 @@
 -- The entries are those held, and behind them the group's first j.
 use Prim.Native.Nat.{ℕ, _+_, _≤_, _<_, _-_}
-use mathlib.Core.Path.{_≡_, sym, _∙_, refl}
+use mathlib.Core.Path.{_≡_, sym, ap, _∙_, refl}
 use mathlib.Core.List.{List}
 use native.Mathlib.Omega.{arith}
 use lib.ListN.{length, getD, take, length-set}
@@ -9,22 +9,22 @@ use borrow.Author.Needs.{needs}
 use Rattle.table.specs.declared.Pair.{Pair}
 use Rattle.table.specs.Group.{blankPair, listOf}
 use Rattle.table.proofs.CheckLaws.{view-length, view-at}
-use Rattle.queue.specs.Entry.{entryOf, numberOf}
-use Rattle.queue.specs.Internal.{entryAfter}
+use Rattle.queue.specs.Entry.{entryOf, entryIn, numberOf}
+use Rattle.queue.specs.Internal.{entryAfter, structAfter}
 use Rattle.queue.proofs.EntryLaws.{entry-number}
-use Rattle.queue.proofs.AppendLaws.{Pasted, pasted-none, pasted-more, side-appended}
+use Rattle.queue.proofs.AppendLaws.{Pasted, pasted-none, pasted-more, mapped-appended}
 use Rattle.queue.proofs.activation.append.Statement.{statement}
 use Rattle.queue.proofs.activation.append.Tie as tie
 
 -- the number of a pair's entry, where `others` of the other kind are held
 abbrev numberAfter : ℕ → Pair → ℕ
-numberAfter others p = numberOf (entryAfter others p)
+numberAfter others p = numberOf (structAfter others p)
 
 -- it has room for the entry
-after-number : (others : ℕ) (p : Pair) → others ≤ 64 → p .port < 32 → p .offset ≤ 16 → entryOf (numberAfter others p) ≡ entryAfter others p
+after-number : (others : ℕ) (p : Pair) → others ≤ 64 → p .port < 32 → p .offset ≤ 16 → entryIn (numberAfter others p) ≡ entryAfter others p
 after-number others p few port offset =
     let before : others + p .offset < 256 = omega arith in
-    entry-number (entryAfter others p) (record { port = port; before = before; address = omega arith; word = omega arith })
+    ap entryOf (entry-number (structAfter others p) (record { port = port; before = before; address = omega arith; word = omega arith }))
 
 abbrev Inv-loop : tie.InvT-loop
 Inv-loop entries₀ held places others start more first j₀ entries j =
@@ -62,7 +62,7 @@ offset-few u =
 
 -- and its number has room for all of it
 fits : (s : tie.Start Inv-loop μ-loop) (i : ℕ) → i < s .args .pairs .count → let p = getD (listed s) i blankPair in
-    entryOf (numberAfter (s .args .others) p) ≡ entryAfter (s .args .others) p
+    entryIn (numberAfter (s .args .others) p) ≡ entryAfter (s .args .others) p
 fits s i k = after-number (s .args .others) _ (s .pre .1) (s .pre .0 .ports i k) (s .pre .0 .offsets i k)
 
 loop-holds : tie.Need-loop-holds Inv-loop μ-loop
@@ -125,7 +125,7 @@ returns c =
     let n = s .args .pairs .count in
     let all : take n (listed s) ≡ listed s = take-all n (listed s) (omega (arith, view-length (s .args .places .now) (s .args .pairs))) in
     record {
-      holds = rw all at (side-appended entryOf 0 (numberAfter (s .args .others)) (entryAfter (s .args .others)) blankPair (i .1) n
+      holds = rw all at (mapped-appended entryIn 0 (numberAfter (s .args .others)) (entryAfter (s .args .others)) blankPair (i .1) n
           (omega (arith, i .0, c .loop-test .left)) (omega (arith, s .pre .2, s .pre .0 .room)) (left s) (fits s));
     }
 

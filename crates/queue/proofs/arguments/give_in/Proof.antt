@@ -1,5 +1,5 @@
 -- Each test that is left behind is a step of the rule; the test that fails is its refusal.
-use Prim.Native.Nat.{_≤_, _<_}
+use Prim.Native.Nat.{_≤_}
 use mathlib.Core.Path.{_≡_, sym, ap, subst, _∙_}
 use mathlib.Core.Bool.{Bool, true, _&&_}
 use lib.ListN.{length}
@@ -9,9 +9,8 @@ use Rattle.table.specs.Table.{groupsOf}
 use Rattle.queue.specs.declared.Kind.{Kind}
 use Rattle.queue.specs.declared.Frame.{Frame}
 use Rattle.queue.specs.declared.Queue.{Queue}
-use Rattle.queue.specs.declared.Side.{Side}
-use Rattle.queue.specs.Contents.{ofKind}
-use Rattle.queue.specs.Contents.{contentsOf}
+use Rattle.queue.specs.declared.Side.{Side as SideStruct}
+use Rattle.queue.specs.Contents.{ofKind, contentsOf}
 use Rattle.queue.specs.Sound.{sound}
 use Rattle.queue.specs.Arguments.{kindOf, namesPort, inRange, give}
 use Rattle.queue.specs.Parts.{frameOf, queueOfKind, whole}
@@ -31,9 +30,6 @@ queue s = queueOfKind (kindOf (s .args .argument)) (frame s) (s .args .own-entri
 
 abbrev start : tie.After-sound-of → tie.Start
 start c = c .before .before .before .before .before
-
-small-number : (s : tie.Start) → s .args .number < 4294967296
-small-number s = search needs
 
 -- the parts by a kind are a queue's, and a sound one
 abbrev soundBy : tie.Start → Kind → Bool
@@ -70,7 +66,7 @@ fits-entry c =
     in-range-most (a .argument) (a .outline .«memory_length») (a .number) (words-most (queue (sure p)) (good (p .before) .right)) (ranged c)
 
 -- the side of the argument's kind
-abbrev sideBy : tie.Start → Kind → Side
+abbrev sideBy : tie.Start → Kind → SideStruct
 sideBy s kind = ofKind kind (frame s .loads) (frame s .stores)
 
 side : (c : tie.After-side-of) → let s = sure (c .before .before .before .before) in c .side-of .result ≡ sideBy s (kindOf (s .args .argument))
@@ -110,7 +106,7 @@ give-oldest-requires : tie.Need-give-oldest-requires
 give-oldest-requires c κs =
     let d = c .before in
     let p = d .before .before .before .before in
-    (subst (λ (x : Side). x .count ≤ length (sure p .args .own-entries .now)) (sym (side d)) (room p), fits-entry (d .before))
+    (subst (λ (x : SideStruct). x .count ≤ length (sure p .args .own-entries .now)) (sym (side d)) (room p), fits-entry (d .before))
 
 returns-4 : tie.Need-returns-4
 returns-4 c =
@@ -121,7 +117,7 @@ returns-4 c =
     let p = e .before in
     let a = sure p .args in
     rw (good (p .before) .full, give-record (a .argument) (queue (sure p)) (a .port) (a .number), good (p .before) .right, port e, ranged r)
-    (gives (a .argument) (frame (sure p)) (a .own-entries .now) (a .other-entries .now) (small-number (sure p)) (fits-entry r)
+    (gives (a .argument) (frame (sure p)) (a .own-entries .now) (a .other-entries .now)
     (room p) (rw (side d) at (g .give-oldest .ensures)))
 
 pub give-in-spec : {M : Type 1} → statement M

@@ -1,10 +1,14 @@
-use mathlib.Core.Path.{_≡_, ap, _∙_}
+use native.Mathlib.Omega.{arith}
+use lib.ListN.{getD}
+use mathlib.Core.Path.{_≡_, refl, ap, _∙_}
 use borrow.Author.Tests.{lt-ltb, le-ltb}
+use Rattle.queue.specs.Entry.{entryIn, numberOf}
+use Rattle.queue.specs.Contents.{firstPlace, entriesHeld}
+use Rattle.queue.specs.Arguments.{withArgument}
+use Rattle.queue.specs.Internal.{waitingAt, lacksMark, setArgument}
 use Rattle.queue.specs.declared.entries.Mark.{Mark}
-use Rattle.queue.specs.Contents.{firstPlace}
-use Rattle.queue.specs.Internal.{lacks, entriesHeld}
-use Rattle.queue.specs.Internal.{waitingAt}
 use borrow.Author.Needs.{needs}
+use Rattle.queue.proofs.ArgumentLaws.{argument-number}
 use Rattle.queue.proofs.arguments.give_oldest.Statement.{statement}
 use Rattle.queue.proofs.arguments.give_oldest.Tie as tie
 
@@ -13,7 +17,18 @@ place : (c : tie.After-oldest-without) → let s = c .before .before .before .be
 place c =
     let m = c .before .before in
     let a = m .before .before .args in
-    c .oldest-without .ensures ∙ ap (λ (mark : Mark). firstPlace (lacks mark (a .port)) (entriesHeld (a .held) (a .entries .now))) (m .mark-of .ensures)
+    c .oldest-without .ensures ∙ ap (λ (mark : Mark). firstPlace (lacksMark mark (a .port)) (entriesHeld (a .held) (a .entries .now))) (m .mark-of .ensures)
+
+-- what stands there once the argument is given
+given : (c : tie.After-pack) → let a = c .before .before .before .before .before .before .before .before .before .args in
+    entryIn (c .pack .result) ≡ withArgument (a .argument) (a .number) (entryIn (getD (a .entries .now) (c .before .before .before .before .before .oldest-without .result) 0))
+given c =
+    let w = c .before in
+    let u = w .before in
+    let i = u .before .before in
+    let s = i .before .before .before .before .before in
+    argument-number (s .args .argument) (s .args .number) _ (omega arith) (s .pre .1)
+    (c .pack .ensures ∙ ap numberOf (w .with-argument .ensures ∙ ap (setArgument (s .args .argument) (s .args .number)) (u .unpack .ensures)))
 
 returns : tie.Need-returns
 returns c =
@@ -28,7 +43,7 @@ returns-2 c =
     let e = place (i .before) in
     record {
       answers = rw (← e, lt-ltb _ _ (i .if1 .left));
-      leaves = rw (← e, lt-ltb _ _ (i .if1 .left), c .pack .ensures, w .with-argument .ensures, u .unpack .ensures);
+      leaves = rw (← e, lt-ltb _ _ (i .if1 .left)) (record { number = c .pack .result; holds = given c; leaves = refl });
     }
 
 pub give-oldest-spec : {M : Type 1} → statement M

@@ -4,26 +4,28 @@ use mathlib.Core.List.{_∷_}
 use native.Mathlib.Omega.{arith}
 use lib.ListN.{drop}
 use borrow.Author.Needs.{needs}
-use Rattle.queue.specs.Entry.{entryOf}
-use Rattle.queue.specs.Internal.{lacks, entriesHeld}
-use Rattle.queue.proofs.ContentsLaws.{side-here, side-end}
+use Rattle.queue.specs.Entry.{entryIn, entryOf}
+use Rattle.queue.specs.Contents.{entriesHeld}
+use Rattle.queue.specs.Arguments.{lacks}
+use Rattle.queue.specs.Internal.{lacksMark}
+use Rattle.queue.proofs.ContentsLaws.{mapped-here, mapped-end}
 use Rattle.queue.proofs.WalkLaws.{Seeking, seeking-none, seeking-on, seeking-stop, seeking-end}
 use Rattle.queue.proofs.entries.oldest_without.Statement.{statement}
 use Rattle.queue.proofs.entries.oldest_without.Tie as tie
 
 abbrev Inv-loop : tie.InvT-loop
-Inv-loop entries held port mark count i₀ i = (i ≤ held) × Seeking (lacks mark port) (entriesHeld held entries) i
+Inv-loop entries held port mark count i₀ i = (i ≤ held) × Seeking (lacksMark mark port) (entriesHeld held entries) i
 
 abbrev μ-loop : tie.MeasureT-loop
 μ-loop entries held port mark count i₀ i = count - i
 
 here : (c : tie.After-lacks Inv-loop μ-loop) → let l = c .before .before .before in let s = l .before .before .before in
-    drop (l .before .loop .i) (entriesHeld (s .args .held) (s .args .entries .now)) ≡ c .before .unpack .result ∷ drop (l .before .loop .i + 1)
+    drop (l .before .loop .i) (entriesHeld (s .args .held) (s .args .entries .now)) ≡ entryOf (c .before .unpack .result) ∷ drop (l .before .loop .i + 1)
     (entriesHeld (s .args .held) (s .args .entries .now))
 here c =
     let l = c .before .before .before in
     let s = l .before .before .before in
-    rw (c .before .unpack .ensures) (side-here entryOf 0 (s .args .held) (s .args .entries .now) (l .before .loop .i) (l .loop-test .taken))
+    rw (c .before .unpack .ensures) (mapped-here entryIn 0 (s .args .held) (s .args .entries .now) (l .before .loop .i) (l .loop-test .taken))
 
 loop-holds : tie.Need-loop-holds Inv-loop μ-loop
 loop-holds c = (search needs, seeking-none)
@@ -41,7 +43,7 @@ loop-again c = (
 returns-2 : tie.Need-returns-2 Inv-loop μ-loop
 returns-2 c =
     let s = c .before .before .before in
-    seeking-end (c .before .loop .inv .1) (side-end entryOf 0 (s .args .held) (s .args .entries .now) (c .before .loop .i) (c .loop-test .left))
+    seeking-end (c .before .loop .inv .1) (mapped-end entryIn 0 (s .args .held) (s .args .entries .now) (c .before .loop .i) (c .loop-test .left))
 
 pub oldest-without-spec : {M : Type 1} → statement M
 oldest-without-spec =

@@ -1,9 +1,8 @@
 use Prim.Native.Nat.{_<_}
-use Rattle.queue.specs.Entry.{numberOf}
+use Rattle.queue.specs.Entry.{numberOf, bit}
 use Rattle.queue.proofs.EntryLaws.{bit-small}
 use native.Mathlib.Omega.{arith}
 use borrow.Author.Needs.{needs}
-use Rattle.queue.specs.Entry.{bit, numberOf}
 use Rattle.queue.proofs.entries.pack.Statement.{statement}
 use Rattle.queue.proofs.entries.pack.Tie as tie
 

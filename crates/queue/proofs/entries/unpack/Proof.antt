@@ -1,11 +1,11 @@
 use mathlib.Core.Path.{refl}
 use borrow.Author.Needs.{needs}
-use Rattle.queue.specs.Entry.{entryOf}
+use Rattle.queue.specs.Entry.{unpacked}
 use Rattle.queue.proofs.entries.unpack.Statement.{statement}
 use Rattle.queue.proofs.entries.unpack.Tie as tie
 
 returns : tie.Need-returns
-unfolding entryOf
+unfolding unpacked
 returns c = refl
 
 pub unpack-spec : {M : Type 1} → statement M

@@ -4,22 +4,21 @@ use borrow.Author.Tests.{not-true, not-false}
 use borrow.Author.Needs.{needs}
 use Rattle.queue.specs.declared.serving.Source as coded
 use Rattle.number.specs.Reply.{accepted}
-use Rattle.queue.specs.Contents.{Store, loadOf}
+use Rattle.queue.specs.Entry.{Entry, entryOf}
+use Rattle.queue.specs.Contents.{entriesHeld}
 use Rattle.queue.specs.Serve.{loadedFrom}
-use Rattle.queue.specs.Internal.{storesHeld}
-use Rattle.queue.specs.Internal.{sourceIn}
-use Rattle.queue.specs.Internal.{loadReady}
+use Rattle.queue.specs.Internal.{sourceIn, loadReady}
 use Rattle.queue.proofs.ServeLaws.{may-again, may-no-address, may-load}
 use Rattle.queue.proofs.ready.load_ready.Statement.{statement}
 use Rattle.queue.proofs.ready.load_ready.Tie as tie
 
 -- the stores before the load
-abbrev before : tie.Start → List Store
-before s = storesHeld (s .args .load .before) (s .args .store-entries .now)
+abbrev before : tie.Start → List Entry
+before s = entriesHeld (s .args .load .before) (s .args .store-entries .now)
 
 -- the source decides, once the load has an address and no value
 sourced : (c : tie.After-source-of) (x : coded.Source) → c .source-of .result ≡ x → let s = c .before .before .before .before .before .before in
-    accepted (loadedFrom [] (s .args .load .address) (sourceIn x)) ≡ loadReady (before s) (loadOf (s .args .load))
+    accepted (loadedFrom [] (s .args .load .address) (sourceIn x)) ≡ loadReady (before s) (entryOf (s .args .load))
 sourced c x is =
     let e2 = c .before .before in
     let e1 = e2 .before .before in

@@ -1,8 +1,8 @@
 use native.Mathlib.Omega.{arith}
 use mathlib.Core.Path.{ap, _∙_}
-use Rattle.queue.specs.declared.Entry.{Entry}
-use Rattle.queue.specs.Contents.{loadOf}
-use Rattle.queue.specs.Internal.{storesHeld}
+use Rattle.queue.specs.declared.Entry.{Entry as EntryStruct}
+use Rattle.queue.specs.Entry.{entryOf}
+use Rattle.queue.specs.Contents.{entriesHeld}
 use Rattle.queue.specs.Internal.{loadReady, Reaches}
 use Rattle.queue.proofs.ReadyLaws.{write-fault-ready}
 use borrow.Author.Needs.{needs}
@@ -28,7 +28,7 @@ returns c =
     let e = u .before .before in
     let stores = e .before .before .before .before .args .store-entries .now in
     rw (e .enum-told .given .1)
-    (c .load-ready .ensures ∙ ap (λ (x : Entry). loadReady (storesHeld (x .before) stores) (loadOf x)) (u .unpack .ensures))
+    (c .load-ready .ensures ∙ ap (λ (x : EntryStruct). loadReady (entriesHeld (x .before) stores) (entryOf x)) (u .unpack .ensures))
 
 returns-2 : tie.Need-returns-2
 returns-2 c =

@@ -4,14 +4,15 @@ use mathlib.Core.Path.{_≡_, refl, sym, ap, subst, _∙_}
 use borrow.Author.Needs.{needs}
 use Rattle.table.specs.declared.Table.{Table}
 use Rattle.queue.specs.declared.Queue.{Queue}
-use Rattle.queue.specs.declared.Side.{Side}
+use Rattle.queue.specs.declared.Side.{Side as SideStruct}
 use Rattle.queue.specs.Contents.{contentsOf, oldest}
 use Rattle.queue.specs.Ready.{oldestOf}
 use Rattle.queue.specs.Parts.{queueOf}
-use Rattle.queue.specs.Internal.{frameWith}
-use Rattle.queue.specs.Internal.{readyAt}
+use Rattle.queue.specs.Internal.{frameWith, readyAt}
+use Rattle.queue.proofs.ContentsLaws.{countsOf}
+use Rattle.queue.proofs.SoundLaws.{count-most}
 use Rattle.queue.proofs.Serials.{oldest-small}
-use Rattle.queue.proofs.ReadyLaws.{ReadyGathering, gathering-none, gathering-more, sideIn, oldest-in, side-most, in-reach, gathered}
+use Rattle.queue.proofs.ReadyLaws.{ReadyGathering, gathering-none, gathering-more, oldest-in, in-reach, gathered}
 use Rattle.queue.proofs.ready.ready_serials.Statement.{statement}
 use Rattle.queue.proofs.ready.ready_serials.Tie as tie
 
@@ -33,17 +34,17 @@ abbrev whole : tie.Start Inv-loop μ-loop → Queue
 whole s = queueWith (s .pre .table) s
 
 -- the kind's side, whatever the table
-side : (c : tie.After-side-of Inv-loop μ-loop) → let s = c .before .before .before in c .side-of .result ≡ sideIn (s .args .kind) (whole s)
+side : (c : tie.After-side-of Inv-loop μ-loop) → let s = c .before .before .before in c .side-of .result ≡ countsOf (s .args .kind) (whole s)
 side c = c .side-of .ensures
 
 most : (c : tie.After-side-of Inv-loop μ-loop) → c .side-of .result .count ≤ 64
-most c = let s = c .before .before .before in rw (side c) (side-most (whole s) (s .pre .right) (s .args .kind))
+most c = let s = c .before .before .before in rw (side c) (count-most (whole s) (s .pre .right) (s .args .kind))
 
 first : (c : tie.After-oldest-serial Inv-loop μ-loop) (t : Table) → let s = start c in
     c .oldest-serial .result ≡ oldestOf (s .args .kind) (contentsOf (queueWith t s))
 first c t =
     let s = start c in
-    c .oldest-serial .ensures ∙ ap (λ (x : Side). oldest (x .next) (x .count)) (side (c .before .before)) ∙ sym (oldest-in (s .args .kind) (queueWith t s))
+    c .oldest-serial .ensures ∙ ap (λ (x : SideStruct). oldest (x .next) (x .count)) (side (c .before .before)) ∙ sym (oldest-in (s .args .kind) (queueWith t s))
 
 loop-holds : tie.Need-loop-holds Inv-loop μ-loop
 loop-holds c = (search needs, gathering-none _ refl (subst (λ (x : ℕ). x < 2 ^ 32) (sym (c .oldest-serial .ensures)) (oldest-small _ _)))
@@ -74,7 +75,7 @@ returns c t right =
     let o = c .before .before in
     let s = start o in
     let i = c .before .loop .inv in
-    gathered (s .args .kind) (queueWith t s) right (i .1) (first o t) (ap (λ (x : Side). x .count) (side (o .before .before))) (i .0) (c .loop-test .left)
+    gathered (s .args .kind) (queueWith t s) right (i .1) (first o t) (ap (λ (x : SideStruct). x .count) (side (o .before .before))) (i .0) (c .loop-test .left)
 
 pub ready-serials-spec : {M : Type 1} → statement M
 ready-serials-spec =

@@ -1,9 +1,8 @@
 use Prim.Native.Nat.{_≤_}
 use native.Mathlib.Omega.{arith}
 use borrow.Author.Needs.{needs}
-use Rattle.queue.specs.Entry.{entryOf}
-use Rattle.queue.specs.Internal.{finished, frameWith}
-use Rattle.queue.proofs.RetireLaws.{side-retiring, retire-sides}
+use Rattle.queue.specs.Internal.{frameWith}
+use Rattle.queue.proofs.RetireLaws.{entries-retiring, retire-sides}
 use Rattle.queue.proofs.retiring.retire.Statement.{statement}
 use Rattle.queue.proofs.retiring.retire.Tie as tie
 
@@ -14,12 +13,12 @@ start f = f .before .before .before .before .before .before
 loads-most : (f : tie.After-retiring) → f .retiring .result ≤ start f .args .outline .loads .count
 loads-most f =
     let s = start f in
-    omega (arith, f .retiring .ensures, side-retiring finished entryOf 0 (s .args .outline .loads .count) (s .args .load-entries .now))
+    omega (arith, f .retiring .ensures, entries-retiring (s .args .outline .loads .count) (s .args .load-entries .now))
 
 stores-most : (f : tie.After-retiring2) → f .retiring2 .result ≤ start (f .before .before) .args .outline .stores .count
 stores-most f =
     let s = start (f .before .before) in
-    omega (arith, f .retiring2 .ensures, side-retiring finished entryOf 0 (s .args .outline .stores .count) (s .args .store-entries .now))
+    omega (arith, f .retiring2 .ensures, entries-retiring (s .args .outline .stores .count) (s .args .store-entries .now))
 
 shorter-requires : tie.Need-shorter-requires
 shorter-requires c κs = loads-most (c .before .before)

@@ -5,28 +5,30 @@ use native.Mathlib.Omega.{arith}
 use lib.ListN.{getD, drop}
 use borrow.Author.Needs.{needs}
 use borrow.Author.Tests.{not-true, not-false}
-use Rattle.queue.specs.Entry.{entryOf}
-use Rattle.queue.specs.Internal.{entriesHeld, finished}
-use Rattle.queue.proofs.ContentsLaws.{side-here, side-end}
+use Rattle.queue.specs.declared.Entry.{Entry as EntryStruct}
+use Rattle.queue.specs.Entry.{entryIn}
+use Rattle.queue.specs.Contents.{entriesHeld}
+use Rattle.queue.specs.Retire.{finished}
+use Rattle.queue.proofs.ContentsLaws.{mapped-here, mapped-end}
 use Rattle.queue.proofs.WalkLaws.{Retiring, retiring-none, retiring-on, retiring-stop, retiring-end}
 use Rattle.queue.proofs.retiring.retiring.Statement.{statement}
 use Rattle.queue.proofs.retiring.retiring.Tie as tie
 
 abbrev Inv-loop : tie.InvT-loop
-Inv-loop entries held i₀ i = (i ≤ held) × Retiring finished (entriesHeld held entries) i
+Inv-loop entries held i₀ i = (i ≤ held) × Retiring (entriesHeld held entries) i
 
 abbrev μ-loop : tie.MeasureT-loop
 μ-loop entries held i₀ i = held - i
 
 here : (l : tie.In-loop Inv-loop μ-loop) → let s = l .before .before .before in
     drop (l .before .loop .i) (entriesHeld (s .args .held) (s .args .entries .now))
-    ≡ entryOf (getD (s .args .entries .now) (l .before .loop .i) 0) ∷ drop (l .before .loop .i + 1) (entriesHeld (s .args .held) (s .args .entries .now))
-here l = side-here entryOf 0 _ _ _ (l .loop-test .taken)
+    ≡ entryIn (getD (s .args .entries .now) (l .before .loop .i) 0) ∷ drop (l .before .loop .i + 1) (entriesHeld (s .args .held) (s .args .entries .now))
+here l = mapped-here entryIn 0 _ _ _ (l .loop-test .taken)
 
 -- the entry that a turn looks at
 found : (c : tie.After-unpack Inv-loop μ-loop) → let l = c .before .before in
-    finished (entryOf (getD (l .before .before .before .args .entries .now) (l .before .loop .i) 0)) ≡ finished (c .unpack .result)
-found c = sym (ap finished (c .unpack .ensures))
+    finished (entryIn (getD (l .before .before .before .args .entries .now) (l .before .loop .i) 0)) ≡ c .unpack .result .finished
+found c = sym (ap (λ (s : EntryStruct). s .finished) (c .unpack .ensures))
 
 loop-holds : tie.Need-loop-holds Inv-loop μ-loop
 loop-holds c = (search needs, retiring-none)
@@ -44,7 +46,7 @@ loop-again c =
     (omega arith, retiring-on (l .before .loop .inv .1) (here l) (found u ∙ not-false _ (c .if1 .left)))
 
 returns-2 : tie.Need-returns-2 Inv-loop μ-loop
-returns-2 c = retiring-end (c .before .loop .inv .1) (side-end entryOf 0 _ (c .before .before .before .args .entries .now) _ (c .loop-test .left))
+returns-2 c = retiring-end (c .before .loop .inv .1) (mapped-end entryIn 0 _ (c .before .before .before .args .entries .now) _ (c .loop-test .left))
 
 pub retiring-spec : {M : Type 1} → statement M
 retiring-spec =

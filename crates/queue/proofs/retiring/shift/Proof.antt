@@ -4,26 +4,22 @@ use mathlib.Core.Path.{_≡_, refl, sym, ap, _∙_}
 use native.Mathlib.Omega.{arith}
 use lib.ListN.{length, getD, length-set}
 use borrow.Author.Needs.{needs}
-use Rattle.queue.specs.Entry.{entryOf, numberOf}
-use Rattle.queue.specs.Internal.{entriesHeld}
-use Rattle.queue.specs.Internal.{lowered}
-use Rattle.queue.proofs.RetireLaws.{Moved, moved-none, moved-more, moved-side, lowered-number}
+use Rattle.queue.specs.Entry.{entryIn}
+use Rattle.queue.specs.Contents.{entriesHeld}
+use Rattle.queue.specs.Retire.{afterRetiring}
+use Rattle.queue.proofs.RetireLaws.{loweredIn, Moved, moved-none, moved-more, moved-side, lowered-number}
 use Rattle.queue.proofs.retiring.shift.Statement.{statement}
 use Rattle.queue.proofs.retiring.shift.Tie as tie
 
--- an entry's number after `others` of the other kind have left
-abbrev lower : ℕ → ℕ → ℕ
-lower others n = numberOf (lowered others (entryOf n))
-
 abbrev Inv-loop : tie.InvT-loop
-Inv-loop entries₀ gone left others from count i₀ entries i = (i ≤ left) × Moved (lower others) gone entries₀ i entries × (length entries ≡ length entries₀)
+Inv-loop entries₀ gone left others from count i₀ entries i = (i ≤ left) × Moved (loweredIn others) gone entries₀ i entries × (length entries ≡ length entries₀)
 
 abbrev μ-loop : tie.MeasureT-loop
 μ-loop entries₀ gone left others from count i₀ entries i = left - i
 
 -- what a turn puts at its place
 put : (c : tie.After-pack Inv-loop μ-loop) → let l = c .before .before .before .before in let s = l .before .before .before in
-    c .pack .result ≡ lower (s .args .others) (getD (l .before .loop .entries) (l .before .loop .i + s .args .gone) 0)
+    c .pack .result ≡ loweredIn (s .args .others) (getD (l .before .loop .entries) (l .before .loop .i + s .args .gone) 0)
 put c = c .pack .ensures ∙ rw (c .before .less .ensures, c .before .before .unpack .ensures)
 
 loop-holds : tie.Need-loop-holds Inv-loop μ-loop
@@ -46,7 +42,7 @@ returns c =
     let left : n - s .args .gone ≡ s .args .left = omega arith in
     record {
       holds = ap (λ (m : ℕ). entriesHeld m (c .before .loop .entries)) (sym left)
-          ∙ moved-side (i .1) entryOf 0 (lowered (s .args .others)) (lowered-number (s .args .others)) n (omega (arith, i .0, c .loop-test .left))
+          ∙ moved-side (i .1) entryIn 0 (afterRetiring (s .args .others)) (lowered-number (s .args .others)) n (omega (arith, i .0, c .loop-test .left))
           (omega arith) (omega (arith, s .pre));
     }
 

@@ -8,18 +8,19 @@ use lib.ListN.{length}
 use borrow.Author.Tests.{not-true, not-false}
 use borrow.Author.Needs.{needs}
 use Rattle.table.specs.declared.Table.{Table}
-use Rattle.queue.specs.declared.Entry.{Entry}
+use Rattle.queue.specs.declared.Kind.the-variants as Kind
+use Rattle.queue.specs.declared.Entry.{Entry as EntryStruct}
 use Rattle.queue.specs.declared.Queue.{Queue}
 use Rattle.queue.specs.declared.serving.Service.{Service}
 use Rattle.queue.specs.declared.serving.Source as coded
 use Rattle.number.specs.Reply.{Reply, accept, andThen}
-use Rattle.queue.specs.Contents.{Store, loadOf, contentsOf}
+use Rattle.queue.specs.Entry.{Entry, entryOf}
+use Rattle.queue.specs.Contents.{contentsOf, entriesHeld}
 use Rattle.queue.specs.Serve.{Served, Loaded, loadedFrom, mayServe, servedWith, serveAt}
 use Rattle.queue.specs.Outcome.{handedCounts}
 use Rattle.queue.specs.Parts.{queueOf, countedOf}
-use Rattle.queue.specs.Internal.{storesHeld, frameWith}
-use Rattle.queue.specs.Internal.{sourceIn}
-use Rattle.queue.proofs.SoundLaws.{loads-few, stores-few, load-before, load-address}
+use Rattle.queue.specs.Internal.{frameWith, sourceIn}
+use Rattle.queue.proofs.SoundLaws.{count-most, before-held, address-low}
 use Rattle.queue.proofs.ServeLaws.{may-again, may-no-address, may-load, serve-none, serve-held, served-well}
 use Rattle.queue.proofs.serving.serve_at.Statement.{statement}
 use Rattle.queue.proofs.serving.serve_at.Tie as tie
@@ -35,7 +36,7 @@ abbrev start : tie.Else1 → tie.Start
 start c = c .before .before .before .before .before .before
 
 few : (s : tie.Start) → s .args .outline .loads .count ≤ 64
-few s = loads-few (queueIn s) (s .pre .0 .right)
+few s = count-most (queueIn s) (s .pre .0 .right) Kind.Load
 
 room : (s : tie.Start) → s .args .outline .loads .count ≤ length (s .args .load-entries .now)
 room s = omega (arith, few s, s .pre .0 .loads-whole)
@@ -47,31 +48,31 @@ held c = c .before .before
 before-few : (c : tie.After-unpack) → c .unpack .result .before ≤ start (held c) .args .outline .stores .count
 before-few c =
     let s = start (held c) in
-    subst (λ (e : Entry). e .before ≤ s .args .outline .stores .count) (sym (c .unpack .ensures))
-    (load-before (queueIn s) (s .pre .0 .right) (s .args .place) (held c .if1 .left))
+    subst (λ (e : EntryStruct). e .before ≤ s .args .outline .stores .count) (sym (c .unpack .ensures))
+    (before-held (queueIn s) (s .pre .0 .right) Kind.Load (s .args .place) (held c .if1 .left))
 
 in-memory : (c : tie.After-unpack) → c .unpack .result .addressed ≡ true → c .unpack .result .address < length (start (held c) .args .memory .now)
 in-memory c a =
     let s = start (held c) in
     rw (s .pre .1)
-    (subst (λ (e : Entry). e .addressed ≡ true → e .address < s .args .outline .«memory_length») (sym (c .unpack .ensures))
-    (load-address (queueIn s) (s .pre .0 .right) (s .args .place) (held c .if1 .left)) a)
+    (subst (λ (e : EntryStruct). e .addressed ≡ true → e .address < s .args .outline .«memory_length») (sym (c .unpack .ensures))
+    (address-low (queueIn s) (s .pre .0 .right) Kind.Load (s .args .place) (held c .if1 .left)) a)
 
 -- what the rule says, once the place is one of the queue, and once the load's source is known
 abbrev byRule : Table → tie.After-unpack → Reply Loaded → Reply Served
 byRule t u x = andThen x λ v. accept (servedWith (contentsOf (queueWith t (start (held u)))) (start (held u) .args .place) v)
 
-abbrev before : tie.After-unpack → List Store
-before u = storesHeld (u .unpack .result .before) (start (held u) .args .store-entries .now)
+abbrev before : tie.After-unpack → List Entry
+before u = entriesHeld (u .unpack .result .before) (start (held u) .args .store-entries .now)
 
 may : (u : tie.After-unpack) (t : Table) → let s = start (held u) in
     serveAt (contentsOf (queueWith t s)) (s .args .memory .now) (s .args .place)
-    ≡ byRule t u (mayServe (s .args .memory .now) (before u) (loadOf (u .unpack .result)))
+    ≡ byRule t u (mayServe (s .args .memory .now) (before u) (entryOf (u .unpack .result)))
 may u t =
     let s = start (held u) in
     serve-held (queueWith t s) (s .args .memory .now) (s .args .place) (held u .if1 .left)
-    (load-before (queueIn s) (s .pre .0 .right) (s .args .place) (held u .if1 .left))
-    ∙ ap (λ (e : Entry). byRule t u (mayServe (s .args .memory .now) (storesHeld (e .before) (s .args .store-entries .now)) (loadOf e)))
+    (before-held (queueIn s) (s .pre .0 .right) Kind.Load (s .args .place) (held u .if1 .left))
+    ∙ ap (λ (e : EntryStruct). byRule t u (mayServe (s .args .memory .now) (entriesHeld (e .before) (s .args .store-entries .now)) (entryOf e)))
     (sym (u .unpack .ensures))
 
 sourced : (c : tie.After-source-of) (t : Table) (x : coded.Source) → c .source-of .result ≡ x
@@ -115,7 +116,7 @@ source-of-requires : tie.Need-source-of-requires
 source-of-requires c κs =
     let u = c .before .before .before .before in
     let s = start (held u) in
-    le-trans (before-few u) (omega (arith, stores-few (queueIn s) (s .pre .0 .right), s .pre .0 .stores-whole))
+    le-trans (before-few u) (omega (arith, count-most (queueIn s) (s .pre .0 .right) Kind.Store, s .pre .0 .stores-whole))
 
 served-requires : tie.Need-served-requires
 served-requires c κs =

@@ -1,4 +1,6 @@
 use mathlib.Core.Path.{ap}
+use Rattle.queue.specs.Contents.{contentsOf}
+use Rattle.queue.specs.Serve.{serve}
 use Rattle.queue.specs.Outcome.{handedCounts}
 use Rattle.queue.specs.Parts.{frameOf, queueOf, countedOf}
 use Rattle.queue.proofs.PartsLaws.{PartsFit, fit, unfit}
@@ -6,8 +8,6 @@ use borrow.Author.Needs.{needs}
 use Rattle.queue.specs.declared.Frame.{Frame}
 use Rattle.queue.specs.declared.Queue.{Queue}
 use Rattle.queue.specs.declared.serving.Service.{Service}
-use Rattle.queue.specs.Contents.{contentsOf}
-use Rattle.queue.specs.Serve.{serve}
 use Rattle.queue.proofs.ServeLaws.{serve-unsound, serve-memory, serve-place}
 use Rattle.queue.proofs.serving.serve_in.Statement.{statement}
 use Rattle.queue.proofs.serving.serve_in.Tie as tie

@@ -4,31 +4,26 @@ use lib.ListN.{getD}
 use borrow.Author.Needs.{needs}
 use Rattle.counts.specs.declared.Counts.{Counts}
 use Rattle.queue.specs.declared.Value.the-variants as Value
-use Rattle.queue.specs.declared.Entry.{Entry}
-use Rattle.queue.specs.Entry.{entryOf, numberOf, Small}
-use Rattle.queue.specs.Contents.{loadOf}
-use Rattle.queue.proofs.EntryLaws.{entry-small, entry-number}
-use Rattle.queue.specs.Internal.{withWord}
+use Rattle.queue.specs.Entry.{withWord, entryIn, numberOf}
+use Rattle.queue.specs.Internal.{setWord}
+use Rattle.queue.proofs.EntryLaws.{word-number}
 use Rattle.queue.proofs.serving.served.Statement.{statement}
 use Rattle.queue.proofs.serving.served.Tie as tie
 
 -- the entry that is put in place is the one with its value
 packed : (c : tie.After-pack) → let s = c .before .before .before .before .before in
-    entryOf (c .pack .result) ≡ withWord (s .args .word) (entryOf (getD (s .args .load-entries .now) (s .args .at) 0))
+    entryIn (c .pack .result) ≡ withWord (s .args .word) (entryIn (getD (s .args .load-entries .now) (s .args .at) 0))
 packed c =
     let s = c .before .before .before .before .before in
-    let e : Entry = entryOf (getD (s .args .load-entries .now) (s .args .at) 0) in
-    let k : Small e = entry-small (getD (s .args .load-entries .now) (s .args .at) 0) in
-    let now : Entry = withWord (s .args .word) e in
-    ap entryOf (c .pack .ensures ∙ ap numberOf (c .before .with-word .ensures ∙ ap (withWord (s .args .word)) (c .before .before .unpack .ensures)))
-    ∙ entry-number now (record { port = k .port; before = k .before; address = k .address; word = omega arith })
+    word-number (s .args .word) (getD (s .args .load-entries .now) (s .args .at) 0) (omega arith)
+    (c .pack .ensures ∙ ap numberOf (c .before .with-word .ensures ∙ ap (setWord (s .args .word)) (c .before .before .unpack .ensures)))
 
 returns : tie.Need-returns
 returns c =
     let p = c .before in
     let s = p .before .before .before .before .before in (
       ap (λ (k : Counts). record { answer = 0; value = Value.Word (s .args .word); counts = k }) (c .counted .ensures),
-      record { number = p .pack .result; holds = ap loadOf (packed p); leaves = refl },
+      record { number = p .pack .result; holds = packed p; leaves = refl },
     )
 
 pub served-spec : {M : Type 1} → statement M

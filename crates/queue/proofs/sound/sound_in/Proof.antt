@@ -10,9 +10,9 @@ use Rattle.number.proofs.ReplyLaws.{accepted-number, notZero}
 use Rattle.table.specs.Table.{groupsOf, checkTable}
 use Rattle.table.proofs.Among.{check-table-among}
 use Rattle.queue.specs.declared.Queue.{Queue}
-use Rattle.queue.specs.Sound.{depthRight, memoryRight}
+use Rattle.queue.specs.Contents.{entriesHeld}
+use Rattle.queue.specs.Sound.{depthRight, memoryRight, entryRight}
 use Rattle.queue.specs.Parts.{frameOf, queueOf, whole}
-use Rattle.queue.specs.Internal.{entriesHeld, entryRight}
 use Rattle.queue.proofs.SoundLaws.{sound-sides, side-few}
 use Rattle.queue.proofs.PartsLaws.{both-whole, loads-not-whole, stores-not-whole}
 use native.Mathlib.Omega.{arith}

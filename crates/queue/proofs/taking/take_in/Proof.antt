@@ -8,16 +8,17 @@ use borrow.Author.Tests.{not-true, not-false}
 use Rattle.number.specs.Basics.{anyOf}
 use Rattle.table.specs.Table.{groupsOf}
 use Rattle.queue.specs.declared.Queue.{Queue}
-use Rattle.queue.specs.declared.entries.Mark.the-variants.{Finished}
-use Rattle.queue.specs.Contents.{loadOf, loadIn, contentsOf, firstPlace}
+use Rattle.queue.specs.declared.Entry.{Entry as EntryStruct}
+use Rattle.queue.specs.Entry.{numberOf, entryIn, markFinished}
+use Rattle.queue.specs.Contents.{contentsOf, firstPlace, entriesHeld}
 use Rattle.queue.specs.Arguments.{namesPort}
+use Rattle.queue.specs.Take.{untaken, takeRule}
 use Rattle.queue.specs.Retire.{retire}
-use Rattle.queue.specs.declared.Kind.the-variants.{Load as load}
-use Rattle.queue.specs.Take.{untaken, loadTaken, takeRule}
 use Rattle.queue.specs.Parts.{frameOf, queueOf}
-use Rattle.queue.specs.Internal.{loadsHeld, lacks}
-use Rattle.queue.proofs.EntryLaws.{done-number, load-untaken, side-place-same}
-use Rattle.queue.proofs.ContentsLaws.{load-anew}
+use Rattle.queue.specs.Internal.{setFinished}
+use Rattle.queue.specs.declared.Kind.the-variants.{Load as load}
+use Rattle.queue.proofs.EntryLaws.{finished-number}
+use Rattle.queue.proofs.ContentsLaws.{side-anew}
 use Rattle.queue.proofs.SoundLaws.{table-right}
 use Rattle.queue.proofs.TakeLaws.{take-unsound, take-no-port, take-none, take-unserved, take-served}
 use Rattle.queue.proofs.PartsLaws.{PartsFit, fit, unfit}
@@ -49,13 +50,8 @@ port : (c : tie.Else2) → let s = sure (c .before) .before in anyOf (namesPort 
 port c = sym (c .before .has-port .ensures) ∙ not-false _ (c .if2 .left)
 
 place : (c : tie.After-oldest-without) → let s = sure (known c .before) .before in
-    c .oldest-without .result ≡ firstPlace (untaken (start s .args .port)) (loadsHeld (queue s .frame .loads .count) (queue s .«load_entries»))
-place c =
-    let s = sure (known c .before) .before in
-    let port = start s .args .port in
-    c .oldest-without .ensures
-    ∙ sym (side-place-same loadOf (untaken port) (lacks Finished port) (λ e. load-untaken e port) (queue s .frame .loads .count)
-    (queue s .«load_entries»))
+    c .oldest-without .result ≡ firstPlace (untaken (start s .args .port)) (entriesHeld (queue s .frame .loads .count) (queue s .«load_entries»))
+place c = c .oldest-without .ensures
 
 -- it is a place of the array
 inside : (c : tie.Else3)
@@ -66,13 +62,12 @@ inside c =
 
 -- what stands there once the load is taken
 taken : (c : tie.After-pack) → let u = c .before .before .before in let o = u .before .before .before .before in
-    loadIn (c .pack .result) ≡ loadTaken (loadIn (getD (queue (sure (known o .before) .before) .«load_entries») (o .oldest-without .result) 0))
+    entryIn (c .pack .result) ≡ markFinished (entryIn (getD (queue (sure (known o .before) .before) .«load_entries») (o .oldest-without .result) 0))
 taken c =
     let u = c .before .before .before in
     let o = u .before .before .before .before in
     let l = queue (sure (known o .before) .before) .«load_entries» in
-    ap loadIn (c .pack .ensures)
-    ∙ rw (u .unpack .ensures, done-number (getD l (o .oldest-without .result) 0))
+    finished-number (getD l (o .oldest-without .result) 0) (c .pack .ensures ∙ ap (λ (e : EntryStruct). numberOf (setFinished e)) (u .unpack .ensures))
 
 returns : tie.Need-returns
 returns c =
@@ -174,7 +169,8 @@ returns-5 c =
       answer = refl;
       gives = refl;
       holds = t .retire .ensures (q .frame .table)
-          ∙ ap retire (load-anew q loadTaken (o .oldest-without .result) (w .pack .result) (good e .loads-room) (i .if3 .left) (taken w));
+          ∙ ap retire (side-anew load q (o .oldest-without .result) (good e .loads-room) (i .if3 .left)
+          (record { number = w .pack .result; holds = taken w; leaves = refl }));
     })
 
 pub take-in-spec : {M : Type 1} → statement M

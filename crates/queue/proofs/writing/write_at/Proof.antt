@@ -6,22 +6,22 @@ use mathlib.Core.Path.{_≡_, refl, sym, ap, _∙_}
 use lib.ListN.{length, getD, length-set}
 use borrow.Author.Needs.{needs}
 use Rattle.table.specs.declared.Table.{Table}
-use Rattle.queue.specs.declared.Entry.{Entry}
+use Rattle.queue.specs.declared.Entry.{Entry as EntryStruct}
 use Rattle.queue.specs.declared.Queue.{Queue}
+use Rattle.queue.specs.declared.Kind.the-variants as Kind
 use mathlib.Core.Option.{none}
 use Rattle.queue.specs.declared.answering.Step.{Step}
-use Rattle.queue.specs.Entry.{entryOf, numberOf}
-use Rattle.number.specs.Reply.{accept, andThen}
-use Rattle.queue.specs.Contents.{storeOf, storeIn, contentsOf}
-use Rattle.queue.specs.Write.{storeDone, writtenWith, writeAt}
+use Rattle.queue.specs.Entry.{unpacked, numberOf, entryOf, entryIn, markFinished}
+use Rattle.queue.specs.Contents.{contentsOf, entriesHeld}
+use Rattle.queue.specs.Write.{writtenWith, writeAt}
 use Rattle.queue.specs.Retire.{retire}
 use Rattle.queue.specs.Outcome.{Handed, handed}
 use Rattle.queue.specs.Parts.{queueOf, outcomeOf}
-use Rattle.queue.specs.Internal.{loadsHeld, storesHeld, frameWith}
-use Rattle.queue.specs.Internal.{mayWriteAt}
-use Rattle.queue.proofs.ContentsLaws.{store-anew}
-use Rattle.queue.proofs.EntryLaws.{done, done-number}
-use Rattle.queue.proofs.SoundLaws.{loads-few, stores-few, store-before, store-address}
+use Rattle.queue.specs.Internal.{frameWith, setFinished, mayWriteAt}
+use Rattle.number.specs.Reply.{accept, andThen}
+use Rattle.queue.proofs.ContentsLaws.{side-anew}
+use Rattle.queue.proofs.EntryLaws.{finished-number}
+use Rattle.queue.proofs.SoundLaws.{count-most, before-held, address-low}
 use Rattle.queue.proofs.WriteLaws.{refused-number, Puts, may-puts, write-none, write-held}
 use Rattle.queue.proofs.writing.write_at.Statement.{statement}
 use Rattle.queue.proofs.writing.write_at.Tie as tie
@@ -41,20 +41,20 @@ abbrev unchanged : Table → tie.Start → Step → Handed
 unchanged t s step = handed (outcomeOf (frameWith t (s .args .outline)) step (s .args .load-entries .now) (s .args .store-entries .now))
 
 -- the store at the place
-abbrev store : tie.Start → Entry
-store s = entryOf (getD (s .args .store-entries .now) (s .args .place) 0)
+abbrev store : tie.Start → EntryStruct
+store s = unpacked (getD (s .args .store-entries .now) (s .args .place) 0)
 
 stores-room : (s : tie.Start) → s .args .outline .stores .count ≤ length (s .args .store-entries .now)
-stores-room s = omega (arith, stores-few (queue s) (s .pre .0 .right), s .pre .0 .stores-whole)
+stores-room s = omega (arith, count-most (queue s) (s .pre .0 .right) Kind.Store, s .pre .0 .stores-whole)
 
 before-few : (e : tie.Else1) → store (start e) .before ≤ start e .args .outline .loads .count
-before-few e = let s = start e in store-before (queue s) (s .pre .0 .right) (s .args .place) (e .if1 .left)
+before-few e = let s = start e in before-held (queue s) (s .pre .0 .right) Kind.Store (s .args .place) (e .if1 .left)
 
 placed : (e : tie.Else1) → start e .args .place < length (start e .args .store-entries .now)
 placed e = le-trans (e .if1 .left) (stores-room (start e))
 
 loads-room : (s : tie.Start) → s .args .outline .loads .count ≤ length (s .args .load-entries .now)
-loads-room s = omega (arith, loads-few (queue s) (s .pre .0 .right), s .pre .0 .loads-whole)
+loads-room s = omega (arith, count-most (queue s) (s .pre .0 .right) Kind.Load, s .pre .0 .loads-whole)
 
 -- what the rule says, once the place is one of the queue
 held : (e : tie.Else1) (t : Table) → let s = start e in
@@ -65,20 +65,20 @@ held e t = let s = start e in write-held (queueWith t s) (s .args .memory .now) 
 
 -- what is put where
 puts : (c : tie.Else2) → let s = start (c .before .before .before .before) in
-    Puts (loadsHeld (store s .before) (s .args .load-entries .now)) (storesHeld (s .args .place) (s .args .store-entries .now)) (store s)
+    Puts (entriesHeld (store s .before) (s .args .load-entries .now)) (entriesHeld (s .args .place) (s .args .store-entries .now)) (store s)
 puts c =
     let s = start (c .before .before .before .before) in
-    may-puts (loadsHeld (store s .before) (s .args .load-entries .now)) (storesHeld (s .args .place) (s .args .store-entries .now)) (store s)
+    may-puts (entriesHeld (store s .before) (s .args .load-entries .now)) (entriesHeld (s .args .place) (s .args .store-entries .now)) (store s)
     (sym (c .before .write-fault .ensures) ∙ c .if2 .left)
 
 -- the number put in the store's place
 put : (c : tie.After-pack) → let u = c .before .before in let s = start (u .before .before .before .before .before .before) in
-    storeIn (c .pack .result) ≡ storeDone (storeOf (store s))
+    entryIn (c .pack .result) ≡ markFinished (entryOf (store s))
 put c =
     let u = c .before .before in
     let s = start (u .before .before .before .before .before .before) in
-    ap storeIn (c .pack .ensures ∙ ap (λ (e : Entry). numberOf (done e)) (u .unpack .ensures))
-    ∙ ap storeOf (done-number (getD (s .args .store-entries .now) (s .args .place) 0))
+    finished-number (getD (s .args .store-entries .now) (s .args .place) 0)
+    (c .pack .ensures ∙ ap (λ (e : EntryStruct). numberOf (setFinished e)) (u .unpack .ensures))
 
 returns : tie.Need-returns
 returns c table =
@@ -113,7 +113,7 @@ slice-write-memory c =
     let e2 = c .before .before .before in
     let e1 = e2 .before .before .before .before in
     let s = start e1 in
-    rw (s .pre .1, c .before .unpack .ensures) (store-address (queue s) (s .pre .0 .right) (s .args .place) (e1 .if1 .left) (puts e2 .addressed))
+    rw (s .pre .1, c .before .unpack .ensures) (address-low (queue s) (s .pre .0 .right) Kind.Store (s .args .place) (e1 .if1 .left) (puts e2 .addressed))
 
 slice-write-store-entries : tie.Need-slice-write-store-entries
 slice-write-store-entries c = placed (c .before .before .before .before .before .before .before .before)
@@ -144,7 +144,8 @@ returns-3 c table =
         answer = refl {a = 0};
         gives = refl {a = none};
         holds = t .retire .ensures table
-            ∙ ap retire (store-anew (queueWith table s) storeDone (s .args .place) (p .pack .result) (stores-room s) (e1 .if1 .left) (put p));
+            ∙ ap retire (side-anew Kind.Store (queueWith table s) (s .args .place) (stores-room s) (e1 .if1 .left)
+            (record { number = p .pack .result; holds = put p; leaves = refl }));
       };
       memory-is = rw (u .unpack .ensures);
     })

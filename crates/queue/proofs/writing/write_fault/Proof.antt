@@ -5,52 +5,42 @@ use mathlib.Core.List.{List}
 use borrow.Author.Needs.{needs}
 use borrow.Author.Tests.{not-true, not-false}
 use Rattle.number.specs.Basics.{allOf}
-use Rattle.queue.specs.declared.Entry.{Entry}
-use Rattle.queue.specs.declared.entries.Mark.the-variants.{Filled, Finished}
+use Rattle.queue.specs.declared.Entry.{Entry as EntryStruct}
+use Rattle.queue.specs.declared.Kind.the-variants as Kind
 use Rattle.number.specs.Reply.{number}
-use Rattle.queue.specs.Contents.{Load, Store, loadOf, storeOf}
-use Rattle.queue.specs.Write.{noLoadConflict, noStoreConflict, mayWrite}
-use Rattle.queue.specs.Internal.{loadsHeld, storesHeld}
-use Rattle.queue.specs.Internal.{noConflict, mayWriteAt}
-use Rattle.queue.proofs.EntryLaws.{side-all-same, load-no-conflict, store-no-conflict}
+use Rattle.queue.specs.Entry.{Entry, entryOf, served, written}
+use Rattle.queue.specs.Contents.{entriesHeld}
+use Rattle.queue.specs.Write.{noConflict, mayWrite}
+use Rattle.queue.specs.Internal.{mayWriteAt}
 use Rattle.queue.proofs.WriteLaws.{may-not-again, may-no-address, may-no-data, may-load, may-store, may-put}
 use Rattle.queue.proofs.writing.write_fault.Statement.{statement}
 use Rattle.queue.proofs.writing.write_fault.Tie as tie
 
 -- the store, and the loads and stores before it
-abbrev store : tie.After-unpack → Entry
+abbrev store : tie.After-unpack → EntryStruct
 store u = u .unpack .result
 
-abbrev loads : tie.After-unpack → List Load
-loads u = loadsHeld (store u .before) (u .before .before .before .before .args .load-entries .now)
+abbrev loads : tie.After-unpack → List Entry
+loads u = entriesHeld (store u .before) (u .before .before .before .before .args .load-entries .now)
 
-abbrev stores : tie.After-unpack → List Store
+abbrev stores : tie.After-unpack → List Entry
 stores u =
     let start = u .before .before .before .before in
-    storesHeld (start .args .at) (start .args .store-entries .now)
+    entriesHeld (start .args .at) (start .args .store-entries .now)
 
-told : (u : tie.After-unpack) (n : ℕ) → n ≡ number (mayWrite (loads u) (stores u) (storeOf (store u)))
+told : (u : tie.After-unpack) (n : ℕ) → n ≡ number (mayWrite (loads u) (stores u) (entryOf (store u)))
     → n ≡ number (mayWriteAt (u .before .before .before .before .args .load-entries .now)
     (u .before .before .before .before .args .store-entries .now) (u .before .before .before .before .args .at))
 told u n e = rw (← u .unpack .ensures) e
 
 -- does no load, no store, before it conflict?
 loads-way : (c : tie.After-none-conflict) → let u = c .before .before .before .before .before .before .before in
-    c .none-conflict .result ≡ allOf (noLoadConflict (store u .address)) (loads u)
-loads-way c =
-    let u = c .before .before .before .before .before .before .before in
-    c .none-conflict .ensures
-    ∙ sym (side-all-same loadOf (noLoadConflict (store u .address)) (noConflict Filled (store u .address))
-    (λ e. load-no-conflict e (store u .address)) (store u .before) (u .before .before .before .before .args .load-entries .now))
+    c .none-conflict .result ≡ allOf (noConflict served (store u .address)) (loads u)
+loads-way c = c .none-conflict .ensures
 
 stores-way : (c : tie.After-none-conflict2) → let u = c .before .before .before .before .before .before .before .before .before in
-    c .none-conflict2 .result ≡ allOf (noStoreConflict (store u .address)) (stores u)
-stores-way c =
-    let u = c .before .before .before .before .before .before .before .before .before in
-    c .none-conflict2 .ensures
-    ∙ sym (side-all-same storeOf (noStoreConflict (store u .address)) (noConflict Finished (store u .address))
-    (λ e. store-no-conflict e (store u .address)) (u .before .before .before .before .args .at)
-    (u .before .before .before .before .args .store-entries .now))
+    c .none-conflict2 .result ≡ allOf (noConflict written (store u .address)) (stores u)
+stores-way c = c .none-conflict2 .ensures
 
 returns : tie.Need-returns
 returns c =

@@ -1,4 +1,6 @@
 use mathlib.Core.Path.{refl, ap}
+use Rattle.queue.specs.Contents.{contentsOf}
+use Rattle.queue.specs.Write.{write}
 use Rattle.queue.specs.Outcome.{Handed, handed}
 use Rattle.queue.specs.Parts.{frameOf, queueOf, outcomeOf}
 use Rattle.queue.proofs.PartsLaws.{PartsFit, fit, unfit}
@@ -6,8 +8,6 @@ use borrow.Author.Needs.{needs}
 use Rattle.queue.specs.declared.Frame.{Frame}
 use Rattle.queue.specs.declared.Queue.{Queue}
 use Rattle.queue.specs.declared.answering.Step.{Step}
-use Rattle.queue.specs.Contents.{contentsOf}
-use Rattle.queue.specs.Write.{write}
 use Rattle.queue.proofs.WriteLaws.{write-unsound, write-memory, write-place}
 use Rattle.queue.proofs.writing.write_in.Statement.{statement}
 use Rattle.queue.proofs.writing.write_in.Tie as tie

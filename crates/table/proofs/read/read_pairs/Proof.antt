@@ -7,11 +7,10 @@ use native.Mathlib.Omega.{arith}
 use borrow.Author.Needs.{needs}
 use lib.ListN.{take, drop}
 use Rattle.table.specs.declared.read.Pairs.{Pairs}
-use Rattle.table.specs.Packed.{SmallPair, pairIn}
+use Rattle.table.specs.Packed.{pair, SmallPair, pairIn}
 use Rattle.table.specs.Group.{listOf}
 use Rattle.number.specs.Reply.{Reply, number, passed}
 use Rattle.table.specs.Table.{checkPair}
-use Rattle.table.specs.TableBytes.{pair}
 use Rattle.table.specs.Internal.{ruleOf, front, readTwo, twoReply, twoRefusal}
 use Rattle.number.proofs.RoundTrip.{read-refused}
 use Rattle.number.proofs.ReplyLaws.{some-refused, refused-some}

@@ -1,0 +1,115 @@
+-- What a cell sees of an entry of the log, and that the queue's tests of entries are the cell's.
+use Prim.Native.Nat.{ℕ}
+use mathlib.Core.Path.{_≡_, refl}
+use mathlib.Core.Bool.{Bool, true, false, _||_}
+use mathlib.Core.List.{List, [], _∷_, map}
+use mathlib.Core.Option.{Option, none, some}
+use lib.Dec.{eqb}
+use Rattle.number.specs.Basics.{pick, allOf, isSome}
+use Rattle.number.proofs.Both.{and-left, and-right}
+use Rattle.table.specs.RightTables.{Each}
+use Rattle.queue.specs.Entry.{Entry, served, written}
+use Rattle.queue.specs.Touch.{Touch, unknown, same, apart, touch, isApart}
+use Rattle.queue.specs.Serve.{fromStore, fromMemory, Source as Word, unsettled as unsettledWord, source as wordSource, nearer}
+use Rattle.queue.specs.Write.{noConflict}
+use Rattle.queue.proofs.Lists.{and-both}
+use Rattle.sequential.proofs.Log.{LogEntry, ofLoad, ofStore, loads, stores, ownIn}
+use Rattle.sequential.proofs.Lanes.{laneOf}
+use Rattle.sequential.proofs.Cells.{Stage, waiting, begun, ended, isEnded, Seen, load, store, Source, unsettled, supplied, inMemory, settled}
+use Rattle.sequential.proofs.Cells.{after, source}
+use Rattle.sequential.proofs.CellInvariant.{passed}
+
+abbrev pub stageOf : Bool → Stage
+stageOf false = waiting
+stageOf true = ended
+
+-- a lane of a word, where there is one
+abbrev pub laneIn : ℕ → Option ℕ → Option ℕ
+laneIn j none = none
+laneIn j (some w) = some (laneOf w j)
+
+-- seen from lane j of address b
+abbrev pub view : ℕ → ℕ → LogEntry → Seen ℕ
+view b j (ofLoad l) = load (touch b (l .address)) (stageOf (isSome (l .word))) (laneIn j (l .word))
+view b j (ofStore s) = store (touch b (s .address)) (stageOf (s .finished)) (laneIn j (s .word))
+
+-- an entry by what it has
+pub load-view : (b j : ℕ) (l : Entry) {address value : Option ℕ} → l .address ≡ address → l .word ≡ value
+    → view b j (ofLoad l) ≡ load (touch b address) (stageOf (isSome value)) (laneIn j value)
+load-view b j l has got = rw (has, got)
+
+pub store-view : (b j : ℕ) (s : Entry) {address word : Option ℕ} {written : Bool} → s .address ≡ address → s .word ≡ word → s .finished ≡ written
+    → view b j (ofStore s) ≡ store (touch b address) (stageOf written) (laneIn j word)
+store-view b j s has filled done = rw (has, filled, done)
+
+-- ---- a load's source
+
+-- where a load's word comes from, seen from a cell of its address
+abbrev pub sourceIn : ℕ → Word → Source ℕ
+sourceIn j unsettledWord = unsettled
+sourceIn j (fromStore word) = supplied (laneIn j word)
+sourceIn j fromMemory = inMemory
+
+unsettled-stays : {B : Type 0} (es : List (Seen B)) → source unsettled es ≡ unsettled
+unsettled-stays [] = refl
+unsettled-stays (load t g o ∷ es) = unsettled-stays es
+unsettled-stays (store t g o ∷ es) = rw (past t g) (unsettled-stays es)
+  where
+    past : (t : Touch) (g : Stage) → after t g o unsettled ≡ unsettled
+    past apart g = refl
+    past unknown g = refl
+    past same waiting = refl
+    past same begun = refl
+    past same ended = refl
+
+source-from : (a j : ℕ) (found : Word) → settled (sourceIn j found) ≡ true → (pre : List LogEntry)
+    → source (sourceIn j found) (map (view a j) pre) ≡ sourceIn j (wordSource a found (ownIn stores pre))
+source-from a j found h [] = refl
+source-from a j found h (ofLoad l ∷ pre) = source-from a j found h pre
+source-from a j found h (ofStore s ∷ pre) = go (s .address) (s .finished) (s .word) (λ x k. source-from a j x k pre)
+  where
+    go : (address : Option ℕ) (written : Bool) (word : Option ℕ)
+        → ((x : Word) → settled (sourceIn j x) ≡ true → source (sourceIn j x) (map (view a j) pre) ≡ sourceIn j (wordSource a x (ownIn stores pre)))
+        → source (after (touch a address) (stageOf written) (laneIn j word) (sourceIn j found)) (map (view a j) pre)
+        ≡ sourceIn j (pick (isSome address) (wordSource a (nearer (touch a address) written word found) (ownIn stores pre)) unsettledWord)
+    go none written word on = unsettled-stays (map (view a j) pre)
+    go (some b) written word on = met (eqb b a) written
+      where
+        met : (t written : Bool) → source (after (pick t same apart) (stageOf written) (laneIn j word) (sourceIn j found)) (map (view a j) pre)
+            ≡ sourceIn j (wordSource a (nearer (pick t same apart) written word found) (ownIn stores pre))
+        met true true = on found h
+        met true false = rw h (on (fromStore word) refl)
+        met false true = on found h
+        met false false = on found h
+
+-- The cell's source is the queue's.
+pub source-view : (a j : ℕ) (pre : List LogEntry)
+    → source inMemory (map (view a j) pre) ≡ sourceIn j (wordSource a fromMemory (ownIn stores pre))
+source-view a j pre = source-from a j fromMemory refl pre
+
+-- ---- 31 and 32
+
+-- out of the way: ended, or at a known other address
+passed-view : (a : ℕ) (ended? : Bool) (address : Option ℕ) → ended? || isApart (touch a address) ≡ true
+    → isApart (touch a address) || isEnded (stageOf ended?) ≡ true
+passed-view a true none h = refl
+passed-view a false none h = h
+passed-view a e (some b) h = go (eqb b a) e h
+  where
+    go : (t e : Bool) → e || isApart (pick t same apart) ≡ true → isApart (pick t same apart) || isEnded (stageOf e) ≡ true
+    go true true h = refl
+    go true false h = h
+    go false e h = refl
+
+-- What comes before a store and does not conflict with it has passed, as the cell sees it.
+pub conflicts-view : (a j : ℕ) (pre : List LogEntry) → allOf (noConflict served a) (ownIn loads pre) ≡ true
+    → allOf (noConflict written a) (ownIn stores pre) ≡ true → Each (λ x. passed x ≡ true) (map (view a j) pre)
+conflicts-view a j [] h k = tt
+conflicts-view a j (ofLoad l ∷ pre) h k = (
+  and-both (passed-view a (isSome (l .word)) (l .address) (and-left (noConflict served a l) (allOf (noConflict served a) (ownIn loads pre)) h)) refl,
+  conflicts-view a j pre (and-right (noConflict served a l) (allOf (noConflict served a) (ownIn loads pre)) h) k,
+)
+conflicts-view a j (ofStore s ∷ pre) h k = (
+  passed-view a (s .finished) (s .address) (and-left (noConflict written a s) (allOf (noConflict written a) (ownIn stores pre)) k),
+  conflicts-view a j pre h (and-right (noConflict written a s) (allOf (noConflict written a) (ownIn stores pre)) k),
+)

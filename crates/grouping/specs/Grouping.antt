@@ -30,7 +30,7 @@ accessAt accesses a = pick (eqb (getD (accesses .kinds) a 0) 0) load store (pair
 abbrev pub inOrder : Accesses → List ℕ → List Access
 inOrder accesses numbers = map (accessAt accesses) numbers
 
--- "A load's offset counts the group's stores before it; a store's counts the loads before it."
+-- the group of accesses in this order, their offsets counted along it
 abbrev pub withOffsets : List Access → GroupPairs
 withOffsets accesses = record { loads = countedPairs isLoad 0 0 accesses; stores = countedPairs isStore 0 0 accesses }
 
@@ -48,7 +48,8 @@ groupsInOrder r accesses = pick (namesAccesses r) (withOffsets (inOrder accesses
 abbrev pub OrderKept : Type 0
 OrderKept = (accesses : List Access) → map uncounted (order (withOffsets accesses)) ≡ map uncounted accesses
 
--- .. which are counted. The proofs are proofs/Orders.antt.
+-- .. and the offsets that they carry are the counted ones. That they are counted rightly is not said here: of loads it is the statement
+-- above, of stores that no offset is refused, below. The proofs are proofs/Orders.antt.
 abbrev pub OrderCounted : Type 0
 OrderCounted = (accesses : List Access) → order (withOffsets accesses) ≡ offsetsCounted 0 0 accesses
 

@@ -9,7 +9,7 @@ use lib.ListN.{length, take, getElem?}
 use Rattle.number.specs.Basics.{anyOf, allOf}
 use Rattle.number.specs.Reply.{accept}
 use Rattle.table.specs.Group.{GroupPairs}
-use Rattle.queue.specs.declared.Kind.the-variants.{Load as load, Store as store}
+use Rattle.queue.specs.declared.Kind.the-variants.{Load as load}
 use Rattle.queue.specs.declared.arguments.Argument.{Argument}
 use Rattle.queue.specs.Entry.{Entry, served, valueOf, dataOf, written}
 use Rattle.queue.specs.Contents.{Contents, placeOf, othersBefore}
@@ -70,7 +70,7 @@ serve-accepts q m serial h₀ =
     let (v, may, h₄) = andThen-accepts (mayServe m (othersBefore (q .stores) l) l) _ h₃ in
     (t₁, l, at, record { loaded = v; may = may-serve-accepts m (othersBefore (q .stores) l) l v may }, cc)
 
--- ---- write: the store has an address and data, and what comes before it gave way
+-- ---- write: the store has an address and data, and nothing before it conflicts with it
 pub record MayWrite (ls : List Entry) (ss : List Entry) (s : Entry) (p : WordPut) : Type 0 where
   pub unwritten : not (written s) ≡ true
   pub addressed : s .address ≡ some (p .address)

@@ -62,7 +62,7 @@ sound-parts q h =
       table = and-right (m && l && s) _ h;
     }
 
-pub parts-side : (words : ℕ) (s other : Side) → SideSound words s other → sideRight words s other ≡ true
+parts-side : (words : ℕ) (s other : Side) → SideSound words s other → sideRight words s other ≡ true
 parts-side words s other p = rw (p .depth, p .few, p .entries)
 
 pub parts-sound : (q : Contents) → Sound q → sound q ≡ true

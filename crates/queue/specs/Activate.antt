@@ -36,6 +36,7 @@ room q g = sideHasRoom (q .loads) (length (g .loads)) && sideHasRoom (q .stores)
 abbrev pub joined : Side → List Entry → Side
 joined s new = record { depth = s .depth; next = after (s .next) (length new); entries = s .entries ++ new }
 
+-- the queue with a group's new entries on both sides
 abbrev pub withGroup : Contents → GroupPairs → Contents
 withGroup q g =
     withSides q (joined (q .loads) (newEntries load (length (q .stores .entries)) (order g)))

@@ -1,7 +1,7 @@
 -- "An argument goes to its port's oldest entry that lacks it." "Load address, store address: 22 port not in the table;
 -- 23 address not below memory length; 24 no entry waits for it. Store data: 22, 24."
 use Prim.Native.Nat.{ℕ}
-use mathlib.Core.Bool.{Bool, true, not}
+use mathlib.Core.Bool.{Bool, true}
 use mathlib.Core.List.{List}
 use mathlib.Core.Option.{Option}
 use lib.Dec.{eqb, ltb}
@@ -56,6 +56,7 @@ lacks argument = ofPortWithout (λ e. isSome (argumentIn argument e))
 abbrev pub askedOf : Argument → Contents → List Entry
 askedOf argument q = sideOf (kindOf argument) q .entries
 
+-- the first element that passes is made anew
 abbrev pub updateFirst : {A : Type 0} → (A → Bool) → (A → A) → List A → List A
 updateFirst p f l = updateAt f (firstPlace p l) l
 

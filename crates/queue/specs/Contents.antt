@@ -31,6 +31,7 @@ pub record Contents : Type 0 where
 abbrev pub entriesHeld : ℕ → List ℕ → List Entry
 entriesHeld n l = map entryIn (held 0 n l)
 
+-- what the record of a side and its run of numbers hold
 abbrev pub sideIn : SideStruct → List ℕ → Side
 sideIn s l = record { depth = s .depth; next = s .next; entries = entriesHeld (s .count) l }
 
@@ -43,7 +44,7 @@ contentsOf q = record {
   stores = sideIn (q .frame .stores) (q .«store_entries»);
 }
 
--- what there is of the loads, and of the stores
+-- of two things, one of the loads and one of the stores, that of the kind
 abbrev pub ofKind : {A : Type 0} → Kind → A → A → A
 ofKind load a b = a
 ofKind store a b = b

@@ -46,10 +46,11 @@ ofPortWithout test port e = eqb (e .port) port && not (test e)
 abbrev pub newEntry : Pair → ℕ → Entry
 newEntry p before = entry (p .port) none none false before
 
--- an entry made anew: all that its pair gave it stays
+-- an entry made anew: its port, which its pair gave it, stays
 abbrev pub anew : Entry → Option ℕ → Option ℕ → Bool → ℕ → Entry
 anew e address word finished before = entry (e .port) address word finished before
 
+-- with an address; with a word; finished; remembering n of the other kind
 abbrev pub withAddress : ℕ → Entry → Entry
 withAddress a e = anew e (some a) (e .word) (e .finished) (e .before)
 
@@ -80,7 +81,7 @@ unpacked n = record {
   word = n / 4294967296 % 4294967296;
 }
 
--- Every other record of an entry is built by this.
+-- Every record of an entry but that one is built by this.
 abbrev pub entryStruct : ℕ → Bool → ℕ → Bool → ℕ → Bool → ℕ → EntryStruct
 entryStruct port addressed address filled word finished before = record {
   port = port;

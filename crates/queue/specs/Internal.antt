@@ -64,7 +64,7 @@ pub record Checked (outline : Outline) (loads stores : List ℕ) : Type 0 where
   pub loads-whole : Has64 loads
   pub stores-whole : Has64 stores
 
--- ---- the record of an entry
+-- ---- the record of an entry, made anew
 abbrev pub setAddress : ℕ → EntryStruct → EntryStruct
 setAddress a s = entryStruct (s .port) true a (s .filled) (s .word) (s .finished) (s .before)
 

@@ -29,8 +29,8 @@ pub data Source : Type 0 where
   fromStore : Option ℕ → Source
   fromMemory : Source
 
--- What a store makes of the source that was found before it: an unwritten one to the address takes its place. One without address
--- leaves nothing settled; the walk below ends there.
+-- What a store leaves of the source that was found among the stores before it: an unwritten one to the address takes that source's
+-- place; a written one, and one to another address, leave it. A store without address does not come here: the walk below ends at it.
 abbrev pub nearer : Touch → Bool → Option ℕ → Source → Source
 nearer apart isWritten word found = found
 nearer unknown isWritten word found = unsettled

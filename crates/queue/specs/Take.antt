@@ -1,7 +1,7 @@
 -- "Take gives the value of the port's oldest untaken load." "Take: 22; 33 no untaken load of the port is queued; 34 the
 -- oldest is not served."
 use Prim.Native.Nat.{ℕ}
-use mathlib.Core.Bool.{Bool, not}
+use mathlib.Core.Bool.{Bool}
 use lib.ListN.{getElem?}
 use Rattle.number.specs.Basics.{anyOf}
 use Rattle.number.specs.Refusal.{unsound, noPort, noneUntaken, notServed}
@@ -18,13 +18,15 @@ pub record Taken : Type 0 where
   pub value : ℕ
   pub queue : Contents
 
+-- an untaken load of the port
 abbrev pub untaken : ℕ → Entry → Bool
 untaken = ofPortWithout taken
 
--- the place of the port's oldest untaken load; the load there is taken, and gives this value
+-- the place of the port's oldest untaken load
 abbrev pub takePlace : Contents → ℕ → ℕ
 takePlace q port = firstPlace (untaken port) (q .loads .entries)
 
+-- the load at a place is taken, and gives this value
 abbrev pub takenWith : Contents → ℕ → ℕ → Taken
 takenWith q place v = record { value = v; queue = retire (withEntries load q (updateAt markFinished place (q .loads .entries))) }
 

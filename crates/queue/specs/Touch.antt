@@ -1,4 +1,4 @@
--- What an access is to a word of memory: 28 to 32 ask this of the accesses before one.
+-- What an access is to the word at an address. 29, 31 and 32 ask this of the accesses before one; 28 is for one that is unknown.
 use Prim.Native.Nat.{ℕ}
 use mathlib.Core.Bool.{Bool, true, false}
 use mathlib.Core.Option.{Option, none, some}
@@ -16,6 +16,7 @@ abbrev pub touch : ℕ → Option ℕ → Touch
 touch a none = unknown
 touch a (some b) = pick (eqb b a) same apart
 
+-- is it known to have another address; has it this one
 abbrev pub isApart : Touch → Bool
 isApart apart = true
 isApart unknown = false

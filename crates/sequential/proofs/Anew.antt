@@ -21,7 +21,7 @@ use Rattle.sequential.specs.Demand3.{tell, told, takenAt, serveOf, write
 use Rattle.sequential.proofs.Log.{LogEntry, accessOf, loads, stores, ownIn, loads-stores, stores-loads, ownIn-append, Opposite, put, own-put}
 use Rattle.sequential.proofs.Window.{Located, turned, window-leave, Windows, put-other}
 use Rattle.sequential.proofs.CellLog.{CellsHold}
-use Rattle.sequential.proofs.Rows.{Row, RowCell, given, valueTaken, row-same}
+use Rattle.sequential.proofs.Rows.{Row, RowPlace, given, valueTaken, row-same}
 use Rattle.sequential.proofs.Invariant.{Holds, LogSeen, rightEntry, isServed, isWritten, seen-more}
 
 -- ---- the queue's part
@@ -101,10 +101,10 @@ holds-retired {q} {m} {memory} {log} h = record {
 
 -- ---- the answers' part
 
--- a row to which nothing is added, and whose cells are as they were
-pub row-kept : (cell : LogEntry → RowCell) (e e′ : LogEntry) → cell e ≡ cell e′ → (post pre : List LogEntry) (row : List ℕ)
-    → Row cell (pre ++ e ∷ post) row → Row cell (pre ++ e′ ∷ post) (row ++ [])
-row-kept cell e e′ same post pre row h = rw (append-nil row) (row-same cell e e′ same post pre row h)
+-- a row to which nothing is added, and whose places are as they were
+pub row-kept : (place : LogEntry → RowPlace) (e e′ : LogEntry) → place e ≡ place e′ → (post pre : List LogEntry) (row : List ℕ)
+    → Row place (pre ++ e ∷ post) row → Row place (pre ++ e′ ∷ post) (row ++ [])
+row-kept place e e′ same post pre row h = rw (append-nil row) (row-same place e e′ same post pre row h)
 
 count-anew : (p : LogEntry → Bool) (e e′ : LogEntry) (n : ℕ) → countWhere p (e′ ∷ []) ≡ countWhere p (e ∷ []) + n → (pre post : List LogEntry)
     → countWhere p (pre ++ e′ ∷ post) ≡ countWhere p (pre ++ e ∷ post) + n

@@ -1,11 +1,11 @@
--- A serve is a begin and a finish with nothing between, and so is a write. The same for a cell.
+-- An accepted serve is, to every cell, a begin and a finish with nothing between; so is an accepted write.
 use mathlib.Core.Path.{_≡_, refl}
 use mathlib.Core.Bool.{true}
 use mathlib.Core.List.{List, _∷_, _++_}
 use mathlib.Core.Option.{Option, some}
 use Rattle.table.specs.RightTables.{Each}
-use Rattle.sequential.proofs.Cells.{waiting, ended, Seen, load, store, supplied, inMemory, source}
 use Rattle.queue.specs.Touch.{same}
+use Rattle.sequential.proofs.Cells.{waiting, ended, Seen, load, store, supplied, inMemory, source}
 use Rattle.sequential.proofs.CellInvariant.{passed, CellInvariant}
 use Rattle.sequential.proofs.CellMoves.{load-forwarded, load-begun, load-ended, store-begun, store-ended, moves-keep}
 

@@ -1,5 +1,5 @@
 -- One cell. Everything that the order of accesses has to guarantee is a matter of each cell alone: a memory is here one
--- byte, an entry is what the cell sees of it. No address, no lane and no law of memory occurs.
+-- value, an entry is what the cell sees of it. No address, no lane and no law of memory occurs.
 use mathlib.Core.Path.{_≡_}
 use mathlib.Core.Bool.{Bool, true, false, not, _&&_, _||_}
 use mathlib.Core.List.{List, [], _∷_}
@@ -47,7 +47,7 @@ module _ {B : Type 0} where
   Agree m n (load t g o ∷ es) = (may t true → orElse o m ≡ n) × Agree m n es
   Agree m n (store t g o ∷ es) = (b : Bool) → may t b → (w : B) → fits o w → Agree (does g b w m) (pick b w n) es
 
-  -- Right. What has no address waits; a waiting load has nothing, an ended one has its byte.
+  -- Right. What has no address waits; a waiting load has nothing, an ended one has its value.
   abbrev pub RightLoad : Touch → Stage → Option B → Type 0
   RightLoad apart g o = Unit {0}
   RightLoad unknown g o = (g ≡ waiting) × (o ≡ none)
@@ -68,7 +68,7 @@ module _ {B : Type 0} where
   readsMemory (load t g o) = isSame t && (isBegun g && not (isSome o))
   readsMemory (store t g o) = false
 
-  -- out of a later store's way
+  -- an earlier entry that 31 and 32 let a store pass
   abbrev pub passed : Seen B → Bool
   passed a = loadPassed a && storePassed a
 

@@ -91,7 +91,7 @@ module _ {B : Type 0} where
   agree-change e e′ post change (load t g o ∷ pre) m n h = (h .0, agree-change e e′ post change pre m n (h .1))
   agree-change e e′ post change (store t g o ∷ pre) m n h = λ b p w q. agree-change e e′ post change pre (does g b w m) (pick b w n) (h b p w q)
 
-  -- a load gets the byte that virtual memory holds
+  -- a load gets the value that virtual memory holds
   pub agree-got : (t : Touch) (g g′ : Stage) (v : B) (post pre : List (Seen B)) (m n : B) → Holding v m pre
       → Agree m n (pre ++ load t g none ∷ post) → Agree m n (pre ++ load t g′ (some v) ∷ post)
   agree-got t g g′ v post [] m n k h = (λ p. sym k ∙ h .0 p, h .1)
@@ -108,7 +108,7 @@ module _ {B : Type 0} where
   reads-passed same ended none h r p m m′ = false-true r
   reads-passed same ended (some v) h r p m m′ = refl
 
-  -- Memory takes the store's byte. Everything before it has passed, so no one there looks.
+  -- Memory takes the store's value. Everything before it has passed, so nothing there reads memory any more.
   pub agree-write : (w : B) (post pre : List (Seen B)) (m n : B) → Each (λ a. passed a ≡ true) pre → Each Right pre
       → Agree m n (pre ++ store same begun (some w) ∷ post) → Agree w n (pre ++ store same ended (some w) ∷ post)
   agree-write w post [] m n s r h = λ b p x q. rw (p, ← q) (h true refl w refl)

@@ -25,8 +25,8 @@ right-store unknown = refl
 right-store same = record {}
 
 module _ {B : Type 0} where
-  -- What a move of one entry is to a cell, m its byte in memory and pre the entries before: the entry before and after, and
-  -- the byte after.
+  -- What a move of one entry is to a cell, m its value in memory and pre the entries before: the entry before and after, and
+  -- the value after.
   pub data Moves (m : B) (pre : List (Seen B)) : Seen B → Seen B → B → Type 0 where
     load-aside : {g g′ : Stage} {o o′ : Option B} → Moves m pre (load apart g o) (load apart g′ o′) m
     store-aside : {g g′ : Stage} {o o′ : Option B} → Moves m pre (store apart g o) (store apart g′ o′) m
@@ -47,13 +47,13 @@ module _ {B : Type 0} where
   right-load unknown o h = (refl, h)
   right-load same o h = h
 
-  -- an entry that is ahead of nothing asks nothing of those before it
+  -- an entry that neither writes nor will read memory asks nothing of those before it
   idle : (e : Seen B) → writes e ≡ false → readsMemory e ≡ false → (a : Seen B) → Before a e
   idle e w r a = record { ordered = λ h. false-true (sym w ∙ h); clear = λ h. false-true (sym r ∙ h) }
 
   -- ---- one entry made anew
 
-  -- It stands in no one's way where it did not before.
+  -- 31 and 32 refuse no later store for it that they did not refuse before.
   record Onward (e e′ : Seen B) : Type 0 where
     all-passed : passed e ≡ true → passed e′ ≡ true
     store-passed : storePassed e ≡ true → storePassed e′ ≡ true
@@ -70,7 +70,7 @@ module _ {B : Type 0} where
         (λ x b. record { ordered = λ w. on .all-passed (b .ordered w); clear = λ r. on .store-passed (b .clear r) }) (h .before);
   }
 
-  -- the same for an entry that is then ahead of nothing
+  -- the same for an entry that then neither writes nor will read memory
   anew-idle : {m n m′ : B} (pre post : List (Seen B)) (e e′ : Seen B) → CellInvariant m n (pre ++ e ∷ post)
       → Agree m′ n (pre ++ e′ ∷ post) → (Right e → Right e′) → Onward e e′ → writes e′ ≡ false → readsMemory e′ ≡ false
       → CellInvariant m′ n (pre ++ e′ ∷ post)

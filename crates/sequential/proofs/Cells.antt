@@ -1,5 +1,5 @@
--- What one cell sees of the log. A memory is there one byte, and an access is apart from the cell, unknown (it has no address yet) or
--- the same. Every rule that orders accesses is a rule of each cell alone.
+-- What one cell sees of the log. A memory is there one value, of any type (today a word), and an access is apart from the cell,
+-- unknown (it has no address yet) or the same. Every rule that orders accesses is a rule of each cell alone.
 use mathlib.Core.Bool.{Bool, true, false, _||_}
 use mathlib.Core.List.{List, [], _∷_}
 use mathlib.Core.Option.{Option}
@@ -27,12 +27,12 @@ isEnded waiting = false
 isEnded begun = false
 isEnded ended = true
 
--- whether the cell is concerned, the stage, and a byte: what a load has got, what a store puts
+-- whether the cell is concerned, the stage, and a value: what a load has got, what a store puts
 pub data Seen (B : Type 0) : Type 0 where
   load : Touch → Stage → Option B → Seen B
   store : Touch → Stage → Option B → Seen B
 
--- where a load would find its byte
+-- where a load would find its value
 pub data Source (B : Type 0) : Type 0 where
   unsettled : Source B
   supplied : Option B → Source B

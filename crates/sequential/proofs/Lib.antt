@@ -16,7 +16,7 @@ pub mod Rows
 pub mod Invariant
 pub mod Anew
 pub mod PlainRun
-pub mod Slots
+pub mod ArgumentLaws
 pub mod Accepted
 pub mod Steps
 pub mod Run

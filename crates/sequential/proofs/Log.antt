@@ -25,7 +25,7 @@ pub data LogEntry : Type 0 where
   ofLoad : Entry → LogEntry
   ofStore : Entry → LogEntry
 
--- the access that an entry is of, at no offset; and the entry of an access that has been given nothing yet
+-- the access that an entry is of, with offset 0; and the entry of an access that has been given nothing yet
 abbrev pub pairFor : Entry → Pair
 pairFor e = pair 0 (e .port)
 

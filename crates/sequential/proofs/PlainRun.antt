@@ -24,7 +24,7 @@ use Rattle.sequential.proofs.Log.{LogEntry, ofLoad, ofStore, accessOf, 
 use Rattle.sequential.proofs.Lanes.{lanes, laneOf, cellAt, lanes-word, at-put, cells-memory}
 use Rattle.sequential.proofs.CellInvariant.{may, fits, does, Agree}
 use Rattle.sequential.proofs.Views.{stageOf, laneIn, view}
-use Rattle.sequential.proofs.Rows.{Row, fed, cellFor, valueTaken, AllRows, rows-after-load, rows-after-store, load-fits, store-fits, word-fits}
+use Rattle.sequential.proofs.Rows.{Row, fed, placeFor, valueTaken, AllRows, rows-after-load, rows-after-store, load-fits, store-fits, word-fits}
 use Rattle.sequential.proofs.Rows.{eqb-self}
 use Rattle.sequential.proofs.Invariant.{LogSeen, rightLoad, served-addressed, load-in-range}
 
@@ -103,7 +103,7 @@ taken-is-loaded fill port (ofLoad l ∷ es) k v n rows right h g row r i x e =
     served (some y) w (suc j) (row′, is, r′) e′ rec = rec row′ r′ j (rw is at e′)
 
     go : (same taken : Bool) (o : Option ℕ) → ((y : ℕ) → o ≡ some y → y ≡ word)
-        → (j : ℕ) → fed (cellFor same (pick taken o none)) (Row (valueTaken port) es) row → getElem? row j ≡ some x
+        → (j : ℕ) → fed (placeFor same (pick taken o none)) (Row (valueTaken port) es) row → getElem? row j ≡ some x
         → ((row′ : List ℕ) → Row (valueTaken port) es row′ → (j : ℕ) → getElem? row′ j ≡ some x → getElem? later j ≡ some x)
         → getElem? (pick same (word ∷ later) later) j ≡ some x
     go false taken o w j r′ e′ rec = rec row r′ j e′

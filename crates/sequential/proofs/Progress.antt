@@ -34,7 +34,7 @@ use Rattle.sequential.proofs.Log.{LogEntry, ofLoad, ofStore, accessOf, 
 use Rattle.sequential.proofs.Log.{own, put-own}
 use Rattle.sequential.proofs.Window.{Located, turned, unfinished-queued, before-queued}
 use Rattle.sequential.proofs.PlainRun.{seen-count, loads-uncounted, stores-uncounted, uses-uncounted}
-use Rattle.sequential.proofs.Rows.{given, cellFor, lacking, row-full, eqb-self}
+use Rattle.sequential.proofs.Rows.{given, placeFor, lacking, row-full, eqb-self}
 use Rattle.sequential.proofs.Invariant.{Holds, Invariant, rightLoad, untaken-unserved, isServed, isWritten}
 use Rattle.sequential.proofs.ReachedSound.{holds-sound}
 
@@ -77,14 +77,14 @@ all-own K p r w (e ∷ es) h = go (own K e) refl (all-own K p r w es (and-right 
     go none own k = k
     go (some a) own k = let is : e ≡ put K a = put-own K e a own in and-both (w a (rw is at (and-left (p e) (allOf p es) h))) k
 
-filled-some : (port : ℕ) (o : Option ℕ) → not (lacking (cellFor (eqb port port) o)) ≡ true → isSome o ≡ true
+filled-some : (port : ℕ) (o : Option ℕ) → not (lacking (placeFor (eqb port port) o)) ≡ true → isSome o ≡ true
 filled-some port o h = go o (rw (eqb-self port) at h)
   where
     go : (o : Option ℕ) → not (lacking (some o)) ≡ true → isSome o ≡ true
     go none k = k
     go (some x) k = refl
 
--- where no cell waits, every entry is complete
+-- where no place waits, every entry is complete
 all-complete : (es : List LogEntry) → ((kind : Argument) (port : ℕ) → allOf (λ d. not (lacking (given kind port d))) es ≡ true)
     → allOf complete es ≡ true
 all-complete [] h = refl
@@ -97,18 +97,18 @@ all-complete (ofStore s ∷ es) h =
     (filled-some (s .port) (s .word) (and-left (not (lacking (given StoreData (s .port) (ofStore s)))) _ (h StoreData (s .port)))))
     (all-complete es (λ kind port. and-right (not (lacking (given kind port (ofStore s)))) _ (h kind port)))
 
-cell-there : (b : Bool) (o : Option ℕ) → isSome (cellFor b o) ≡ b
-cell-there true o = refl
-cell-there false o = refl
+place-there : (b : Bool) (o : Option ℕ) → isSome (placeFor b o) ≡ b
+place-there true o = refl
+place-there false o = refl
 
--- an entry has a cell in the row of what its access uses
+-- an entry has a place in the row of what its access uses
 given-uses : (kind : Argument) (port : ℕ) (e : LogEntry) → isSome (given kind port e) ≡ uses kind port (accessOf e)
-given-uses LoadAddress port (ofLoad l) = cell-there (eqb (l .port) port) (l .address)
+given-uses LoadAddress port (ofLoad l) = place-there (eqb (l .port) port) (l .address)
 given-uses LoadAddress port (ofStore s) = refl
 given-uses StoreAddress port (ofLoad l) = refl
-given-uses StoreAddress port (ofStore s) = cell-there (eqb (s .port) port) (s .address)
+given-uses StoreAddress port (ofStore s) = place-there (eqb (s .port) port) (s .address)
 given-uses StoreData port (ofLoad l) = refl
-given-uses StoreData port (ofStore s) = cell-there (eqb (s .port) port) (s .word)
+given-uses StoreData port (ofStore s) = place-there (eqb (s .port) port) (s .word)
 
 count-uses : (kind : Argument) (port : ℕ) (es : List LogEntry)
     → countWhere (λ d. isSome (given kind port d)) es ≡ countWhere (uses kind port) (map accessOf es)

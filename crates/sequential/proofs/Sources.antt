@@ -11,15 +11,11 @@ use Rattle.number.specs.Basics.{pick, countWhere}
 use Rattle.table.specs.declared.Pair.{Pair}
 use Rattle.table.specs.Group.{Access, load, store}
 use Rattle.queue.specs.declared.arguments.Argument.the-variants.{LoadAddress, StoreAddress, StoreData}
+use Rattle.queue.proofs.ContentsLaws.{map-set}
 use Rattle.sequential.specs.Plain.{Rows, rowsOf, accesses, Filling, nextOf, usedUp, wordReading, valuesFrom, valuesAt, plainLoads}
 use Rattle.sequential.specs.Demand3.{uses}
 use Rattle.sequential.specs.Sources.{Source, opening, by, sourceReading, openings, plainSources, dataBy, wordOf, SourcesGiveWords}
 use Rattle.sequential.proofs.Rows.{eqb-turned}
-
-map-set : {A B : Type 0} (f : A → B) (l : List A) (i : ℕ) (x : A) → map f (set l i x) ≡ set (map f l) i (f x)
-map-set f [] i x = refl
-map-set f (y ∷ l) zero x = refl
-map-set {B = B} f (y ∷ l) (suc i) x = ap (λ (r : List B). f y ∷ r) (map-set f l i x)
 
 drop-tail : {A : Type 0} (n : ℕ) (l : List A) → drop (suc n) l ≡ drop n (tail l)
 drop-tail zero [] = refl

@@ -19,6 +19,7 @@ use Rattle.sequential.proofs.Cells.{Stage, waiting, begun, ended, isEnd
 use Rattle.sequential.proofs.Cells.{after, source}
 use Rattle.sequential.proofs.CellInvariant.{passed}
 
+-- Serves and writes begin and end in one call, so the queue shows no entry begun.
 abbrev pub stageOf : Bool → Stage
 stageOf false = waiting
 stageOf true = ended
@@ -89,7 +90,7 @@ source-view a j pre = source-from a j fromMemory refl pre
 
 -- ---- 31 and 32
 
--- out of the way: ended, or at a known other address
+-- let past: ended, or at a known other address
 passed-view : (a : ℕ) (ended? : Bool) (address : Option ℕ) → ended? || isApart (touch a address) ≡ true
     → isApart (touch a address) || isEnded (stageOf ended?) ≡ true
 passed-view a true none h = refl

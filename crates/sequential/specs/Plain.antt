@@ -138,14 +138,16 @@ module _ {A : Type 0} (reading : Reading A) (fill : Filling) where
   memoryFrom k s (load p ∷ rest) = memoryFrom (suc k) (afterLoad s (p .port)) rest
   memoryFrom k s (store p ∷ rest) = memoryFrom (suc k) (afterStore k s (p .port)) rest
 
+-- the run's beginning: the opening memory and all the rows
 abbrev pub plainStart : {A : Type 0} → List A → List Told → PlainState A
 plainStart memory ts = record { memory = memory; rows = rowsOf ts }
 
--- The plain run: the values that a port loads, in order, and the memory that it leaves.
+-- of the values loaded, those of a port, in order
 abbrev pub valuesAt : {A : Type 0} → ℕ → List (PortValue A) → List A
 valuesAt port [] = []
 valuesAt port (l ∷ ls) = pick (eqb (l .port) port) (l .value ∷ valuesAt port ls) (valuesAt port ls)
 
+-- The plain run: the values that a port loads, in order, and the memory that it leaves.
 unfoldable pub plainLoads : List GroupPairs → List ℕ → List Told → Filling → ℕ → List ℕ
 plainLoads groups memory ts fill port = valuesAt port (valuesFrom wordReading fill 0 (plainStart memory ts) (accesses groups ts))
 

@@ -16,7 +16,7 @@ pub data Source : Type 0 where
   opening : ℕ → Source
   by : ℕ → Source
 
--- Past the end of a memory of this length every address is as the first one there.
+-- Past a memory's end, which is its length, the plain run reads 0. The source is then said to be the opening word there, which is 0 too.
 abbrev pub sourceReading : ℕ → Reading Source
 sourceReading end = record { beyond = opening end; put = λ k w. by k }
 

@@ -27,7 +27,7 @@ use Rattle.sequential.specs.Demand3.{told, takenAt}
 use Rattle.sequential.proofs.Log.{LogEntry, accessOf, fresh, loads, stores, side, ownIn, loads-stores, stores-loads, ownIn-append}
 use Rattle.sequential.proofs.Window.{shown, window-append}
 use Rattle.sequential.proofs.CellLog.{cells-added}
-use Rattle.sequential.proofs.Rows.{given, valueTaken, hasNone, cellFor, row-append}
+use Rattle.sequential.proofs.Rows.{given, valueTaken, hasNone, placeFor, row-append}
 use Rattle.sequential.proofs.Invariant.{Invariant, Holds, LogSeen, rightEntry, isServed, isWritten, seen-more}
 
 -- the new entries that the queue shows are those of the log
@@ -69,20 +69,20 @@ fresh-access [] = refl
 fresh-access (load p ∷ new) = ap (λ (l : List Access). load (atOffset 0 p) ∷ l) (fresh-access new)
 fresh-access (store p ∷ new) = ap (λ (l : List Access). store (atOffset 0 p) ∷ l) (fresh-access new)
 
-empty-cell : (b : Bool) → hasNone (cellFor b none) ≡ true
-empty-cell true = refl
-empty-cell false = refl
+empty-place : (b : Bool) → hasNone (placeFor b none) ≡ true
+empty-place true = refl
+empty-place false = refl
 
 fresh-given : (kind : Argument) (port : ℕ) (a : Access) → hasNone (given kind port (fresh a)) ≡ true
-fresh-given LoadAddress port (load p) = empty-cell (eqb (p .port) port)
+fresh-given LoadAddress port (load p) = empty-place (eqb (p .port) port)
 fresh-given LoadAddress port (store p) = refl
 fresh-given StoreAddress port (load p) = refl
-fresh-given StoreAddress port (store p) = empty-cell (eqb (p .port) port)
+fresh-given StoreAddress port (store p) = empty-place (eqb (p .port) port)
 fresh-given StoreData port (load p) = refl
-fresh-given StoreData port (store p) = empty-cell (eqb (p .port) port)
+fresh-given StoreData port (store p) = empty-place (eqb (p .port) port)
 
 fresh-value : (port : ℕ) (a : Access) → hasNone (valueTaken port (fresh a)) ≡ true
-fresh-value port (load p) = empty-cell (eqb (p .port) port)
+fresh-value port (load p) = empty-place (eqb (p .port) port)
 fresh-value port (store p) = refl
 
 module _ (groups : List GroupPairs) (memory : List ℕ) (answered : List Answered) (q : Contents) (m : List ℕ) (log : List LogEntry)

@@ -31,9 +31,9 @@ use Rattle.sequential.proofs.Window.{Located, locate, before-log}
 use Rattle.sequential.proofs.Lanes.{cellAt}
 use Rattle.sequential.proofs.Views.{view}
 use Rattle.sequential.proofs.CellLog.{cells-moved}
-use Rattle.sequential.proofs.Rows.{Row, given, valueTaken, cellFor, lacking, row-of-port, none-waits}
-use Rattle.sequential.proofs.Slots.{cell-is, cell-filled, cell-other, same-kind, rows-kept, others-kept, given-moves, remembered-kept}
-use Rattle.sequential.proofs.Slots.{before-kept}
+use Rattle.sequential.proofs.Rows.{Row, given, valueTaken, placeFor, lacking, row-of-port, none-waits}
+use Rattle.sequential.proofs.ArgumentLaws.{place-is, place-filled, place-other, same-kind, rows-kept, others-kept, given-moves, remembered-kept}
+use Rattle.sequential.proofs.ArgumentLaws.{before-kept}
 use Rattle.sequential.proofs.Invariant.{Invariant, Holds, LogSeen, rightEntry, rightStore, taken-served, served-addressed, written-full}
 use Rattle.sequential.proofs.Invariant.{store-in-range, isServed, isWritten}
 use Rattle.sequential.proofs.Anew.{windows-of, holds-anew, row-kept, seen-anew}
@@ -149,15 +149,15 @@ module _ (argument : Argument) (p x : ℕ) where
     own-row : (port : ℕ) → Row (given argument port) (pre ++ after ∷ post) (rowsOf (told answered) argument port ++ pick (eqb p port) (x ∷ []) [])
     own-row =
         row-of-port (given argument) (put K it) after x p pre post
-        (cell-is argument p it ∙ rw (same, empty)) (cell-filled argument p x it ∙ rw same)
-        (none-waits K (given argument p) (λ e h. rw (cell-other argument p e h)) pre
+        (place-is argument p it ∙ rw (same, empty)) (place-filled argument p x it ∙ rw same)
+        (none-waits K (given argument p) (λ e h. rw (place-other argument p e h)) pre
         (all-weaken (λ e. not (lacks argument p e)) (λ e. not (lacking (given argument p (put K e))))
-        (λ e h. rw (cell-is argument p e) (go (eqb (e .port) p) (argumentIn argument e) h)) (ownIn K pre) earlier))
-        (λ port e. let f : eqb (it .port) port ≡ false = ap (λ (k : ℕ). eqb k port) (eqb-true (it .port) p same) ∙ e in cell-is argument port it
-        ∙ rw f (sym (cell-filled argument port x it ∙ rw f)))
+        (λ e h. rw (place-is argument p e) (go (eqb (e .port) p) (argumentIn argument e) h)) (ownIn K pre) earlier))
+        (λ port e. let f : eqb (it .port) port ≡ false = ap (λ (k : ℕ). eqb k port) (eqb-true (it .port) p same) ∙ e in place-is argument port it
+        ∙ rw f (sym (place-filled argument port x it ∙ rw f)))
         (rowsOf (told answered) argument) (seen .rows argument)
       where
-        go : (b : Bool) (o : Option ℕ) → not (b && not (isSome o)) ≡ true → not (lacking (cellFor b o)) ≡ true
+        go : (b : Bool) (o : Option ℕ) → not (b && not (isSome o)) ≡ true → not (lacking (placeFor b o)) ≡ true
         go true none h = h
         go true (some y) h = refl
         go false o h = refl

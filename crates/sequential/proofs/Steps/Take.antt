@@ -24,7 +24,7 @@ use Rattle.sequential.specs.Demand3.{told, takenAt}
 use Rattle.sequential.proofs.Log.{LogEntry, ofLoad, ofStore, loads, stores, ownIn, loads-stores, ownIn-append, own}
 use Rattle.sequential.proofs.Window.{Located, locate, before-log}
 use Rattle.sequential.proofs.CellLog.{cells-same}
-use Rattle.sequential.proofs.Rows.{given, valueTaken, cellFor, lacking, row-of-port, none-waits}
+use Rattle.sequential.proofs.Rows.{given, valueTaken, placeFor, lacking, row-of-port, none-waits}
 use Rattle.sequential.proofs.Invariant.{Invariant, Holds, LogSeen, rightLoad, taken-served, served-addressed, load-in-range, isServed}
 use Rattle.sequential.proofs.Anew.{holds-anew, holds-retired, row-kept, seen-anew}
 
@@ -33,8 +33,8 @@ take-given l LoadAddress port = refl
 take-given l StoreAddress port = refl
 take-given l StoreData port = refl
 
-take-cell : (l : Entry) (port v : ℕ) → eqb (l .port) port ≡ true → l .word ≡ some v → valueTaken port (ofLoad (markFinished l)) ≡ some (some v)
-take-cell l port v e f = rw (e, f)
+taken-place : (l : Entry) (port v : ℕ) → eqb (l .port) port ≡ true → l .word ≡ some v → valueTaken port (ofLoad (markFinished l)) ≡ some (some v)
+taken-place l port v e f = rw (e, f)
 
 -- a load that is taken, or of another port, does not wait to be taken
 waits-not : (words port : ℕ) (l : Entry) → not (untaken port l) ≡ true → rightLoad words l ≡ true
@@ -42,7 +42,7 @@ waits-not : (words port : ℕ) (l : Entry) → not (untaken port l) ≡ true →
 waits-not words port l t r = go (eqb (l .port) port) (l .finished) (l .word) t (taken-served words l r)
   where
     go : (same taken : Bool) (value : Option ℕ) → not (same && not taken) ≡ true → implies taken (isSome value) ≡ true
-        → not (lacking (cellFor same (pick taken value none))) ≡ true
+        → not (lacking (placeFor same (pick taken value none))) ≡ true
     go false taken value t₁ t₂ = refl
     go true false value t₁ t₂ = false-true t₁
     go true true none t₁ t₂ = false-true t₂
@@ -94,7 +94,7 @@ module _ (groups : List GroupPairs) (memory : List ℕ) (answered : List Answere
       waits = rw (same-port, fresh)
 
       filled : valueTaken port (ofLoad (markFinished it)) ≡ some (some v)
-      filled = take-cell it port v same-port has
+      filled = taken-place it port v same-port has
 
       rightBefore : allOf (rightLoad (q .memoryLength)) (ownIn loads pre) ≡ true
       rightBefore = all-left (rightLoad (q .memoryLength)) (ownIn loads pre) (it ∷ ownIn loads post) rightLoads

@@ -12,39 +12,39 @@ use Rattle.queue.specs.Entry.{Entry, withBefore}
 use Rattle.queue.specs.Arguments.{kindOf, argumentIn, withArgument}
 use Rattle.sequential.specs.Plain.{sameKind}
 use Rattle.sequential.proofs.Log.{LogEntry, ofLoad, ofStore, accessOf, put, own}
-use Rattle.sequential.proofs.Rows.{given, valueTaken, cellFor}
+use Rattle.sequential.proofs.Rows.{given, valueTaken, placeFor}
 use Rattle.sequential.proofs.Cells.{Seen}
 use Rattle.sequential.proofs.CellMoves.{Moves, load-address, store-address, store-word}
 use Rattle.sequential.proofs.Views.{view}
 use Rattle.sequential.proofs.Invariant.{isServed, isWritten}
 
--- its cell in the row of the argument is what it has; once the argument is given, that
-pub cell-is : (argument : Argument) (p : ℕ) (e : Entry) → given argument p (put (kindOf argument) e) ≡ cellFor (eqb (e .port) p) (argumentIn argument e)
-cell-is LoadAddress p e = refl
-cell-is StoreAddress p e = refl
-cell-is StoreData p e = refl
+-- an entry's place in the row of an argument holds what the entry has of it; once the argument is given, the argument
+pub place-is : (argument : Argument) (p : ℕ) (e : Entry) → given argument p (put (kindOf argument) e) ≡ placeFor (eqb (e .port) p) (argumentIn argument e)
+place-is LoadAddress p e = refl
+place-is StoreAddress p e = refl
+place-is StoreData p e = refl
 
-pub cell-filled : (argument : Argument) (p x : ℕ) (e : Entry)
-    → given argument p (put (kindOf argument) (withArgument argument x e)) ≡ cellFor (eqb (e .port) p) (some x)
-cell-filled LoadAddress p x e = refl
-cell-filled StoreAddress p x e = refl
-cell-filled StoreData p x e = refl
+pub place-filled : (argument : Argument) (p x : ℕ) (e : Entry)
+    → given argument p (put (kindOf argument) (withArgument argument x e)) ≡ placeFor (eqb (e .port) p) (some x)
+place-filled LoadAddress p x e = refl
+place-filled StoreAddress p x e = refl
+place-filled StoreData p x e = refl
 
 -- an entry of the other kind has none there
-pub cell-other : (argument : Argument) (p : ℕ) (d : LogEntry) → own (kindOf argument) d ≡ none → given argument p d ≡ none
-cell-other LoadAddress p (ofLoad e) h = cc
-cell-other LoadAddress p (ofStore e) h = refl
-cell-other StoreAddress p (ofLoad e) h = refl
-cell-other StoreAddress p (ofStore e) h = cc
-cell-other StoreData p (ofLoad e) h = refl
-cell-other StoreData p (ofStore e) h = cc
+pub place-other : (argument : Argument) (p : ℕ) (d : LogEntry) → own (kindOf argument) d ≡ none → given argument p d ≡ none
+place-other LoadAddress p (ofLoad e) h = cc
+place-other LoadAddress p (ofStore e) h = refl
+place-other StoreAddress p (ofLoad e) h = refl
+place-other StoreAddress p (ofStore e) h = cc
+place-other StoreData p (ofLoad e) h = refl
+place-other StoreData p (ofStore e) h = cc
 
 pub same-kind : (argument : Argument) → sameKind argument argument ≡ true
 same-kind LoadAddress = refl
 same-kind StoreAddress = refl
 same-kind StoreData = refl
 
--- what else of the entry the rows and the answers go by is as it was
+-- giving an argument of one kind changes no row of another kind
 pub rows-kept : (argument k : Argument)
     → (k ≡ argument)
     ⊎ ((sameKind argument k ≡ false)
@@ -59,7 +59,7 @@ rows-kept StoreData LoadAddress = inr (refl, λ p x e. refl)
 rows-kept StoreData StoreAddress = inr (refl, λ p x e. refl)
 rows-kept StoreData StoreData = inl refl
 
--- the value that was taken, the access, and whether it is served or written
+-- what giving an argument leaves as it was: the value that was taken, the access, and whether it is served or written
 pub record OthersKept (argument : Argument) (x : ℕ) (e : Entry) : Type 0 where
   pub value : (p : ℕ) → valueTaken p (put (kindOf argument) e) ≡ valueTaken p (put (kindOf argument) (withArgument argument x e))
   pub access : accessOf (put (kindOf argument) (withArgument argument x e)) ≡ accessOf (put (kindOf argument) e)
@@ -78,7 +78,7 @@ given-moves LoadAddress x e h m b j pre = rw h load-address
 given-moves StoreAddress x e h m b j pre = rw h store-address
 given-moves StoreData x e h m b j pre = rw h store-word
 
--- which number the entry is shown with is nothing to the argument
+-- how many of the other kind an entry remembers does not bear on its arguments
 pub remembered-kept : (argument : Argument) (n : ℕ) (e : Entry) → argumentIn argument (withBefore n e) ≡ argumentIn argument e
 remembered-kept LoadAddress n e = refl
 remembered-kept StoreAddress n e = refl

@@ -31,7 +31,8 @@ pub data Stepped (m : Machine) : Call → Response → Type 0 where
   refused : {c : Call} (n : ℕ) → eqb n 0 ≡ false → n < 2 ^ 8 → Stepped m c (record { number = n; value = none; machine = m })
   activated : {group : ℕ} (g : GroupPairs) → getElem? (m .queue .groups) group ≡ some g → room (m .queue) g ≡ true
       → Stepped m (Activate group) (moveResponse m (accept (withGroup (m .queue) g)))
-  gave : {argument : Argument} {port x : ℕ} → inRange argument (m .queue .memoryLength) x ≡ true → anyOf (lacks argument port) (askedOf argument (m .queue)) ≡ true
+  gave : {argument : Argument} {port x : ℕ} → inRange argument (m .queue .memoryLength) x ≡ true
+      → anyOf (lacks argument port) (askedOf argument (m .queue)) ≡ true
       → Stepped m (Give argument port x) (moveResponse m (accept (argumentGiven argument port x (m .queue))))
   served : {counts : Counts} {serial : ℕ} (l : Entry) → getElem? (m .queue .loads .entries) (placeOf (m .queue .loads) serial) ≡ some l
       → (s : Serving (m .queue) (m .memory) l)

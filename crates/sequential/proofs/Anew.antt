@@ -81,7 +81,10 @@ module _ {q : Contents} {m memory : List ℕ} {log : List LogEntry} (h : Holds q
 pub holds-retired : {q : Contents} {m memory : List ℕ} {log : List LogEntry} → Holds q m memory log → Holds (retire q) m memory log
 holds-retired {q} {m} {memory} {log} h = record {
   limits = h .limits;
-  room = elim [ Load ↦ shorter (q .stores .entries) (q .loads .entries) (h .room Load) | Store ↦ shorter (q .loads .entries) (q .stores .entries) (h .room Store) ];
+  room = elim [
+    | Load ↦ shorter (q .stores .entries) (q .loads .entries) (h .room Load)
+    | Store ↦ shorter (q .loads .entries) (q .stores .entries) (h .room Store)
+  ];
   long = h .long;
   opened = h .opened;
   windows = record {
@@ -118,14 +121,16 @@ count-anew p e e′ n h pre post = rw (count-append p pre (e′ ∷ post), count
 
 module _ (groups : List GroupPairs) (answered : List Answered) (a : Answered) (pre : List LogEntry) (e e′ : LogEntry) (post : List LogEntry) where
   pub seen-anew : LogSeen groups answered (pre ++ e ∷ post) → accessOf e′ ≡ accessOf e → accesses groups (tell a ∷ []) ≡ []
-      → ((kind : Argument) (port : ℕ) → Row (given kind port) (pre ++ e′ ∷ post) (rowsOf (told answered) kind port ++ rowsOf (tell a ∷ []) kind port))
+      → ((kind : Argument) (port : ℕ)
+      → Row (given kind port) (pre ++ e′ ∷ post) (rowsOf (told answered) kind port ++ rowsOf (tell a ∷ []) kind port))
       → ((port : ℕ) → Row (valueTaken port) (pre ++ e′ ∷ post) (takenAt port answered ++ takenAt port (a ∷ [])))
       → countWhere isServed (e′ ∷ []) ≡ countWhere isServed (e ∷ []) + length (gather serveOf (tell a ∷ []))
       → countWhere isWritten (e′ ∷ []) ≡ countWhere isWritten (e ∷ []) + length (gather writeOf (tell a ∷ []))
       → LogSeen groups (answered ++ a ∷ []) (pre ++ e′ ∷ post)
   seen-anew s same no-access rows takes serves writes =
       seen-more groups answered a (pre ++ e′ ∷ post) shape rows takes
-      (count-anew isServed e e′ (length (gather serveOf (tell a ∷ []))) serves pre post ∙ ap (λ (n : ℕ). n + length (gather serveOf (tell a ∷ []))) (s .serves))
+      (count-anew isServed e e′ (length (gather serveOf (tell a ∷ []))) serves pre post
+      ∙ ap (λ (n : ℕ). n + length (gather serveOf (tell a ∷ []))) (s .serves))
       (count-anew isWritten e e′ (length (gather writeOf (tell a ∷ []))) writes pre post
       ∙ ap (λ (n : ℕ). n + length (gather writeOf (tell a ∷ []))) (s .writes))
     where

@@ -74,7 +74,8 @@ module _ {B : Type 0} where
   anew-idle : {m n m′ : B} (pre post : List (Seen B)) (e e′ : Seen B) → CellInvariant m n (pre ++ e ∷ post)
       → Agree m′ n (pre ++ e′ ∷ post) → (Right e → Right e′) → Onward e e′ → writes e′ ≡ false → readsMemory e′ ≡ false
       → CellInvariant m′ n (pre ++ e′ ∷ post)
-  anew-idle pre post e e′ h agree right on w r = anew pre post e e′ h agree right on (everywhere (λ a. Before a e → Before a e′) (λ a b. idle e′ w r a) pre)
+  anew-idle pre post e e′ h agree right on w r =
+      anew pre post e e′ h agree right on (everywhere (λ a. Before a e → Before a e′) (λ a b. idle e′ w r a) pre)
 
   -- ---- the moves
 
@@ -93,7 +94,8 @@ module _ {B : Type 0} where
     kept-store-aside : (g g′ : Stage) (o o′ : Option B)
         → CellInvariant m n (pre ++ store apart g o ∷ post) → CellInvariant m n (pre ++ store apart g′ o′ ∷ post)
     kept-store-aside g g′ o o′ h =
-        anew-idle pre post (store apart g o) (store apart g′ o′) h (agree-change (store apart g o) (store apart g′ o′) post same-memory pre m n (h .agree))
+        anew-idle pre post (store apart g o) (store apart g′ o′) h
+        (agree-change (store apart g o) (store apart g′ o′) post same-memory pre m n (h .agree))
         (λ r. record {}) (record { all-passed = λ p. refl; store-passed = λ p. refl }) refl refl
       where
         same-memory : (m n : B) → Agree m n (store apart g o ∷ post) → Agree m n (store apart g′ o′ ∷ post)
@@ -125,7 +127,8 @@ module _ {B : Type 0} where
             (agree-change (store unknown waiting o) (store t waiting o) post (λ m n k b p w q. k b (record {}) w q) pre m n (h .agree))
             (λ r. right-store t) (record { all-passed = λ p. false-true p; store-passed = λ p. false-true p }) (and-false (isSame t)) refl
 
-    kept-store-word : (t : Touch) (g : Stage) (w : B) → CellInvariant m n (pre ++ store t g none ∷ post) → CellInvariant m n (pre ++ store t g (some w) ∷ post)
+    kept-store-word : (t : Touch) (g : Stage) (w : B) → CellInvariant m n (pre ++ store t g none ∷ post)
+        → CellInvariant m n (pre ++ store t g (some w) ∷ post)
     kept-store-word t g w h =
         anew pre post (store t g none) (store t g (some w)) h
         (agree-change (store t g none) (store t g (some w)) post (λ m n k b p x q. k b p x (record {})) pre m n (h .agree))
@@ -181,7 +184,8 @@ module _ {B : Type 0} where
         (each-weaken (λ a. passed a ≡ true) (λ a. Before a (store same waiting (some w)) → Before a (store same begun (some w)))
         (λ a p b. record { ordered = λ z. p; clear = λ z. false-true z }) pre s)
 
-    kept-store-ended : (w : B) → CellInvariant m n (pre ++ store same begun (some w) ∷ post) → CellInvariant w n (pre ++ store same ended (some w) ∷ post)
+    kept-store-ended : (w : B) → CellInvariant m n (pre ++ store same begun (some w) ∷ post)
+        → CellInvariant w n (pre ++ store same ended (some w) ∷ post)
     kept-store-ended w h =
         anew pre post (store same begun (some w)) (store same ended (some w)) h
         (agree-write w post pre m n
@@ -192,7 +196,8 @@ module _ {B : Type 0} where
         (everywhere (λ a. Before a (store same begun (some w)) → Before a (store same ended (some w)))
         (λ a b. record { ordered = b .ordered; clear = b .clear }) pre)
 
-    pub moves-keep : {e e′ : Seen B} {m′ : B} → Moves m pre e e′ m′ → CellInvariant m n (pre ++ e ∷ post) → CellInvariant m′ n (pre ++ e′ ∷ post)
+    pub moves-keep : {e e′ : Seen B} {m′ : B} → Moves m pre e e′ m′ → CellInvariant m n (pre ++ e ∷ post)
+        → CellInvariant m′ n (pre ++ e′ ∷ post)
     moves-keep (load-aside {g} {g′} {o} {o′}) h = kept-load-aside g g′ o o′ h
     moves-keep (store-aside {g} {g′} {o} {o′}) h = kept-store-aside g g′ o o′ h
     moves-keep (load-address {t} {g} {o}) h = kept-load-address t g o h

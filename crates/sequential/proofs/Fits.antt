@@ -117,7 +117,10 @@ module _ (q : Contents) (m : List ℕ) (f : Fits (machine q m)) where
 
   retire-fits : Fits (machine (retire q) m)
   retire-fits = record {
-    entries = elim [ Load ↦ left (q .stores .entries) (q .loads .entries) (f .entries Load) | Store ↦ left (q .loads .entries) (q .stores .entries) (f .entries Store) ];
+    entries = elim [
+      | Load ↦ left (q .stores .entries) (q .loads .entries) (f .entries Load)
+      | Store ↦ left (q .loads .entries) (q .stores .entries) (f .entries Store)
+    ];
     next = elim [ Load ↦ f .next Load | Store ↦ f .next Store ];
     memory = f .memory;
   }
@@ -149,7 +152,8 @@ module _ (m : Machine) (f : Fits m) (right : checkTable (m .queue .groups) ≡ p
   abbrev q : Contents
   q = m .queue
 
-  argument-fits : (argument : Argument) (x : ℕ) → bitsFit 32 x ≡ true → (e : Entry) → entryFits e ≡ true → entryFits (withArgument argument x e) ≡ true
+  argument-fits : (argument : Argument) (x : ℕ) → bitsFit 32 x ≡ true → (e : Entry) → entryFits e ≡ true
+      → entryFits (withArgument argument x e) ≡ true
   argument-fits LoadAddress x small e h = h
   argument-fits StoreAddress x small e h = h
   argument-fits StoreData x small e h = and-both (and-left (bitsFit 5 (e .port)) _ h) small
@@ -169,7 +173,9 @@ module _ (m : Machine) (f : Fits m) (right : checkTable (m .queue .groups) ≡ p
       record {
         number = omega arith;
         value = word;
-        left = with-anew q (m .memory) f Load (withWord (s .loaded .value)) (λ e h. and-both (and-left (bitsFit 5 (e .port)) _ h) word) (placeOf (q .loads) serial);
+        left =
+            with-anew q (m .memory) f Load (withWord (s .loaded .value)) (λ e h. and-both (and-left (bitsFit 5 (e .port)) _ h) word)
+            (placeOf (q .loads) serial);
       }
   fits (wrote {serial} s at w) h =
       let place : ℕ = placeOf (q .stores) serial in

@@ -58,8 +58,8 @@ cellwise-store s a w p q v n es h b j low lane =
     inside = rw (length-set n a w) at low
 
 -- A served load has the plain run's word at its address.
-cellwise-load : (l : Entry) (a x : ℕ) (v : ℕ → ℕ → ℕ) (n : List ℕ) (es : List LogEntry) → rightLoad (length n) l ≡ true → fits (l .address) a
-    → l .word ≡ some x → Cellwise v n (ofLoad l ∷ es) → x ≡ getD n a 0
+cellwise-load : (l : Entry) (a x : ℕ) (v : ℕ → ℕ → ℕ) (n : List ℕ) (es : List LogEntry) → rightLoad (length n) l ≡ true
+    → fits (l .address) a → l .word ≡ some x → Cellwise v n (ofLoad l ∷ es) → x ≡ getD n a 0
 cellwise-load l a x v n es right p has h =
     go (l .address) refl (implied (isSome (l .word)) (isSome (l .address)) (served-addressed (length n) l right) (rw has))
   where
@@ -121,9 +121,9 @@ taken-is-loaded fill port (ofStore s ∷ es) k v n rows right h g row r i x e =
     word = nextOf (rows StoreData (s .port)) (fill .word k)
 
 -- Where every store is written, virtual memory is memory, and memory is the plain run's.
-cellwise-written : (fill : Filling) (es : List LogEntry) (k : ℕ) (v : ℕ → ℕ → ℕ) (n : List ℕ) (rows : Rows) → AllRows es rows → Cellwise v n es
-    → allOf finished (ownIn stores es) ≡ true
-    → (b j : ℕ) → b < length n → j < lanes → v b j ≡ cellAt (memoryFrom wordReading fill k (record { memory = n; rows = rows }) (map accessOf es)) b j
+cellwise-written : (fill : Filling) (es : List LogEntry) (k : ℕ) (v : ℕ → ℕ → ℕ) (n : List ℕ) (rows : Rows) → AllRows es rows
+    → Cellwise v n es → allOf finished (ownIn stores es) ≡ true → (b j : ℕ) → b < length n → j < lanes
+    → v b j ≡ cellAt (memoryFrom wordReading fill k (record { memory = n; rows = rows }) (map accessOf es)) b j
 cellwise-written fill [] k v n rows h g t b j low lane = g b j low lane
 cellwise-written fill (ofLoad l ∷ es) k v n rows h g t b j low lane =
     cellwise-written fill es (suc k) v n (usedUp LoadAddress (l .port) rows) (rows-after-load l es rows h) (λ b j low lane. g b j low lane .1) t b j low lane
@@ -140,7 +140,8 @@ cellwise-written fill (ofStore s ∷ es) k v n rows h g t b j low lane =
     word : ℕ
     word = nextOf (rows StoreData (s .port)) (fill .word k)
 
-memory-long : (fill : Filling) (k : ℕ) (s : PlainState ℕ) (accesses : List Access) → length (memoryFrom wordReading fill k s accesses) ≡ length (s .memory)
+memory-long : (fill : Filling) (k : ℕ) (s : PlainState ℕ) (accesses : List Access)
+    → length (memoryFrom wordReading fill k s accesses) ≡ length (s .memory)
 memory-long fill k s [] = refl
 memory-long fill k s (load p ∷ rest) = memory-long fill (suc k) (afterLoad s (p .port)) rest
 memory-long fill k s (store p ∷ rest) =
@@ -167,7 +168,8 @@ module _ {A : Type 0} (reading : Reading A) (fill : Filling) where
   memory-uncounted k s (load p ∷ xs) = memory-uncounted (suc k) (afterLoad s (p .port)) xs
   memory-uncounted k s (store p ∷ xs) = memory-uncounted (suc k) (afterStore reading fill k s (p .port)) xs
 
-pub count-uncounted : (p : Access → Bool) → ((a : Access) → p (uncounted a) ≡ p a) → (xs : List Access) → countWhere p (map uncounted xs) ≡ countWhere p xs
+pub count-uncounted : (p : Access → Bool) → ((a : Access) → p (uncounted a) ≡ p a) → (xs : List Access)
+    → countWhere p (map uncounted xs) ≡ countWhere p xs
 count-uncounted p blind [] = refl
 count-uncounted p blind (a ∷ xs) = rw (blind a, count-uncounted p blind xs)
 

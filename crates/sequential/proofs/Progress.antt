@@ -13,9 +13,9 @@ use borrow.Author.Tests.{eq-eqb, leb-true}
 use Rattle.number.specs.Basics.{allOf, countWhere, isSome}
 use Rattle.table.specs.Group.{GroupPairs, isLoad, isStore}
 use Rattle.queue.specs.Entry.{Entry, withBefore, served, written}
-use Rattle.queue.specs.Contents.{Contents, after, oldest, placeOf}
+use Rattle.queue.specs.Contents.{Contents, Side, after, oldest, placeOf}
 use Rattle.queue.specs.Touch.{isApart, touch}
-use Rattle.queue.specs.Sound.{sound}
+use Rattle.queue.specs.Sound.{sound, depthRight}
 use Rattle.queue.specs.Serve.{fromMemory, source, serve}
 use Rattle.queue.specs.Write.{noConflict, write}
 use Rattle.queue.specs.Retire.{finished}
@@ -117,14 +117,16 @@ count-uses kind port (e ∷ es) = rw (given-uses kind port e, count-uses kind po
 
 -- all is done, or there is an oldest entry that is not
 first-undone : (es : List LogEntry)
-    → (allOf isDone es ≡ true) ⊎ ((pre : List LogEntry) × (e : LogEntry) × (post : List LogEntry) × (es ≡ pre ++ e ∷ post) × (allOf isDone pre ≡ true)
+    → (allOf isDone es ≡ true)
+    ⊎ ((pre : List LogEntry) × (e : LogEntry) × (post : List LogEntry) × (es ≡ pre ++ e ∷ post) × (allOf isDone pre ≡ true)
     × (isDone e ≡ false))
 first-undone [] = inl refl
 first-undone (e ∷ es) = go (isDone e) refl (first-undone es)
   where
     Undone : List LogEntry → Type 0
     Undone l = (allOf isDone l ≡ true)
-        ⊎ ((pre : List LogEntry) × (d : LogEntry) × (post : List LogEntry) × (l ≡ pre ++ d ∷ post) × (allOf isDone pre ≡ true) × (isDone d ≡ false))
+        ⊎ ((pre : List LogEntry) × (d : LogEntry) × (post : List LogEntry) × (l ≡ pre ++ d ∷ post) × (allOf isDone pre ≡ true)
+        × (isDone d ≡ false))
 
     go : (b : Bool) → isDone e ≡ b → Undone es → Undone (e ∷ es)
     go false t rest = inr ([], e, es, refl, refl, t)
@@ -146,18 +148,25 @@ is-some : (o : Option ℕ) → isSome o ≡ true → (x : ℕ) × (o ≡ some x)
 is-some none h = false-true h
 is-some (some x) h = (x, refl)
 
+-- a queued entry's serial: its place is found again by it, since a place is far below the number of serials
+serial-of : (s : Side) → depthRight (s .depth) ≡ true → length (s .entries) ≤ s .depth → (i : ℕ) {e : Entry} → getElem? (s .entries) i ≡ some e
+    → (serial : ℕ) × (serial < 2 ^ 32) × (placeOf s serial ≡ i)
+serial-of s right few i at = (after from i, after-small from i, place-of-serial from i (oldest-small (s .next) (length (s .entries))) small)
+  where
+    from : ℕ
+    from = oldest (s .next) (length (s .entries))
+
+    small : i < 2 ^ 32
+    small =
+        let short : i < length (s .entries) = getElem?-short (s .entries) i at in
+        let depth : s .depth ≤ 64 = leb-true (s .depth) 64 (and-right (leb 1 (s .depth)) _ right) in
+        omega (arith, few)
+
 -- ---- the oldest undone entry moves
 
 module _ (q : Contents) (m memory : List ℕ) (log : List LogEntry) (h : Holds q m memory log) (filled : allOf complete log ≡ true) where
   right : sound q ≡ true
   right = holds-sound q m memory log h
-
-  -- a place of the queue is far below the number of serials
-  load-depth : q .loads .depth ≤ 64
-  load-depth = leb-true (q .loads .depth) 64 (and-right (leb 1 (q .loads .depth)) _ (h .limits .loadDepthRight))
-
-  store-depth : q .stores .depth ≤ 64
-  store-depth = leb-true (q .stores .depth) 64 (and-right (leb 1 (q .stores .depth)) _ (h .limits .storeDepthRight))
 
   load-moves : (pre : List LogEntry) (l : Entry) (post : List LogEntry) → log ≡ pre ++ ofLoad l ∷ post → allOf isDone pre ≡ true
       → isSome (l .word) ≡ false
@@ -184,13 +193,12 @@ module _ (q : Contents) (m memory : List ℕ) (log : List LogEntry) (h : Holds q
 
       go : (i : ℕ) × Located loads stores log (q .loads .entries) (q .stores .entries) i pre l post → (a : ℕ) × (l .address ≡ some a)
           → wouldMove (record { queue = q; memory = m })
-      go (i, place) (a, address) =
-          let low : i < 2 ^ 32 = (let short : i < length (q .loads .entries) = getElem?-short (q .loads .entries) i (place .at) in omega (arith, h .room loads, load-depth)) in
-          let serial : ℕ = after (oldest (q .loads .next) (length (q .loads .entries))) i in
-          let is : placeOf (q .loads) serial ≡ i =
-          place-of-serial (oldest (q .loads .next) (length (q .loads .entries))) i (oldest-small (q .loads .next) (length (q .loads .entries))) low in (
+      go (i, place) (a, address) = found (serial-of (q .loads) (h .limits .loadDepthRight) (h .room loads) i (place .at))
+        where
+          found : (serial : ℕ) × (serial < 2 ^ 32) × (placeOf (q .loads) serial ≡ i) → wouldMove (record { queue = q; memory = m })
+          found (serial, small, is) = (
             serial,
-            after-small (oldest (q .loads .next) (length (q .loads .entries))) i,
+            small,
             inl
                 (serve-accepted q m serial (withBefore (place .number) l) a right (h .long) (ap (getElem? (q .loads .entries)) is ∙ place .at) value address
                 (source-memory a (take (place .number) (q .stores .entries)) (before-queued (place .before′) finished (λ n s. refl) storesWritten)
@@ -217,13 +225,12 @@ module _ (q : Contents) (m memory : List ℕ) (log : List LogEntry) (h : Holds q
       go : (i : ℕ) × Located stores loads log (q .stores .entries) (q .loads .entries) i pre s post → (a : ℕ) × (s .address ≡ some a)
           → (w : ℕ) × (s .word ≡ some w)
           → wouldMove (record { queue = q; memory = m })
-      go (i, place) (a, address) (w, word) =
-          let low : i < 2 ^ 32 = (let short : i < length (q .stores .entries) = getElem?-short (q .stores .entries) i (place .at) in omega (arith, h .room stores, store-depth)) in
-          let serial : ℕ = after (oldest (q .stores .next) (length (q .stores .entries))) i in
-          let is : placeOf (q .stores) serial ≡ i = place-of-serial (oldest (q .stores .next) (length (q .stores .entries))) i
-          (oldest-small (q .stores .next) (length (q .stores .entries))) low in (
+      go (i, place) (a, address) (w, word) = found (serial-of (q .stores) (h .limits .storeDepthRight) (h .room stores) i (place .at))
+        where
+          found : (serial : ℕ) × (serial < 2 ^ 32) × (placeOf (q .stores) serial ≡ i) → wouldMove (record { queue = q; memory = m })
+          found (serial, small, is) = (
             serial,
-            after-small (oldest (q .stores .next) (length (q .stores .entries))) i,
+            small,
             inr
                 (write-accepted q m serial (withBefore (place .number) s) a w right (h .long) (ap (getElem? (q .stores .entries)) is ∙ place .at)
                 unwritten address word

@@ -30,7 +30,8 @@ module _ (q : Contents) (m memory : List ℕ) (log : List LogEntry) (h : Holds q
       (entryRight (q .memoryLength) (length (sideOf (opposite K) q .entries))) (λ e s t. and-both s t) (sideOf K q .entries)
       (remembered-held K (opposite K) (opposed K) log (w .ours) (w .theirs))
       (before-queued (window-before K (opposite K) (opposed K) (w .ours)) (λ e. addressRight (q .memoryLength) (e .address)) (λ n e. refl)
-      (all-weaken (rightEntry K (q .memoryLength)) (λ e. addressRight (q .memoryLength) (e .address)) (in-range K (q .memoryLength)) (ownIn K log) (h .right K)))
+      (all-weaken (rightEntry K (q .memoryLength)) (λ e. addressRight (q .memoryLength) (e .address)) (in-range K (q .memoryLength))
+      (ownIn K log) (h .right K)))
 
   side-sound : (K : Kind) → depthRight (sideOf K q .depth) ≡ true → SideSound (q .memoryLength) (sideOf K q) (sideOf (opposite K) q)
   side-sound K depth =

@@ -73,7 +73,8 @@ module _ (place : LogEntry → RowPlace) where
       → Row place (pre ++ e′ ∷ post) row
   row-same e e′ same post [] row h = rw same at h
   row-same e e′ same post (d ∷ pre) row h =
-      fed-map (place d) (Row place (pre ++ e ∷ post)) (Row place (pre ++ e′ ∷ post)) (λ r. r) refl (λ x r. refl) (λ r k. row-same e e′ same post pre r k) row h
+      fed-map (place d) (Row place (pre ++ e ∷ post)) (Row place (pre ++ e′ ∷ post)) (λ r. r) refl (λ x r. refl)
+      (λ r k. row-same e e′ same post pre r k) row h
 
   -- the first place that waits gets the value that joins the row
   pub row-fill : (e e′ : LogEntry) (x : ℕ) → place e ≡ some none → place e′ ≡ some (some x) → (post pre : List LogEntry)
@@ -88,7 +89,8 @@ module _ (place : LogEntry → RowPlace) where
       (λ r k. row-fill e e′ x waits filled post pre (and-right (not (lacking (place d))) (allOf (λ d. not (lacking (place d))) pre) t) r k)
     where
       go : (c : RowPlace) → not (lacking c) ≡ true → fed c (Row place (pre ++ e ∷ post)) row
-          → ((r : List ℕ) → Row place (pre ++ e ∷ post) r → Row place (pre ++ e′ ∷ post) (r ++ x ∷ [])) → fed c (Row place (pre ++ e′ ∷ post)) (row ++ x ∷ [])
+          → ((r : List ℕ) → Row place (pre ++ e ∷ post) r → Row place (pre ++ e′ ∷ post) (r ++ x ∷ []))
+          → fed c (Row place (pre ++ e′ ∷ post)) (row ++ x ∷ [])
       go none l k rec = rec row k
       go (some none) l k rec = false-true l
       go (some (some y)) l (r, is, k) rec = (r ++ x ∷ [], rw is, rec r k)

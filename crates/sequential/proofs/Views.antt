@@ -39,8 +39,8 @@ pub load-view : (b j : ℕ) (l : Entry) {address value : Option ℕ} → l .addr
     → view b j (ofLoad l) ≡ load (touch b address) (stageOf (isSome value)) (laneIn j value)
 load-view b j l has got = rw (has, got)
 
-pub store-view : (b j : ℕ) (s : Entry) {address word : Option ℕ} {written : Bool} → s .address ≡ address → s .word ≡ word → s .finished ≡ written
-    → view b j (ofStore s) ≡ store (touch b address) (stageOf written) (laneIn j word)
+pub store-view : (b j : ℕ) (s : Entry) {address word : Option ℕ} {written : Bool} → s .address ≡ address → s .word ≡ word
+    → s .finished ≡ written → view b j (ofStore s) ≡ store (touch b address) (stageOf written) (laneIn j word)
 store-view b j s has filled done = rw (has, filled, done)
 
 -- ---- a load's source

@@ -42,7 +42,8 @@ new-length : (K : Kind) (n : ℕ) (new : List Access) → length (newEntries K n
 new-length K n [] = refl
 new-length K n (a ∷ new) = go (isOf K a) (new-length K n new) (new-length K (suc n) new)
   where
-    go : (t : Bool) → length (newEntries K n new) ≡ length (pairsWhere (isOf K) new) → length (newEntries K (suc n) new) ≡ length (pairsWhere (isOf K) new)
+    go : (t : Bool) → length (newEntries K n new) ≡ length (pairsWhere (isOf K) new)
+        → length (newEntries K (suc n) new) ≡ length (pairsWhere (isOf K) new)
         → length (pick t (newEntry (pairOf a) n ∷ newEntries K n new) (newEntries K (suc n) new))
         ≡ length (map pairOf (pick t (a ∷ keepWhere (isOf K) new) (keepWhere (isOf K) new)))
     go true h k = ap suc h
@@ -95,8 +96,10 @@ module _ (groups : List GroupPairs) (memory : List ℕ) (answered : List Answere
   holds-group = record {
     limits = h .limits;
     room = elim [
-      | Load ↦ grown (q .loads) _ (length (g .loads)) (new-length Load _ (order g) ∙ ap length (order-pairs g .0)) (and-left (sideHasRoom (q .loads) _) _ fits)
-      | Store ↦ grown (q .stores) _ (length (g .stores)) (new-length Store _ (order g) ∙ ap length (order-pairs g .1)) (and-right (sideHasRoom (q .loads) _) _ fits)
+      | Load ↦ grown (q .loads) _ (length (g .loads)) (new-length Load _ (order g) ∙ ap length (order-pairs g .0))
+          (and-left (sideHasRoom (q .loads) _) _ fits)
+      | Store ↦ grown (q .stores) _ (length (g .stores)) (new-length Store _ (order g) ∙ ap length (order-pairs g .1))
+          (and-right (sideHasRoom (q .loads) _) _ fits)
     ];
     long = h .long;
     opened = h .opened;

@@ -78,7 +78,8 @@ module _ (groups : List GroupPairs) (memory : List ℕ) (answered : List Answere
       loadsApart : allOf (noConflict served a) (ownIn loads pre) ≡ true
       loadsApart =
           before-log (l .before′) (noConflict served a) (λ n x. refl) (rightLoad (q .memoryLength))
-          (λ x t f. or-left (isSome (x .word)) (isApart (touch a (x .address))) (implied (x .finished) (isSome (x .word)) (taken-served (q .memoryLength) x t) f))
+          (λ x t f. or-left (isSome (x .word)) (isApart (touch a (x .address)))
+          (implied (x .finished) (isSome (x .word)) (taken-served (q .memoryLength) x t) f))
           (all-left (rightLoad (q .memoryLength)) (ownIn loads pre) (ownIn loads post) rightLoads) (s .may .loadsApart)
 
       storesApart : allOf (noConflict written a) (ownIn stores pre) ≡ true
@@ -103,7 +104,12 @@ write-keeps groups memory answered m st serial s at w =
     let (pre, it, post, place) = locate stores loads stores-loads (turned (st .holds .windows)) (placeOf (q .stores) serial) at in
     let same : s ≡ withBefore (place .number) it = cc (place .at) in
     write-at groups memory answered q (m .memory) (st .log) (st .table) (st .holds) (st .seen) serial (placeOf (q .stores) serial) pre it post place
-    (record { put = w .put; may = subst (λ (x : Entry). MayWrite (othersBefore (q .loads) x) (take (placeOf (q .stores) serial) (q .stores .entries)) x (w .put)) same (w .may) })
+    (record {
+      put = w .put;
+      may =
+          subst (λ (x : Entry). MayWrite (othersBefore (q .loads) x) (take (placeOf (q .stores) serial) (q .stores .entries)) x (w .put)) same
+          (w .may);
+    })
   where
     q : Contents
     q = m .queue

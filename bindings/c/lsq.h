@@ -70,7 +70,7 @@ enum lsq_answer {
     LSQ_NO_SERIAL = 25,             /* serial not in the queue */
     LSQ_ALREADY_DONE = 26,          /* already served, or already written */
     LSQ_NO_ADDRESS = 27,            /* the entry has no address */
-    LSQ_EARLIER_STORE_ADDRESS = 28, /* an earlier store has no address */
+    LSQ_EARLIER_STORE_ADDRESS = 28, /* an earlier store has no address, and no nearer one has the load's */
     LSQ_NO_DATA = 29,               /* the store (to forward from) has no data */
     LSQ_OTHER_MEMORY = 30,          /* lent memory has another length */
     LSQ_LOAD_CONFLICT = 31,         /* an earlier unserved load has no address or the same one */

@@ -1,6 +1,8 @@
 //! What the benchmark plays.
 
 use lsq_ref::gen::{self, Lean, Scenario};
+use lsq_ref::queue::LoadEntry;
+use lsq_ref::refusal::{ACCEPTED, EARLIER_STORE_ADDRESS, NO_DATA};
 use lsq_ref::replay::{replay_watched, Lent};
 use lsq_ref::rng::Rng;
 use lsq_ref::table::{Access, Group};
@@ -34,10 +36,17 @@ pub struct Workload {
     pub counts: Counts,
     /// Loads and stores held after a call, on average.
     pub held: [f64; 2],
+    /// Its serves that wait for a store's address, now and before S-7.
+    pub waits: Waits,
 }
 
 impl Workload {
-    fn new(title: String, scenario: &Scenario) -> Self {
+    /// The workload that plays this scenario.
+    ///
+    /// # Panics
+    /// When the scenario's table does not open with its header.
+    #[must_use]
+    pub fn new(title: String, scenario: &Scenario) -> Self {
         let (table, trace) = scenario.bytes();
         let mut workload = Self {
             title,
@@ -50,6 +59,7 @@ impl Workload {
             accepted: 0,
             counts: Counts::default(),
             held: [0.0; 2],
+            waits: Waits::default(),
         };
         workload.observe();
         workload
@@ -70,16 +80,92 @@ impl Workload {
             values: &mut values,
         };
         let mut held = [0; 2];
-        let watch = |queue: &Queue, _: &Event, _| {
+        let mut waits = Waits::default();
+        let watch = |queue: &Queue, event: &Event, outcome: Result<Option<u32>, u8>| {
             held[0] += queue.loads.entries.len();
             held[1] += queue.stores.entries.len();
+            waits.count(queue, event, outcome.err().unwrap_or(ACCEPTED));
         };
         replay_watched::<true>(&self.table, &self.trace, lent, watch).expect("a right trace");
         self.accepted = answers.iter().filter(|&&answer| answer == 0).count();
         let [loads, forwarded] = counts;
         self.counts = Counts { loads, forwarded };
         self.held = held.map(|held| held as f64 / self.calls as f64);
+        self.waits = waits;
     }
+
+    /// The same as [`Self::waits`], but of a serve of every queued load after each call,
+    /// which is tried and not made. The trace's own serves are chosen, most of them of
+    /// loads that are ready by the rule of now.
+    ///
+    /// # Panics
+    /// Never: the workload was played before.
+    #[must_use]
+    pub fn waits_of_all_loads(&self) -> Waits {
+        let table = Table::read(&self.table).expect("a right table");
+        let mut queue = Queue::open(table, self.header).expect("a header that opens");
+        let mut memory = vec![0; self.memory_length];
+        let mut waits = Waits::default();
+        for event in &self.events {
+            let _ = queue.apply(event, &mut memory, &mut Counts::default());
+            waits.count_all_loads(&queue, &memory);
+        }
+        waits
+    }
+}
+
+/// Serves that are past 27, those answered 0, 28 or 29, and how many of them wait for a
+/// store's address: what S-7 changed.
+#[derive(Clone, Copy, Debug, Default, PartialEq, Eq)]
+pub struct Waits {
+    /// All of them.
+    pub past_27: usize,
+    /// Those that get 28.
+    pub now: usize,
+    /// Those that would have got 28 by the rule before S-7.
+    pub before: usize,
+    /// Of the latter, those that are accepted now.
+    pub accepted: usize,
+    /// Of the latter, those that get 29 now.
+    pub no_data: usize,
+}
+
+impl Waits {
+    /// Counts a call, given the queue after it. That is the queue to ask: a refused
+    /// serve changes nothing, and an accepted one changes no store and no remembered
+    /// number, and no entry leaves.
+    fn count(&mut self, queue: &Queue, event: &Event, answer: u8) {
+        let serial = match (*event, answer) {
+            (Event::Serve { serial }, ACCEPTED | EARLIER_STORE_ADDRESS | NO_DATA) => serial,
+            _ => return,
+        };
+        let index = queue.loads.index_of(serial).expect("a load past 25");
+        let waited = waited_before(queue, &queue.loads.entries[index]);
+        self.past_27 += 1;
+        self.now += usize::from(answer == EARLIER_STORE_ADDRESS);
+        self.before += usize::from(waited);
+        self.accepted += usize::from(waited && answer == ACCEPTED);
+        self.no_data += usize::from(waited && answer == NO_DATA);
+    }
+
+    /// Counts a serve of each queued load. All are tried on one copy, since an accepted
+    /// one changes its own load alone.
+    fn count_all_loads(&mut self, queue: &Queue, memory: &[u32]) {
+        let mut tried = queue.clone();
+        for index in 0..queue.loads.entries.len() {
+            let serial = queue.loads.serial_at(index);
+            let served = tried.serve(serial, memory, &mut Counts::default());
+            let answer = served.err().unwrap_or(ACCEPTED);
+            self.count(&tried, &Event::Serve { serial }, answer);
+        }
+    }
+}
+
+/// Whether a serve of this load, once past 27, got 28 by the rule before S-7: "28 an
+/// earlier store has no address", whichever store it is, and 28 was checked before 29.
+fn waited_before(queue: &Queue, load: &LoadEntry) -> bool {
+    let mut earlier = queue.stores.entries.range(..load.stores_before);
+    earlier.any(|store| store.address.is_none())
 }
 
 /// The workloads whose ratios are held to the target.

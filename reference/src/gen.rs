@@ -65,11 +65,16 @@ impl Scenario {
         Self::of_length(rng, count)
     }
 
-    /// A random scenario of `count` events.
+    /// A random scenario of `count` events. One in four is [`Lean::SOONER`] on groups
+    /// of several stores, so that serves often meet a store without address behind
+    /// one to their word, or before it (S-7).
     pub fn of_length(rng: &mut Rng, count: usize) -> Self {
-        let table = table(rng);
+        let (table, lean) = match rng.chance(1, 4) {
+            true => (table_of_stores(rng), Lean::SOONER),
+            false => (table(rng), Lean::MIXED),
+        };
         let header = header(rng, &table);
-        let events = events(rng, &table, header, count);
+        let events = events_leaning(rng, &table, header, count, &lean);
         Self {
             table,
             header,
@@ -173,6 +178,19 @@ pub fn table_of(rng: &mut Rng, groups: usize, loads: usize, stores: usize) -> Ta
     table
 }
 
+/// A valid table whose groups have one to three loads and two to four stores. One
+/// in three has empty groups too.
+pub fn table_of_stores(rng: &mut Rng) -> Table {
+    let groups = rng.pick(&[1, 1, 2]);
+    let loads = rng.pick(&[1, 2, 3]);
+    let stores = rng.pick(&[2, 3, 4]);
+    let mut table = table_of(rng, groups, loads, stores);
+    if rng.chance(1, 3) {
+        add_empty_groups(rng, &mut table);
+    }
+    table
+}
+
 fn shuffled_ports(rng: &mut Rng) -> Vec<u32> {
     let mut ports: Vec<u32> = (0..=MAX_PORT).collect();
     rng.shuffle(&mut ports);
@@ -265,6 +283,9 @@ pub struct Lean {
     neighbours: usize,
     /// Whether the side that holds more is emptied first.
     even: bool,
+    /// How often in 16 a store's address or data is meant for the youngest store
+    /// that lacks it.
+    youngest: usize,
 }
 
 impl Lean {
@@ -275,6 +296,7 @@ impl Lean {
         refused: 2,
         neighbours: 0,
         even: false,
+        youngest: 0,
     };
     /// Both sides filled again as soon as places are free.
     pub const FULL: Self = Self {
@@ -283,6 +305,7 @@ impl Lean {
         refused: 2,
         neighbours: 0,
         even: true,
+        youngest: 0,
     };
     /// Many stores to one address whose data waits for no write, so that loads
     /// are forwarded to.
@@ -292,6 +315,7 @@ impl Lean {
         refused: 1,
         neighbours: 0,
         even: false,
+        youngest: 0,
     };
     /// Loads and stores of one address that wait for each other.
     pub const CONFLICTS: Self = Self {
@@ -300,6 +324,7 @@ impl Lean {
         refused: 5,
         neighbours: 0,
         even: false,
+        youngest: 0,
     };
     /// Stores that hurry past each other.
     pub const STORES: Self = Self {
@@ -308,6 +333,17 @@ impl Lean {
         refused: 8,
         neighbours: 0,
         even: false,
+        youngest: 0,
+    };
+    /// Loads that hurry past stores of one address, where the addresses of older
+    /// stores come later than those of younger ones, and data comes late at times.
+    pub const SOONER: Self = Self {
+        profiles: &[[8, 8, 4, 3, 6, 3, 6], [8, 8, 4, 1, 6, 3, 6]],
+        hot: 1,
+        refused: 4,
+        neighbours: 0,
+        even: false,
+        youngest: 12,
     };
     /// Refusals next to acceptances.
     pub const NEIGHBOURS: Self = Self {
@@ -316,6 +352,7 @@ impl Lean {
         refused: 1,
         neighbours: 8,
         even: false,
+        youngest: 0,
     };
 }
 
@@ -403,6 +440,7 @@ struct Driver {
     queue: TrustingQueue,
     memory: Vec<u32>,
     hot: Vec<u32>,
+    youngest: usize,
     word: u32,
 }
 
@@ -413,6 +451,7 @@ impl Driver {
             queue,
             memory: vec![0; header.memory_length as usize],
             hot: hot_addresses(rng, header.memory_length, lean.hot),
+            youngest: lean.youngest,
             word: 0,
         }
     }
@@ -526,7 +565,10 @@ impl Driver {
     /// Mostly the port of a queued store that passes `test`.
     fn store_port(&self, rng: &mut Rng, test: impl Fn(&StoreEntry) -> bool) -> u32 {
         let stores = self.queue.stores.entries.iter();
-        let useful: Vec<u32> = stores.filter(|e| test(e)).map(|e| e.port).collect();
+        let mut useful: Vec<u32> = stores.filter(|e| test(e)).map(|e| e.port).collect();
+        if self.youngest > 0 && rng.chance(self.youngest, 16) {
+            useful.drain(..useful.len().saturating_sub(1));
+        }
         some_port(rng, &useful, &store_ports(&self.queue.table))
     }
 
@@ -762,8 +804,8 @@ pub fn stretch(rng: &mut Rng, trace: &mut Vec<u8>) {
 // Records.
 
 /// A queue's record as no opening need lead to: "wherever it came from, the
-/// rules go by what it holds". One in eight is full on both sides; one in four
-/// is unsound and meets 40.
+/// rules go by what it holds". One in eight is full on both sides; in one of three
+/// most serves come to the walk of S-7; one in four is unsound and meets 40.
 pub fn record(rng: &mut Rng) -> Queue {
     let table = table(rng);
     let header = header(rng, &table);
@@ -777,6 +819,44 @@ pub fn record(rng: &mut Rng) -> Queue {
     queue
 }
 
+/// What the entries of a record are like.
+struct EntryMix {
+    /// The addresses.
+    hot: Vec<u32>,
+    /// One load in so many has no address.
+    load_gaps: usize,
+    /// One store in so many has no address, and one no data.
+    store_gaps: usize,
+    /// So many loads in 12 are served.
+    served: usize,
+}
+
+impl EntryMix {
+    /// Anything.
+    fn any(rng: &mut Rng, memory_length: u32) -> Self {
+        let hot = hot_addresses(rng, memory_length, 3);
+        let gaps = rng.pick(&[2, 10, 100]);
+        Self {
+            hot,
+            load_gaps: gaps,
+            store_gaps: gaps,
+            served: 4,
+        }
+    }
+
+    /// Loads that mostly have an address and are not served, and stores to one or two
+    /// words of which many lack something: serves meet every end of the walk (S-7),
+    /// with other stores behind it that could have ended it too.
+    fn walked(rng: &mut Rng, memory_length: u32) -> Self {
+        Self {
+            hot: hot_addresses(rng, memory_length, 2),
+            load_gaps: 24,
+            store_gaps: 3,
+            served: 1,
+        }
+    }
+}
+
 fn fill_record(rng: &mut Rng, queue: &mut Queue) {
     let most = rng.pick(&[2, 6, MAX_DEPTH]);
     let some = |rng: &mut Rng, depth: u32| rng.between(0, depth.min(most));
@@ -785,34 +865,36 @@ fn fill_record(rng: &mut Rng, queue: &mut Queue) {
         false => (some(rng, queue.load_depth), some(rng, queue.store_depth)),
     };
     let (loads, stores) = (loads as usize, stores as usize);
-    let hot = hot_addresses(rng, queue.memory_length, 3);
-    let gaps = rng.pick(&[2, 10, 100]);
+    let mix = match rng.chance(1, 3) {
+        true => EntryMix::walked(rng, queue.memory_length),
+        false => EntryMix::any(rng, queue.memory_length),
+    };
     for _ in 0..loads {
-        let load = any_load(rng, &queue.table, &hot, gaps, stores);
+        let load = any_load(rng, &queue.table, &mix, stores);
         queue.loads.entries.push_back(load);
     }
     for _ in 0..stores {
-        let store = any_store(rng, &queue.table, &hot, gaps, loads);
+        let store = any_store(rng, &queue.table, &mix, loads);
         queue.stores.entries.push_back(store);
     }
 }
 
-fn any_load(rng: &mut Rng, table: &Table, hot: &[u32], gaps: usize, stores: usize) -> LoadEntry {
+fn any_load(rng: &mut Rng, table: &Table, mix: &EntryMix, stores: usize) -> LoadEntry {
     LoadEntry {
         port: some_port(rng, &[], &load_ports(table)),
-        address: (!rng.chance(1, gaps)).then(|| rng.pick(hot)),
-        served: rng.chance(1, 3),
+        address: (!rng.chance(1, mix.load_gaps)).then(|| rng.pick(&mix.hot)),
+        served: rng.chance(mix.served, 12),
         value: rng.word(),
         taken: rng.chance(1, 3),
         stores_before: rng.below(stores + 1),
     }
 }
 
-fn any_store(rng: &mut Rng, table: &Table, hot: &[u32], gaps: usize, loads: usize) -> StoreEntry {
+fn any_store(rng: &mut Rng, table: &Table, mix: &EntryMix, loads: usize) -> StoreEntry {
     StoreEntry {
         port: some_port(rng, &[], &store_ports(table)),
-        address: (!rng.chance(1, gaps)).then(|| rng.pick(hot)),
-        data: (!rng.chance(1, gaps)).then(|| rng.word()),
+        address: (!rng.chance(1, mix.store_gaps)).then(|| rng.pick(&mix.hot)),
+        data: (!rng.chance(1, mix.store_gaps)).then(|| rng.word()),
         written: rng.chance(1, 3),
         loads_before: rng.below(loads + 1),
     }

@@ -109,7 +109,7 @@ impl<E> Side<E> {
 /// Where a load's value comes from.
 #[derive(Clone, Copy, Debug, PartialEq, Eq)]
 enum Source {
-    /// The data of "the nearest earlier unwritten store to its address".
+    /// The data of an unwritten store to its address.
     Forwarded(u32),
     /// The memory word at this address.
     Memory(u32),
@@ -257,14 +257,16 @@ impl<const CHECKED: bool> LoadStoreQueue<CHECKED> {
         Ok(())
     }
 
-    /// Serves a load and gives its value: "the data of the nearest earlier
-    /// unwritten store to its address", or else the memory word.
+    /// Serves a load and gives its value, by the walk of S-7 "back over the
+    /// queued earlier stores, nearest first": an unwritten store "to the load's
+    /// address supplies the data", "a written one to that address sends the load
+    /// to memory", and so does a walk that finds neither.
     ///
     /// # Errors
     /// 40; "30 lent memory has another length than at opening; 25 serial not
-    /// in the queue; 26 already served; 27 no address; 28 an earlier store has
-    /// no address; 29 the nearest earlier unwritten store to this address has
-    /// no data."
+    /// in the queue; 26 already served; 27 no address"; then whichever the walk
+    /// meets first: 28 for "a store without address", 29 for an unwritten one to
+    /// the load's address that has no data.
     pub fn serve(&mut self, serial: u32, memory: &[u32], counts: &mut Counts) -> Result<u32, u8> {
         self.guard()?;
         self.check_memory(memory)?;
@@ -443,22 +445,21 @@ impl<const CHECKED: bool> LoadStoreQueue<CHECKED> {
         require(same, refusal::OTHER_MEMORY)
     }
 
-    /// What serving the load at `index` would load from, or 26 to 29. Earlier
-    /// stores are as many of the oldest as the load remembers; 28 asks all of
-    /// them, written or not.
+    /// What serving the load at `index` would load from, or 26 to 29. The walk of
+    /// S-7 goes "back over the queued earlier stores, nearest first", which are as
+    /// many of the oldest as the load remembers. It ends at the first store that
+    /// has the load's address or none; no store behind that one is looked at.
     fn load_source(&self, index: usize) -> Result<Source, u8> {
         let load = &self.loads.entries[index];
         require(!load.served, refusal::ALREADY_DONE)?;
         let address = load.address.ok_or(refusal::NO_ADDRESS)?;
-        let earlier = self.stores.entries.range(..load.stores_before);
-        let known = earlier.clone().all(|store| store.address.is_some());
-        require(known, refusal::EARLIER_STORE_ADDRESS)?;
-        let nearest = earlier
-            .rev()
-            .find(|store| !store.written && store.address == Some(address));
-        match nearest {
-            Some(store) => store.data.map(Source::Forwarded).ok_or(refusal::NO_DATA),
+        let mut walk = self.stores.entries.range(..load.stores_before).rev();
+        let decides = |store: &&StoreEntry| store.address.is_none_or(|known| known == address);
+        match walk.find(decides) {
             None => Ok(Source::Memory(address)),
+            Some(store) if store.address.is_none() => Err(refusal::EARLIER_STORE_ADDRESS),
+            Some(store) if store.written => Ok(Source::Memory(address)),
+            Some(store) => store.data.map(Source::Forwarded).ok_or(refusal::NO_DATA),
         }
     }
 

@@ -47,7 +47,7 @@ pub const NO_SERIAL: u8 = 25;
 pub const ALREADY_DONE: u8 = 26;
 /// "No address."
 pub const NO_ADDRESS: u8 = 27;
-/// "An earlier store has no address."
+/// An earlier store has no address, and the walk of S-7 comes to it.
 pub const EARLIER_STORE_ADDRESS: u8 = 28;
 /// The store, or the store to forward from, has no data.
 pub const NO_DATA: u8 = 29;

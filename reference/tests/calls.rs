@@ -150,9 +150,9 @@ fn serve_checks_in_order() {
     queue.loads.entries[0].served = false;
     assert_eq!(queue.serve(5, &[0; 4], &mut tally), Err(27));
     assert_eq!(queue.load_address(0, 2), Ok(()));
-    assert_eq!(queue.store_address(1, 2), Ok(()));
-    assert_eq!(queue.serve(5, &[0; 4], &mut tally), Err(28));
     assert_eq!(queue.store_address(0, 2), Ok(()));
+    assert_eq!(queue.serve(5, &[0; 4], &mut tally), Err(28)); // store 1 is nearer
+    assert_eq!(queue.store_address(1, 2), Ok(()));
     assert_eq!(queue.store_data(0, 8), Ok(()));
     assert_eq!(queue.serve(5, &[0; 4], &mut tally), Err(29));
     assert_eq!(tally, counts(3, 4));

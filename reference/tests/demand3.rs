@@ -1,5 +1,6 @@
 //! Demand 3 on random lists of calls: values taken and memory are those of the
-//! one-after-another run, whatever is filled in, and the queue goes on.
+//! one-after-another run, whatever is filled in, and the queue goes on. Since S-7
+//! values are taken while earlier stores have no address yet.
 
 use std::collections::BTreeMap;
 
@@ -9,18 +10,37 @@ use lsq_ref::rng::Rng;
 use lsq_ref::table::Group;
 use lsq_ref::{Counts, Event, Header, Queue, Table};
 
-/// Fills in random numbers, mostly small ones.
-struct RandomFill(Rng);
+/// Fills in random numbers: mostly addresses that loads of the list have, since
+/// these are the ones that a wrong value would show at, and small words.
+struct RandomFill {
+    rng: Rng,
+    loaded: Vec<u32>,
+}
+
+impl RandomFill {
+    fn new(rng: Rng, calls: &[Call]) -> Self {
+        let rows = Rows::gather(calls).load_addresses;
+        let loaded = rows.into_values().flatten().collect();
+        Self { rng, loaded }
+    }
+}
 
 impl Fill for RandomFill {
-    fn address(&mut self, memory_length: u32) -> u32 {
-        let most = self.0.pick(&[0, 1, 3, memory_length - 1]);
-        self.0.between(0, most.min(memory_length - 1))
+    fn load_address(&mut self, memory_length: u32) -> u32 {
+        if !self.loaded.is_empty() && self.rng.chance(3, 4) {
+            return self.rng.pick(&self.loaded);
+        }
+        let most = self.rng.pick(&[0, 1, 3, memory_length - 1]);
+        self.rng.between(0, most.min(memory_length - 1))
     }
 
-    fn word(&mut self) -> u32 {
-        let any = self.0.word();
-        self.0.pick(&[0, 1, u32::MAX, any])
+    fn store_address(&mut self, memory_length: u32) -> u32 {
+        self.load_address(memory_length)
+    }
+
+    fn store_data(&mut self) -> u32 {
+        let any = self.rng.word();
+        self.rng.pick(&[0, 1, u32::MAX, any])
     }
 }
 
@@ -133,6 +153,21 @@ impl List {
             || near(self.queue.stores.next_serial).any(write)
     }
 
+    /// Whether the load that a serve or take is about stands behind a store that
+    /// has no address yet, so that the address is filled in.
+    fn stands_behind_unknown(&self, event: &Event) -> bool {
+        let loads = &self.queue.loads;
+        let load = match *event {
+            Event::Serve { serial } => loads.index_of(serial).map(|place| &loads.entries[place]),
+            Event::Take { port } => loads.entries.iter().find(|l| l.port == port && !l.taken),
+            _ => None,
+        };
+        load.is_some_and(|load| {
+            let mut earlier = self.queue.stores.entries.range(..load.stores_before);
+            earlier.any(|store| store.address.is_none())
+        })
+    }
+
     fn ready_loads(&self) -> Vec<u32> {
         let mut run = [3; 64];
         let ready = self.queue.ready_loads(&mut run);
@@ -147,7 +182,7 @@ impl List {
 
     fn check(&self, fillings: usize, rng: &mut Rng) {
         for _ in 0..fillings {
-            let mut fill = RandomFill(Rng::new(rng.bits()));
+            let mut fill = RandomFill::new(Rng::new(rng.bits()), &self.calls);
             let run = plain::run(&self.table, &self.opening_memory, &self.calls, &mut fill);
             for (port, taken) in &self.taken {
                 let loaded = &run.loaded[port];
@@ -203,37 +238,55 @@ impl List {
     }
 }
 
+/// What random lists reach.
+#[derive(Debug, Default)]
+struct Tally {
+    taken: usize,
+    forwarded: u32,
+    /// Serves accepted while an earlier store had no address, and takes of such loads
+    /// while it still had none. Only there could a filling give another value.
+    served_sooner: u32,
+    taken_sooner: u32,
+}
+
+/// Makes the calls on the list and checks it now and then, and where a load was
+/// served or taken sooner.
+fn make_calls(list: &mut List, events: &[Event], tally: &mut Tally, rng: &mut Rng) {
+    let every = if events.len() <= 60 { 1 } else { 50 };
+    for (i, &event) in events.iter().enumerate() {
+        let (mut queue, mut memory) = (list.queue.clone(), list.memory.clone());
+        let mut counts = Counts::default();
+        let _ = queue.apply(&event, &mut memory, &mut counts);
+        tally.forwarded += counts.forwarded;
+        let behind = list.stands_behind_unknown(&event);
+        let sooner = list.call(event, rng) == 0 && behind;
+        if sooner || i % every == 0 {
+            list.check(1, rng);
+        }
+        let is_serve = matches!(event, Event::Serve { .. });
+        tally.served_sooner += u32::from(sooner && is_serve);
+        tally.taken_sooner += u32::from(sooner && !is_serve);
+    }
+}
+
 #[test]
 fn random_lists_meet_demand_3() {
-    let (mut taken, mut forwarded) = (0, 0);
+    let mut tally = Tally::default();
     for seed in 0..4000 {
         let mut rng = Rng::new(seed);
         let scenario = Scenario::random(&mut rng);
         let mut list = List::open(scenario.table, scenario.header, &mut rng);
-        let every = if scenario.events.len() <= 60 { 1 } else { 50 };
-        for (i, &event) in scenario.events.iter().enumerate() {
-            let mut counts = Counts::default();
-            let _ = list
-                .queue
-                .clone()
-                .apply(&event, &mut list.memory.clone(), &mut counts);
-            forwarded += counts.forwarded;
-            list.call(event, &mut rng);
-            if i % every == 0 {
-                list.check(1, &mut rng);
-            }
-        }
+        make_calls(&mut list, &scenario.events, &mut tally, &mut rng);
         list.check(4, &mut rng);
         list.finish(&mut rng);
         list.check(1, &mut rng);
-        assert_eq!(
-            list.taken.values().map(Vec::len).sum::<usize>(),
-            list.loads()
-        );
-        taken += list.loads();
+        let taken = list.taken.values().map(Vec::len).sum::<usize>();
+        assert_eq!(taken, list.loads());
+        tally.taken += taken;
     }
-    assert!(taken > 20_000, "only {taken} values taken");
-    assert!(forwarded > 2_000, "only {forwarded} forwarded");
+    assert!(tally.taken > 20_000 && tally.forwarded > 2_000, "{tally:?}");
+    assert!(tally.served_sooner > 1_500, "{tally:?}");
+    assert!(tally.taken_sooner > 1_000, "{tally:?}");
 }
 
 /// "The one-after-another run passes over" an empty group, and so does the
@@ -262,7 +315,7 @@ fn lists_end_alike_without_their_empty_groups() {
             (&without.taken, &without.memory)
         );
         let filled = |list: &List| {
-            let mut fill = RandomFill(Rng::new(seed));
+            let mut fill = RandomFill::new(Rng::new(seed), &list.calls);
             plain::run(&list.table, &list.opening_memory, &list.calls, &mut fill)
         };
         assert_eq!(filled(&list), filled(&without));

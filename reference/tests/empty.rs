@@ -5,7 +5,7 @@ mod common;
 
 use common::header;
 use lsq_ref::number::write_numbers;
-use lsq_ref::plain::{self, Call, Fill};
+use lsq_ref::plain::{self, Call, Fill, Source};
 use lsq_ref::queue::{LoadEntry, Side, StoreEntry};
 use lsq_ref::table::Access::{self, Load, Store};
 use lsq_ref::table::Group;
@@ -382,11 +382,15 @@ fn only_empty_groups_since_opening_leave_no_entry() {
 struct NoFill;
 
 impl Fill for NoFill {
-    fn address(&mut self, _: u32) -> u32 {
+    fn load_address(&mut self, _: u32) -> u32 {
         panic!("every row is long enough")
     }
 
-    fn word(&mut self) -> u32 {
+    fn store_address(&mut self, _: u32) -> u32 {
+        panic!("every row is long enough")
+    }
+
+    fn store_data(&mut self) -> u32 {
         panic!("every row is long enough")
     }
 }
@@ -413,6 +417,7 @@ fn the_plain_run_passes_over_empty_groups() {
     let without = plain::run(&groups, &memory, &list(&[1]), &mut NoFill);
     assert_eq!(without.memory, [5, 5, 6, 5]);
     assert_eq!(without.loaded[&0], [5]);
+    assert_eq!(without.sources, [Source::Opening]);
     for order in [&[0, 1][..], &[1, 0], &[0, 0, 1, 0, 0]] {
         let calls = list(order);
         assert!(plain::activations(&calls).eq(order.iter().copied()));

@@ -1,7 +1,8 @@
 //! The generator: equal seeds give equal bytes, whole scenarios are accepted,
 //! tables have empty groups, shift records reach every edge, padding comes now
-//! and then, precedence pairs get each answer often, and together the pairs of
-//! files reach every answer that `play` can print.
+//! and then, precedence pairs get each answer often, serves of scenarios and of
+//! records end S-7's walk in every way, and together the pairs of files reach every
+//! answer that `play` can print.
 
 use std::collections::BTreeSet;
 
@@ -9,9 +10,10 @@ use lsq_ref::event::{read_header, EventReader};
 use lsq_ref::gen::{self, Lean, Scenario};
 use lsq_ref::ordering::order;
 use lsq_ref::play::{play, MAX_FILE};
+use lsq_ref::queue::StoreEntry;
 use lsq_ref::rng::Rng;
 use lsq_ref::table::Group;
-use lsq_ref::{Precedence, Queue, ShiftRecord, Table};
+use lsq_ref::{Counts, Event, Precedence, Queue, ShiftRecord, Table};
 
 #[test]
 fn equal_seeds_give_equal_pairs() {
@@ -72,6 +74,7 @@ fn tables_without_a_port_are_enough() {
         Lean::FORWARDED,
         Lean::CONFLICTS,
         Lean::STORES,
+        Lean::SOONER,
         Lean::NEIGHBOURS,
     ];
     for (groups, seed) in (1..=16).flat_map(|groups| (0..20).map(move |seed| (groups, seed))) {
@@ -337,4 +340,135 @@ fn equal_seeds_give_equal_precedence_pairs() {
         let again = || gen::ordering(&mut Rng::new(seed));
         assert_eq!(again(), again());
     }
+}
+
+// The walk of a serve (S-7).
+
+/// A serve that is past 27 and whose walk ends at a store.
+struct Walk {
+    answer: Result<u32, u8>,
+    end: StoreEntry,
+    /// The stores behind it that could have ended the walk too.
+    behind: Vec<StoreEntry>,
+}
+
+impl Walk {
+    fn of(queue: &Queue, event: &Event) -> Option<Self> {
+        let serial = match *event {
+            Event::Serve { serial } if queue.sound() => serial,
+            _ => return None,
+        };
+        let load = queue.loads.entries[queue.loads.index_of(serial)?];
+        let memory = vec![0; queue.memory_length as usize];
+        let answer = queue.clone().serve(serial, &memory, &mut Counts::default());
+        if !matches!(answer, Ok(_) | Err(28 | 29)) {
+            return None;
+        }
+        let earlier = queue.stores.entries.range(..load.stores_before).rev();
+        let could_end = |s: &&StoreEntry| s.address.is_none() || s.address == load.address;
+        let mut ends = earlier.filter(could_end).copied();
+        Some(Self {
+            answer,
+            end: ends.next()?,
+            behind: ends.collect(),
+        })
+    }
+
+    fn unknown_behind(&self) -> bool {
+        self.behind.iter().any(|store| store.address.is_none())
+    }
+
+    fn unwritten_match_behind(&self) -> bool {
+        let mut matches = self.behind.iter().filter(|store| store.address.is_some());
+        matches.any(|store| !store.written)
+    }
+}
+
+/// How often the walk ended in each way that S-7 is about.
+#[derive(Debug, Default)]
+struct Walks {
+    /// Served by a store, or 29, with a store without address behind.
+    served_sooner: u32,
+    hidden_28: u32,
+    /// 28 with an unwritten store to the load's address behind.
+    match_behind: u32,
+    /// Sent to memory by a written store, and with these behind it.
+    written: u32,
+    written_before_match: u32,
+    written_before_unknown: u32,
+    /// 28 for a written store.
+    written_unknown: u32,
+}
+
+impl Walks {
+    fn count(&mut self, walk: &Walk) {
+        let unknown = u32::from(walk.unknown_behind());
+        let matched = u32::from(walk.unwritten_match_behind());
+        match walk.answer {
+            Err(28) => {
+                self.match_behind += matched;
+                self.written_unknown += u32::from(walk.end.written);
+            }
+            Err(_) => self.hidden_28 += unknown,
+            Ok(_) if walk.end.written => {
+                self.written += 1;
+                self.written_before_match += matched;
+                self.written_before_unknown += unknown;
+            }
+            Ok(_) => self.served_sooner += unknown,
+        }
+    }
+}
+
+#[test]
+fn scenarios_reach_the_ends_of_the_walk() {
+    let mut walks = Walks::default();
+    for seed in 0..2_000 {
+        let scenario = Scenario::random(&mut Rng::new(seed));
+        let mut memory = vec![0; scenario.header.memory_length as usize];
+        let opened = Queue::open(scenario.table, scenario.header);
+        let mut queue = opened.expect("a header that opens");
+        for event in &scenario.events {
+            if let Some(walk) = Walk::of(&queue, event) {
+                walks.count(&walk);
+            }
+            let _ = queue.apply(event, &mut memory, &mut Counts::default());
+        }
+    }
+    assert!(walks.served_sooner > 800, "{walks:?}");
+    assert!(
+        walks.hidden_28 > 200 && walks.match_behind > 400,
+        "{walks:?}"
+    );
+    assert!(walks.written > 150, "{walks:?}");
+    // What no opening leads to.
+    assert_eq!(walks.written_before_match, 0);
+    assert_eq!(walks.written_before_unknown, 0);
+    assert_eq!(walks.written_unknown, 0);
+}
+
+#[test]
+fn records_reach_the_ends_of_the_walk() {
+    let mut walks = Walks::default();
+    for seed in 0..4_000 {
+        let mut rng = Rng::new(seed);
+        let queue = gen::record(&mut rng);
+        for _ in 0..24 {
+            let event = gen::call_on(&mut rng, &queue);
+            if let Some(walk) = Walk::of(&queue, &event) {
+                walks.count(&walk);
+            }
+        }
+    }
+    assert!(walks.served_sooner > 200, "{walks:?}");
+    assert!(
+        walks.hidden_28 > 60 && walks.match_behind > 250,
+        "{walks:?}"
+    );
+    assert!(
+        walks.written > 500 && walks.written_unknown > 200,
+        "{walks:?}"
+    );
+    assert!(walks.written_before_match > 200, "{walks:?}");
+    assert!(walks.written_before_unknown > 100, "{walks:?}");
 }

@@ -3,9 +3,9 @@
 
 mod common;
 
-use common::{header, open};
+use common::{header, open, trusting};
 use lsq_ref::gen;
-use lsq_ref::queue::{LoadEntry, Side, StoreEntry, TrustingQueue};
+use lsq_ref::queue::{LoadEntry, Side, StoreEntry};
 use lsq_ref::rng::Rng;
 use lsq_ref::table::Access::{Load, Store};
 use lsq_ref::{Counts, Event, Queue};
@@ -63,14 +63,38 @@ fn has_port(q: &Queue, port: u32, load: bool) -> bool {
     ports.contains(&port)
 }
 
-/// The place of the nearest earlier unwritten store to the load's address.
-fn nearest(q: &Queue, load: &LoadEntry) -> Option<usize> {
-    let earlier = 0..load.stores_before;
-    let matches = |&p: &usize| {
-        let store = &q.stores.entries[p];
-        !store.written && store.address.is_some() && store.address == load.address
+/// Where the walk of S-7 could end: the nearest earlier store without address, and
+/// the nearest unwritten and the nearest written one to the load's address. It ends
+/// at the greatest of these places, and `None` is less than every place.
+struct Ends {
+    unknown: Option<usize>,
+    unwritten: Option<usize>,
+    written: Option<usize>,
+}
+
+fn ends(q: &Queue, load: &LoadEntry) -> Ends {
+    let mut ends = Ends {
+        unknown: None,
+        unwritten: None,
+        written: None,
     };
-    earlier.filter(matches).max()
+    let earlier = q.stores.entries.iter().take(load.stores_before);
+    for (place, store) in earlier.enumerate() {
+        match (store.address, store.written) {
+            (None, _) => ends.unknown = Some(place),
+            (known, false) if known == load.address => ends.unwritten = Some(place),
+            (known, true) if known == load.address => ends.written = Some(place),
+            _ => {}
+        }
+    }
+    ends
+}
+
+/// The place of the store whose data the load gets, or waits for.
+fn supplier(q: &Queue, load: &LoadEntry) -> Option<usize> {
+    let ends = ends(q, load);
+    let others = ends.unknown.max(ends.written);
+    ends.unwritten.filter(|&place| others < Some(place))
 }
 
 fn activate_answer(q: &Queue, group: usize) -> u8 {
@@ -95,13 +119,13 @@ fn serve_answer(q: &Queue, serial: u32, length: usize) -> u8 {
         return 25;
     };
     let load = q.loads.entries[place];
-    let earlier = q.stores.entries.iter().take(load.stores_before);
-    let unknown = earlier.filter(|store| store.address.is_none()).count();
-    let dataless = nearest(q, &load).is_some_and(|p| q.stores.entries[p].data.is_none());
+    let ends = ends(q, &load);
+    let unknown = ends.unknown > ends.unwritten.max(ends.written);
+    let dataless = supplier(q, &load).is_some_and(|p| q.stores.entries[p].data.is_none());
     first(&[
         (load.served, 26),
         (load.address.is_none(), 27),
-        (unknown > 0, 28),
+        (unknown, 28),
         (dataless, 29),
     ])
 }
@@ -218,7 +242,7 @@ fn outcome(q: &Queue, event: &Event, memory: &[u32], counts: Counts) -> Outcome 
         }
         Event::Serve { serial } => {
             let place = place_of(&q.loads, serial).unwrap();
-            let source = nearest(&q, &q.loads.entries[place]);
+            let source = supplier(&q, &q.loads.entries[place]);
             let load = &mut q.loads.entries[place];
             load.value = match source {
                 Some(p) => q.stores.entries[p].data.unwrap(),
@@ -345,6 +369,53 @@ fn every_call_follows_what_the_record_holds() {
     assert!(empty_when_full > 100, "only {empty_when_full}");
 }
 
+/// Every store that the walk of S-7 can tell apart, for a load of word 1: its address
+/// none, the load's or another, its data there or not, written or not.
+fn every_store() -> Vec<StoreEntry> {
+    let mut stores = Vec::new();
+    for address in [None, Some(1), Some(2)] {
+        for (data, written) in [
+            (None, false),
+            (None, true),
+            (Some(8), false),
+            (Some(9), true),
+        ] {
+            stores.push(StoreEntry {
+                address,
+                data,
+                written,
+                ..StoreEntry::default()
+            });
+        }
+    }
+    stores
+}
+
+/// Every row of three of these stores, and a load behind the first 0 to 3 of them.
+#[test]
+fn every_row_of_three_stores_is_walked_alike() {
+    let mut answers = [0; 30];
+    let stores = every_store();
+    let mut queue = open(&[Store(0), Load(0)], header(1, 3, 1, 4));
+    queue.loads.entries.push_back(LoadEntry {
+        address: Some(1),
+        ..LoadEntry::default()
+    });
+    for row in 0..stores.len().pow(3) {
+        let places = [row / 144, row / 12 % 12, row % 12];
+        queue.stores.entries = places.map(|place| stores[place]).into();
+        for before in 0..=3 {
+            queue.loads.entries[0].stores_before = before;
+            let serve = Event::Serve { serial: 0 };
+            let outcome = compare_call(&queue, &serve, &[4, 5, 6, 7], Counts::default());
+            answers[usize::from(outcome.0.err().unwrap_or(0))] += 1;
+            compare_ready(&mut Rng::new(row as u64), &queue);
+        }
+    }
+    assert!(answers[28] > 2_000 && answers[29] > 300, "{answers:?}");
+    assert!(answers[0] > 2_000, "{answers:?}");
+}
+
 /// Whether the record is sound and no place is free on either side.
 fn is_full(q: &Queue) -> bool {
     let (loads, stores) = (q.loads.entries.len(), q.stores.entries.len());
@@ -367,14 +438,7 @@ fn without_check_40_sound_records_are_answered_alike() {
         if !checked.sound() {
             continue;
         }
-        let mut trusting = TrustingQueue {
-            table: checked.table.clone(),
-            load_depth: checked.load_depth,
-            store_depth: checked.store_depth,
-            memory_length: checked.memory_length,
-            loads: checked.loads.clone(),
-            stores: checked.stores.clone(),
-        };
+        let mut trusting = trusting(&checked);
         let mut memory = vec![0; checked.memory_length as usize];
         let mut counts = Counts::default();
         for _ in 0..24 {

@@ -105,8 +105,10 @@ impl Queue {
     ///
     /// # Errors
     /// 40; 30 the memory has another length; 25 serial not in the queue; 26
-    /// already served; 27 no address; 28 an earlier store has no address; 29
-    /// the store to forward from has no data.
+    /// already served; 27 no address; 28 an earlier store has no address, and
+    /// no nearer one has the load's; 29 the store to forward from has no data.
+    /// Of the last two it is the one that the walk back over the stores meets
+    /// first.
     pub fn serve(
         &mut self,
         memory: &[u32],

@@ -51,7 +51,7 @@ refusals! {
     NO_SERIAL = 25, "serial not in the queue";
     ALREADY_DONE = 26, "already served, or already written";
     NO_ADDRESS = 27, "the entry has no address";
-    EARLIER_STORE_ADDRESS = 28, "an earlier store has no address";
+    EARLIER_STORE_ADDRESS = 28, "an earlier store has no address, and no nearer one has the load's";
     NO_DATA = 29, "the store (to forward from) has no data";
     OTHER_MEMORY = 30, "lent memory has another length";
     LOAD_CONFLICT = 31, "an earlier unserved load has no address or the same one";

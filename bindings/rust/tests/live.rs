@@ -179,7 +179,10 @@ fn numbers_and_events_are_written() {
 #[test]
 fn refusals_can_be_read() {
     let words = Refusal(28).to_string();
-    assert_eq!(words, "refused with 28: an earlier store has no address");
+    assert_eq!(
+        words,
+        "refused with 28: an earlier store has no address, and no nearer one has the load's"
+    );
     assert_eq!(Refusal::EARLIER_STORE_ADDRESS, Refusal(28));
     let words = Refusal::PAGE_TOO_SHORT.to_string();
     assert!(words.ends_with("41: a page buffer has fewer than 1394 bytes"));

@@ -90,7 +90,7 @@ alreadyDone = 26
 abbrev pub noAddress : ℕ
 noAddress = 27
 
--- an earlier store has no address
+-- an earlier store has no address, and no nearer one has the load's
 abbrev pub earlierStoreUnknown : ℕ
 earlierStoreUnknown = 28
 

@@ -45,7 +45,7 @@ pub const NO_SERIAL: u8 = 25;
 pub const ALREADY_DONE: u8 = 26;
 // the load to be served, or the store to be written, has no address
 pub const NO_ADDRESS: u8 = 27;
-// an earlier store has no address
+// an earlier store has no address, and no nearer one has the load's
 pub const EARLIER_STORE_UNKNOWN: u8 = 28;
 // the store to forward from, or the store to be written, has no data
 pub const NO_DATA: u8 = 29;

@@ -9,7 +9,7 @@ use Rattle.queue.specs.Sound.{sound}
 use Rattle.queue.specs.Open.{openQueue}
 use Rattle.queue.specs.Activate.{activate}
 use Rattle.queue.specs.Arguments.{give}
-use Rattle.queue.specs.Serve.{serve}
+use Rattle.queue.specs.Serve.{source, serve}
 use Rattle.queue.specs.Write.{write}
 use Rattle.queue.specs.Take.{takeRule}
 use Rattle.replay.specs.Replay.{prepare}
@@ -19,5 +19,5 @@ use Rattle.printed.specs.Cases.{AllCasesHold}
 
 pub all-cases-hold : AllCasesHold
 unfolding files traceFiles digitsUpTo prepare eventsUpTo numberUpTo readNumber bytesUpTo checkPairs seeing checkGroup checkGroups checkTable
-    readPairs readGroup readGroups readTable readEvent readHeader sound openQueue activate give serve write takeRule
+    readPairs readGroup readGroups readTable readEvent readHeader sound openQueue activate give source serve write takeRule
 all-cases-hold = refl

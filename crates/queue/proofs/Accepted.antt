@@ -16,7 +16,7 @@ use Rattle.queue.specs.Contents.{Contents, placeOf, othersBefore}
 use Rattle.queue.specs.Sound.{sound}
 use Rattle.queue.specs.Activate.{room, withGroup, activate}
 use Rattle.queue.specs.Arguments.{kindOf, namesPort, inRange, lacks, askedOf, argumentGiven, give}
-use Rattle.queue.specs.Serve.{Served, fromMemory, source, Loaded, loadedFrom, mayServe, servedWith, serve}
+use Rattle.queue.specs.Serve.{Served, source, Loaded, loadedFrom, mayServe, servedWith, serve}
 use Rattle.queue.specs.Write.{Written, WordPut, noConflict, mayWrite, writtenWith, write}
 use Rattle.queue.specs.Take.{Taken, takePlace, takenWith, takeRule}
 use Rattle.number.proofs.ReplyLaws.{need-accepts, have-accepts, andThen-accepts}
@@ -47,7 +47,7 @@ pub record MayServe (m : List ℕ) (ss : List Entry) (l : Entry) (v : Loaded) : 
   pub unserved : not (served l) ≡ true
   pub address : ℕ
   pub addressed : l .address ≡ some address
-  pub gives : loadedFrom m address (source address fromMemory ss) ≡ accept v
+  pub gives : loadedFrom m address (source address ss) ≡ accept v
 
 may-serve-accepts : (m : List ℕ) (ss : List Entry) (l : Entry) (v : Loaded) → mayServe m ss l ≡ accept v → MayServe m ss l v
 may-serve-accepts m ss l v h =

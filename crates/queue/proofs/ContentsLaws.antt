@@ -2,11 +2,12 @@
 use Prim.Native.Nat.{ℕ, zero, suc, _+_, _≤_, _<_}
 use native.Mathlib.Nat.{not-suc-le-zero, le-of-suc-le-suc}
 use native.Mathlib.Numerals.{add-one}
-use mathlib.Core.Path.{_≡_, refl, ap, ap₂, _∙_}
-use mathlib.Core.List.{List, [], _∷_, map}
+use native.Mathlib.Omega.{arith}
+use mathlib.Core.Path.{_≡_, refl, sym, ap, ap₂, _∙_}
+use mathlib.Core.List.{List, [], _∷_, _++_, map}
 use mathlib.Core.Option.{none, some}
 use lib.ListN.{length, getD, take, drop, set, length-map, length-set, List·getD-map, drop-of-length-le, getElem?}
-use lib.Seq.{take-set-lt, drop-cons}
+use lib.Seq.{take-all, take-suc, take-set-lt, drop-cons}
 use Rattle.number.specs.Basics.{held}
 use Rattle.number.proofs.HeldLaws.{held-few, held-here, held-length, held-take}
 use Rattle.queue.specs.declared.Kind.{Kind}
@@ -57,6 +58,21 @@ module _ {A B : Type 0} (f : A → B) (blank : A) (n : ℕ) (l : List A) where
 
   pub mapped-getElem? : (i : ℕ) → i < n → getElem? (map f (held blank n l)) i ≡ some (f (getD l i blank))
   mapped-getElem? i k = getElem?-getD (map f (held blank n l)) i (f blank) (rw mapped-length k) ∙ rw (mapped-at i k)
+
+  -- one more
+  pub mapped-last : map f (held blank (n + 1) l) ≡ map f (held blank n l) ++ f (getD l n blank) ∷ []
+  mapped-last =
+      rw add-one
+      (sym (take-all (suc n) more (omega (arith, long)))
+      ∙ take-suc more n (f blank) (omega (arith, long))
+      ∙ rw (take-map f n (held blank (suc n) l), held-take blank (suc n) l n (omega arith), List·getD-map f (held blank (suc n) l) n blank)
+      (rw (held-here blank (suc n) l n (omega arith))))
+    where
+      more : List B
+      more = map f (held blank (suc n) l)
+
+      long : length more ≡ suc n
+      long = length-map (held blank (suc n) l) f ∙ held-length blank (suc n) l
 
   -- those from the ith on: what a walk over them comes to
   pub mapped-here : (i : ℕ) → i < n → drop i (map f (held blank n l)) ≡ f (getD l i blank) ∷ drop (i + 1) (map f (held blank n l))

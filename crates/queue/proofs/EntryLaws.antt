@@ -9,7 +9,7 @@ use Rattle.number.specs.Basics.{pick, isSome}
 use Rattle.queue.specs.declared.Entry.{Entry as EntryStruct}
 use Rattle.queue.specs.Entry.{Entry, withAddress, withWord, markFinished, entryOf, unpacked, entryIn, bit, numberOf, Small, EntriesReadBack}
 use Rattle.queue.specs.Entry.{PackedReadBack}
-use Rattle.queue.specs.Touch.{apart, same, isApart, isSame}
+use Rattle.queue.specs.Touch.{apart, same, isApart}
 use Rattle.queue.specs.Internal.{setAddress, setWord, setFinished}
 
 -- ---- packing
@@ -195,10 +195,6 @@ address-number a n low =
 pub marked : (mark : Bool) (a : ℕ) → isSome (pick mark (some a) none) ≡ mark
 marked true a = refl
 marked false a = refl
-
-pub same-picked : (t : Bool) → t ≡ isSame (pick t same apart)
-same-picked true = refl
-same-picked false = refl
 
 pub apart-picked : (t : Bool) → not t ≡ isApart (pick t same apart)
 apart-picked true = refl

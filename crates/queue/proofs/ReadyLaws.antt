@@ -54,7 +54,7 @@ module _ (m m′ : List ℕ) where
   loaded-any a fromMemory = refl
 
   may-any : (ss : List Entry) (l : Entry) → accepted (mayServe m ss l) ≡ accepted (mayServe m′ ss l)
-  may-any ss l = need-same (not (served l)) _ _ _ (have-same (l .address) _ _ _ λ a. loaded-any a (source a fromMemory ss))
+  may-any ss l = need-same (not (served l)) _ _ _ (have-same (l .address) _ _ _ λ a. loaded-any a (source a ss))
 
 serve-accepts-ready : (q : Contents) (memory : List ℕ) (place : ℕ) → accepted (serveAt q memory place) ≡ readyIn q (getElem? (q .loads .entries) place)
 serve-accepts-ready q memory place = go (getElem? (q .loads .entries) place)

@@ -73,7 +73,7 @@ loaded-small m a fromMemory = refl
 
 may-serve-small : (m : List ℕ) (ss : List Entry) (l : Entry) → small (mayServe m ss l) ≡ true
 may-serve-small m ss l =
-    need-among byte (not (served l)) _ _ refl (have-among byte (l .address) _ _ refl λ a. loaded-small m a (source a fromMemory ss))
+    need-among byte (not (served l)) _ _ refl (have-among byte (l .address) _ _ refl λ a. loaded-small m a (source a ss))
 
 pub serve-small : (q : Contents) (m : List ℕ) (serial : ℕ) → small (serve q m serial) ≡ true
 unfolding serve

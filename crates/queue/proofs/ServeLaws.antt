@@ -16,7 +16,7 @@ use Rattle.number.specs.Reply.{refuse, accept, have, andThen}
 use Rattle.queue.specs.Entry.{Entry, entryOf, unpacked, withWord}
 use Rattle.queue.specs.Contents.{Contents, contentsOf, age, oldest, placeOf, othersBefore}
 use Rattle.queue.specs.Sound.{sound}
-use Rattle.queue.specs.Serve.{Source, fromMemory, source, loadedFrom, mayServe, servedWith, serveAt, serve}
+use Rattle.queue.specs.Serve.{Source, source, loadedFrom, mayServe, servedWith, serveAt, serve}
 use Rattle.queue.specs.Outcome.{valueIn, ServedWell}
 use Rattle.queue.specs.Parts.{queueOf, countedOf}
 use Rattle.queue.specs.Internal.{Has64, mayServeAt, servedAs, MadeAnew}
@@ -31,7 +31,7 @@ module _ (memory : List ℕ) (ss : List Entry) (e : EntryStruct) where
     pub may-no-address : e .addressed ≡ false → mayServe memory ss (entryOf e) ≡ refuse noAddress
     may-no-address a = rw (f, a)
 
-    pub may-load : e .addressed ≡ true → {found : Source} → found ≡ source (e .address) fromMemory ss
+    pub may-load : e .addressed ≡ true → {found : Source} → found ≡ source (e .address) ss
         → mayServe memory ss (entryOf e) ≡ loadedFrom memory (e .address) found
     may-load a s = rw (f, a, s)
 

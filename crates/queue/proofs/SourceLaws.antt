@@ -1,70 +1,112 @@
 -- Where a load's word comes from, by the stores before it. Whoever reasons about a source does so by these laws.
-use Prim.Native.Nat.{ℕ, _+_}
+use Prim.Native.Nat.{ℕ, _+_, _-_, _≤_, _<_}
+use native.Mathlib.Omega.{arith}
 use mathlib.Core.Path.{_≡_, refl, sym, ap, _∙_}
-use mathlib.Core.Bool.{Bool, true, false, not, _&&_}
-use mathlib.Core.List.{List, [], _∷_, _++_, map, append-nil}
+use mathlib.Core.Bool.{Bool, true, false, not}
+use mathlib.Core.List.{List, [], _∷_, _++_, map, reverseAux}
 use mathlib.Core.Option.{Option, none, some}
 use lib.Dec.{eqb}
-use lib.ListN.{getD, drop}
-use borrow.Author.Tests.{not-true, not-false}
+use lib.ListN.{length, getD}
+use borrow.Author.Tests.{not-true, not-false, eq-eqb, ne-eqb}
 use Rattle.number.specs.Basics.{pick, allOf, isSome}
 use Rattle.number.specs.Reply.{accept}
 use Rattle.number.proofs.Both.{and-left, and-right}
 use Rattle.queue.specs.declared.Entry.{Entry as EntryStruct}
-use Rattle.queue.specs.Entry.{Entry, dataOf, written, entryOf}
-use Rattle.queue.specs.Touch.{Touch, apart, unknown, same, touch, isSame}
-use Rattle.queue.specs.Serve.{Source, unsettled, fromStore, fromMemory, nearer, source, Loaded, loadedFrom}
-use Rattle.queue.specs.Internal.{unwrittenTo}
+use Rattle.queue.specs.Entry.{Entry, dataOf, written, entryOf, entryIn, unpacked}
+use Rattle.queue.specs.Contents.{entriesHeld}
+use Rattle.queue.specs.Touch.{apart, same, touch}
+use Rattle.queue.specs.Serve.{Source, unsettled, fromStore, fromMemory, decided, walkBack, source, SourcesAreWalked, Loaded, loadedFrom}
 use Rattle.queue.proofs.Lists.{false-true}
+use Rattle.queue.proofs.ContentsLaws.{mapped-last}
 
 abbrev pub hasAddress : Entry → Bool
 hasAddress s = isSome (s .address)
 
--- ---- one store
--- one with an address: an unwritten one to the load's takes the place of what was found
-nearer-is : (a : ℕ) (s : Entry) (found : Source) → hasAddress s ≡ true
-    → nearer (touch a (s .address)) (written s) (dataOf s) found ≡ pick (unwrittenTo a s) (fromStore (dataOf s)) found
-nearer-is a s found = go (s .address) (s .finished)
+-- ---- the walk, told from the oldest store on: the last one that is not passed decides
+abbrev pub pastStore : ℕ → Entry → Source → Source
+pastStore a s found = decided (touch a (s .address)) (written s) (dataOf s) found
+
+abbrev pub sourceFrom : ℕ → Source → List Entry → Source
+sourceFrom a found [] = found
+sourceFrom a found (s ∷ ss) = sourceFrom a (pastStore a s found) ss
+
+back-from : (a : ℕ) (ss near : List Entry) → walkBack a (reverseAux ss near) ≡ sourceFrom a (walkBack a near) ss
+back-from a [] near = refl
+back-from a (s ∷ ss) near = back-from a ss (s ∷ near)
+
+pub source-from : (a : ℕ) (ss : List Entry) → source a ss ≡ sourceFrom a fromMemory ss
+unfolding source
+source-from a ss = back-from a ss []
+
+from-append : (a : ℕ) (found : Source) (xs ys : List Entry) → sourceFrom a found (xs ++ ys) ≡ sourceFrom a (sourceFrom a found xs) ys
+from-append a found [] ys = refl
+from-append a found (s ∷ xs) ys = from-append a (pastStore a s found) xs ys
+
+pub source-append : (a : ℕ) (xs ys : List Entry) → source a (xs ++ ys) ≡ sourceFrom a (source a xs) ys
+source-append a xs ys =
+    source-from a (xs ++ ys) ∙ from-append a fromMemory xs ys ∙ ap (λ (x : Source). sourceFrom a x ys) (sym (source-from a xs))
+
+-- ---- the paper's sentences
+pub sources-are-walked : SourcesAreWalked
+sources-are-walked a = (
+  source-from a [],
+  λ older s. record {
+    unaddressed = λ is. nearest older s ∙ rw is;
+    supplies = λ is w. nearest older s ∙ rw (is, eq-eqb a a refl, w);
+    sends = λ is w. nearest older s ∙ rw (is, eq-eqb a a refl, w);
+    passes = λ b is other. nearest older s ∙ rw (is, ne-eqb b a other);
+  },
+)
   where
-    at : (t w : Bool) → nearer (pick t same apart) w (dataOf s) found ≡ pick (not w && isSame (pick t same apart)) (fromStore (dataOf s)) found
-    at true true = refl
-    at true false = refl
-    at false true = refl
-    at false false = refl
+    nearest : (older : List Entry) (s : Entry) → source a (older ++ s ∷ []) ≡ pastStore a s (source a older)
+    nearest older s = source-append a older (s ∷ [])
 
-    go : (o : Option ℕ) (w : Bool) → isSome o ≡ true → nearer (touch a o) w (dataOf s) found ≡ pick (not w && isSame (touch a o)) (fromStore (dataOf s)) found
-    go none w h = false-true h
-    go (some b) w h = at (eqb b a) w
+-- ---- a store to the load's address decides, whatever lies farther back
+module _ (e : EntryStruct) (farther : Source) where
+  pub matched-written : e .finished ≡ true → fromMemory ≡ decided same (written (entryOf e)) (dataOf (entryOf e)) farther
+  matched-written h = rw h
 
--- ---- the walk from the oldest: `found` is the source that the first i stores leave
-pub record Walked (a : ℕ) (ss : List Entry) (i : ℕ) (found : Source) : Type 0 where
-  pub is : source a found (drop i ss) ≡ source a fromMemory ss
+  pub matched-unwritten : e .finished ≡ false → {word : Option ℕ} → word ≡ dataOf (entryOf e)
+      → fromStore word ≡ decided same (written (entryOf e)) (dataOf (entryOf e)) farther
+  matched-unwritten h k = rw h (ap fromStore k)
 
-pub walked-none : {a : ℕ} {ss : List Entry} → Walked a ss 0 fromMemory
-walked-none = record { is = refl }
+-- ---- the walk back of the code: the stores from the ith on are passed, so that the first i decide as all n do
+pub record WalkedBack (a n : ℕ) (l : List ℕ) (i : ℕ) : Type 0 where
+  pub is : source a (entriesHeld i l) ≡ source a (entriesHeld n l)
 
-module _ {a : ℕ} {ss : List Entry} {i : ℕ} {found : Source} (w : Walked a ss i found) where
-  module _ (e : EntryStruct) (here : drop i ss ≡ entryOf e ∷ drop (i + 1) ss) where
-    pub walked-stop : not (e .addressed) ≡ true → unsettled ≡ source a fromMemory ss
-    walked-stop h = sym (rw (here, not-true (e .addressed) h)) ∙ w .is
+pub back-none : {a n : ℕ} {l : List ℕ} → WalkedBack a n l n
+back-none = record { is = refl }
+
+module _ {a n : ℕ} {l : List ℕ} {i : ℕ} (w : WalkedBack a n l i) where
+  -- the nearest of the first i
+  module _ (some-left : 0 < i) (e : EntryStruct) (here : e ≡ unpacked (getD l (i - 1) 0)) where
+    step : pastStore a (entryOf e) (source a (entriesHeld (i - 1) l)) ≡ source a (entriesHeld n l)
+    step =
+        let one : i - 1 + 1 ≡ i = omega arith in
+        ap (λ (s : EntryStruct). pastStore a (entryOf s) (source a (entriesHeld (i - 1) l))) here
+        ∙ sym (source-append a (entriesHeld (i - 1) l) (entryIn (getD l (i - 1) 0) ∷ []))
+        ∙ ap (source a) (sym (mapped-last entryIn 0 (i - 1) l)) ∙ ap (λ (k : ℕ). source a (entriesHeld k l)) one ∙ w .is
+
+    pub back-unknown : not (e .addressed) ≡ true → unsettled ≡ source a (entriesHeld n l)
+    back-unknown h = rw (not-true (e .addressed) h) at step
 
     module _ (known : not (e .addressed) ≡ false) where
       addressed : e .addressed ≡ true
       addressed = not-false (e .addressed) known
 
-      step : source a (pick (unwrittenTo a (entryOf e)) (fromStore (dataOf (entryOf e))) found) (drop (i + 1) ss) ≡ source a fromMemory ss
-      step =
-          ap (λ (x : Source). source a x (drop (i + 1) ss)) (sym (nearer-is a (entryOf e) found (rw addressed)))
-          ∙ sym (rw (here, addressed)) ∙ w .is
+      pub back-matched : e .address ≡ a → {x : Source} → ((farther : Source) → x ≡ decided same (written (entryOf e)) (dataOf (entryOf e)) farther)
+          → x ≡ source a (entriesHeld n l)
+      back-matched k found = found (source a (entriesHeld (i - 1) l)) ∙ rw (addressed, eq-eqb (e .address) a k) at step
 
-      pub walked-nearer : unwrittenTo a (entryOf e) ≡ true → {next : Source} → next ≡ fromStore (dataOf (entryOf e)) → Walked a ss (i + 1) next
-      walked-nearer k {next} n = record { is = rw n (rw k at step) }
+      pub back-passed : (e .address ≡ a → ⊥) → WalkedBack a n l (i - 1)
+      back-passed k = record { is = rw (addressed, ne-eqb (e .address) a k) at step }
 
-      pub walked-on : unwrittenTo a (entryOf e) ≡ false → Walked a ss (i + 1) found
-      walked-on k = record { is = rw k at step }
-
-  pub walked-end : drop i ss ≡ [] → found ≡ source a fromMemory ss
-  walked-end e = sym (rw e) ∙ w .is
+  pub back-end : i ≤ 0 → fromMemory ≡ source a (entriesHeld n l)
+  unfolding source
+  back-end h =
+      let none-left : i ≡ 0 = omega arith in
+      let none-held : 0 - length l ≡ 0 = omega arith in
+      sym (rw (none-left, none-held)) ∙ w .is
 
 -- ---- the word that a source gives, where `word` is the memory word; none where the serve is refused
 abbrev pub wordFrom : ℕ → Source → Option ℕ
@@ -79,49 +121,35 @@ loaded-word m a (fromStore (some w)) v h = let e : record { value = w; forwarded
 loaded-word m a fromMemory v h = let e : record { value = getD m a 0; forwarded = false } ≡ v = cc in ap (λ (x : Loaded). some (x .value)) e
 
 -- ---- a source goes by the stores' addresses, data and marks, and not by what they remember
-pub source-alike : {A : Type 0} (f g : A → Entry) → ((x : A) → f x .address ≡ g x .address) → ((x : A) → dataOf (f x) ≡ dataOf (g x))
-    → ((x : A) → written (f x) ≡ written (g x)) → (a : ℕ) (found : Source) (xs : List A) → source a found (map f xs) ≡ source a found (map g xs)
-source-alike f g address word done a found [] = refl
-source-alike f g address word done a found (x ∷ xs) =
-    rw (
-      address x,
-      word x,
-      done x,
-      source-alike f g address word done a (nearer (touch a (g x .address)) (written (g x)) (dataOf (g x)) found) xs,
-    )
+module _ {A : Type 0} (f g : A → Entry) (address : (x : A) → f x .address ≡ g x .address) (word : (x : A) → dataOf (f x) ≡ dataOf (g x))
+    (done : (x : A) → written (f x) ≡ written (g x)) (a : ℕ) where
+  from-alike : (found : Source) (xs : List A) → sourceFrom a found (map f xs) ≡ sourceFrom a found (map g xs)
+  from-alike found [] = refl
+  from-alike found (x ∷ xs) = rw (address x, word x, done x) (from-alike (pastStore a (g x) found) xs)
+
+  pub source-alike : (xs : List A) → source a (map f xs) ≡ source a (map g xs)
+  source-alike xs = source-from a (map f xs) ∙ from-alike fromMemory xs ∙ sym (source-from a (map g xs))
 
 -- ---- written stores with an address leave a load to memory
-pub source-written : (a : ℕ) (past ss : List Entry) → allOf written past ≡ true → allOf hasAddress past ≡ true
-    → source a fromMemory (past ++ ss) ≡ source a fromMemory ss
-source-written a [] ss h k = refl
-source-written a (s ∷ past) ss h k =
-    let known : hasAddress s ≡ true = and-left (hasAddress s) (allOf hasAddress past) k in
-    let done : written s ≡ true = and-left (written s) (allOf written past) h in
-    rw (known, nearer-is a s fromMemory known, done)
-    (source-written a past ss (and-right (written s) (allOf written past) h) (and-right (hasAddress s) (allOf hasAddress past) k))
+past-written : (a : ℕ) (s : Entry) → written s ≡ true → hasAddress s ≡ true → pastStore a s fromMemory ≡ fromMemory
+past-written a s done = go (s .address)
+  where
+    at : (t : Bool) → decided (pick t same apart) (written s) (dataOf s) fromMemory ≡ fromMemory
+    at true = rw done
+    at false = refl
 
-pub source-memory : (a : ℕ) (ss : List Entry) → allOf written ss ≡ true → allOf hasAddress ss ≡ true → source a fromMemory ss ≡ fromMemory
-source-memory a ss h k = ap (source a fromMemory) (sym (append-nil ss)) ∙ source-written a ss [] h k
+    go : (o : Option ℕ) → isSome o ≡ true → decided (touch a o) (written s) (dataOf s) fromMemory ≡ fromMemory
+    go none h = false-true h
+    go (some b) h = at (eqb b a)
 
--- ---- a test that no source fails: it is unsettled, memory, or one of the stores
-module _ (p : Source → Bool) (a : ℕ) (h : p unsettled ≡ true) where
-  source-passes-from : (found : Source) (ss : List Entry) → p found ≡ true → allOf (λ s. p (fromStore (dataOf s))) ss ≡ true
-      → p (source a found ss) ≡ true
-  source-passes-from found [] k t = k
-  source-passes-from found (s ∷ ss) k t =
-      go (hasAddress s) (source-passes-from _ ss (at (touch a (s .address)) (written s))
-      (and-right (p (fromStore (dataOf s))) (allOf (λ s. p (fromStore (dataOf s))) ss) t))
-    where
-      at : (x : Touch) (w : Bool) → p (nearer x w (dataOf s) found) ≡ true
-      at apart w = k
-      at unknown w = h
-      at same true = k
-      at same false = and-left (p (fromStore (dataOf s))) (allOf (λ s. p (fromStore (dataOf s))) ss) t
+from-written : (a : ℕ) (past : List Entry) → allOf written past ≡ true → allOf hasAddress past ≡ true → sourceFrom a fromMemory past ≡ fromMemory
+from-written a [] h k = refl
+from-written a (s ∷ past) h k =
+    rw (past-written a s (and-left (written s) (allOf written past) h) (and-left (hasAddress s) (allOf hasAddress past) k))
+    (from-written a past (and-right (written s) (allOf written past) h) (and-right (hasAddress s) (allOf hasAddress past) k))
 
-      go : (known : Bool) → p (source a (nearer (touch a (s .address)) (written s) (dataOf s) found) ss) ≡ true
-          → p (pick known (source a (nearer (touch a (s .address)) (written s) (dataOf s) found) ss) unsettled) ≡ true
-      go false on = h
-      go true on = on
+pub source-memory : (a : ℕ) (ss : List Entry) → allOf written ss ≡ true → allOf hasAddress ss ≡ true → source a ss ≡ fromMemory
+source-memory a ss h k = source-from a ss ∙ from-written a ss h k
 
-  pub source-passes : (ss : List Entry) → p fromMemory ≡ true → allOf (λ s. p (fromStore (s .word))) ss ≡ true → p (source a fromMemory ss) ≡ true
-  source-passes ss k t = source-passes-from fromMemory ss k t
+pub source-written : (a : ℕ) (past ss : List Entry) → allOf written past ≡ true → allOf hasAddress past ≡ true → source a (past ++ ss) ≡ source a ss
+source-written a past ss h k = source-append a past ss ∙ rw (source-memory a past h k) (sym (source-from a ss))

@@ -1,7 +1,7 @@
 -- What the crate's own functions promise each other: nothing here is promised to a caller from outside.
 use Prim.Native.Nat.{ℕ, _+_, _≤_, _<_, _-_}
 use mathlib.Core.Path.{_≡_}
-use mathlib.Core.Bool.{Bool, true, false, not, _&&_}
+use mathlib.Core.Bool.{Bool, true, false}
 use mathlib.Core.List.{List, map, _++_, [], _∷_}
 use mathlib.Core.Option.{none, some}
 use lib.Dec.{leb, ltb}
@@ -33,13 +33,13 @@ use Rattle.queue.specs.declared.serving.Source.the-variants.{Unknown, No
 use Rattle.queue.specs.declared.serving.Service.{Service}
 use Rattle.queue.specs.declared.ready.Serials.{Serials}
 use Rattle.queue.specs.declared.ready.ReadyCount.{ReadyCount}
-use Rattle.queue.specs.Entry.{entryStruct, ofPortWithout, Entry, newEntry, written, entryIn}
+use Rattle.queue.specs.Entry.{entryStruct, ofPortWithout, Entry, newEntry, dataOf, written, entryIn}
 use Rattle.queue.specs.Contents.{Contents, contentsOf, entriesHeld, withSides, after, firstPlace}
-use Rattle.queue.specs.Touch.{touch, isSame}
+use Rattle.queue.specs.Touch.{same}
 use Rattle.queue.specs.Sound.{sound}
 use Rattle.queue.specs.Activate.{joined}
 use Rattle.queue.specs.Arguments.{withArgument}
-use Rattle.queue.specs.Serve.{Source, unsettled, fromStore, fromMemory, Loaded, mayServe}
+use Rattle.queue.specs.Serve.{Source, unsettled, fromStore, fromMemory, decided, Loaded, mayServe}
 use Rattle.queue.specs.Write.{WordPut, mayWrite}
 use Rattle.queue.specs.Retire.{afterRetiring}
 use Rattle.queue.specs.Parts.{queueOf}
@@ -164,9 +164,9 @@ sourceIn NoData = fromStore none
 sourceIn (Forwarded w) = fromStore (some w)
 sourceIn Memory = fromMemory
 
--- an unwritten store to the address
-abbrev pub unwrittenTo : ℕ → Entry → Bool
-unwrittenTo a s = not (written s) && isSame (touch a (s .address))
+-- it is what a store to the load's address gives, whatever lies farther back
+abbrev pub Decides : Entry → coded.Source → Type 0
+Decides s found = (farther : Source) → sourceIn found ≡ decided same (written s) (dataOf s) farther
 
 -- what the load at a place gets
 abbrev pub mayServeAt : List ℕ → List ℕ → List ℕ → ℕ → Reply Loaded

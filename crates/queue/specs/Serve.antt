@@ -1,13 +1,13 @@
--- "A served load gets the data of the nearest earlier unwritten store to its address, and counts as forwarded; with no such
--- store it gets the memory word." "Serve: 30 lent memory has another length than at opening; 25 serial not in the queue;
--- 26 already served; 27 no address; 28 an earlier store has no address; 29 the nearest earlier unwritten store to this
--- address has no data."
+-- S-7: "Walk back over the queued earlier stores, nearest first. A store without address gives 28; an unwritten one to the load's address
+-- supplies the data, or gives 29; a written one to that address sends the load to memory." A load that a store supplies counts as forwarded,
+-- and one that the walk finds no store for gets the memory word, as in document 01. "Serve: 30 lent memory has another length than at
+-- opening; 25 serial not in the queue; 26 already served; 27 no address"; then 28 and 29 as S-7 says.
 use Prim.Native.Nat.{ℕ}
+use mathlib.Core.Path.{_≡_}
 use mathlib.Core.Bool.{Bool, true, false, not}
-use mathlib.Core.List.{List, [], _∷_}
-use mathlib.Core.Option.{Option}
+use mathlib.Core.List.{List, [], _∷_, _++_, reverse}
+use mathlib.Core.Option.{Option, none, some}
 use lib.ListN.{getD, getElem?}
-use Rattle.number.specs.Basics.{pick, isSome}
 use Rattle.number.specs.Refusal.{noSerial, alreadyDone, noAddress, earlierStoreUnknown, noData}
 use Rattle.number.specs.Reply.{Reply, refuse, accept, need, have, andThen}
 use Rattle.queue.specs.declared.Kind.the-variants.{Load as load}
@@ -22,26 +22,42 @@ pub record Served : Type 0 where
   pub forwarded : Bool
   pub queue : Contents
 
--- Where a load's word comes from: it is not settled where an earlier store has no address; it is the nearest earlier unwritten
--- store to the load's address, with its data or none; or it is memory.
+-- Where a load's word comes from, as the walk finds it: it is not settled, since a store without address may come to have the load's; it is a
+-- store, with its data or none yet; or it is memory. What S-7 calls a source, a store of the whole list or the opening word, is `Origin` of
+-- the crate `origins`: memory may hold the word of a store that has left.
 pub data Source : Type 0 where
   unsettled : Source
   fromStore : Option ℕ → Source
   fromMemory : Source
 
--- What a store leaves of the source that was found among the stores before it: an unwritten one to the address takes that source's
--- place; a written one, and one to another address, leave it. A store without address does not come here: the walk below ends at it.
-abbrev pub nearer : Touch → Bool → Option ℕ → Source → Source
-nearer apart isWritten word found = found
-nearer unknown isWritten word found = unsettled
-nearer same true word found = found
-nearer same false word found = fromStore word
+-- One store on the walk, by what it is to the load's address, whether it is written, and its data; `farther` is what the stores farther
+-- back give. One to another address is passed. "A store without address gives 28", written or not. "An unwritten one to the load's address
+-- supplies the data, or gives 29; a written one to that address sends the load to memory": behind these the walk does not look.
+abbrev pub decided : Touch → Bool → Option ℕ → Source → Source
+decided apart isWritten word farther = farther
+decided unknown isWritten word farther = unsettled
+decided same false word farther = fromStore word
+decided same true word farther = fromMemory
 
--- The source that the stores leave, where `found` was the source before them. They are walked from the oldest, so that the nearest
--- one decides; a store without address ends the walk.
-abbrev pub source : ℕ → Source → List Entry → Source
-source a found [] = found
-source a found (s ∷ ss) = pick (isSome (s .address)) (source a (nearer (touch a (s .address)) (written s) (dataOf s) found) ss) unsettled
+-- "Walk back over the queued earlier stores, nearest first": they are listed so here. Where none is left it is memory.
+abbrev pub walkBack : ℕ → List Entry → Source
+walkBack a [] = fromMemory
+walkBack a (s ∷ farther) = decided (touch a (s .address)) (written s) (dataOf s) (walkBack a farther)
+
+-- the source of a load of the address, with these stores before it, listed from the oldest as a queue holds them
+unfoldable pub source : ℕ → List Entry → Source
+source a stores = walkBack a (reverse stores)
+
+-- What each of S-7's sentences says of the source, without `decided` and `walkBack`: of a load of the address a whose nearest earlier store is
+-- s, and `older` the stores behind that one. The proof is in proofs/SourceLaws.antt. Which source gives 28 and 29 is `loadedFrom` below.
+pub record WalkSays (a : ℕ) (older : List Entry) (s : Entry) : Type 0 where
+  pub unaddressed : s .address ≡ none → source a (older ++ s ∷ []) ≡ unsettled
+  pub supplies : s .address ≡ some a → written s ≡ false → source a (older ++ s ∷ []) ≡ fromStore (dataOf s)
+  pub sends : s .address ≡ some a → written s ≡ true → source a (older ++ s ∷ []) ≡ fromMemory
+  pub passes : (b : ℕ) → s .address ≡ some b → ¬ (b ≡ a) → source a (older ++ s ∷ []) ≡ source a older
+
+abbrev pub SourcesAreWalked : Type 0
+SourcesAreWalked = (a : ℕ) → (source a [] ≡ fromMemory) × ((older : List Entry) (s : Entry) → WalkSays a older s)
 
 -- a load's word, and whether it was forwarded
 pub record Loaded : Type 0 where
@@ -59,7 +75,7 @@ abbrev pub mayServe : List ℕ → List Entry → Entry → Reply Loaded
 mayServe memory stores l =
     need (not (served l)) alreadyDone
     (have (l .address) noAddress λ a.
-    loadedFrom memory a (source a fromMemory stores))
+    loadedFrom memory a (source a stores))
 
 -- the load at a place is served
 abbrev pub servedWith : Contents → ℕ → Loaded → Served

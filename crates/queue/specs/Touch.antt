@@ -1,4 +1,4 @@
--- What an access is to the word at an address. 29, 31 and 32 ask this of the accesses before one; 28 is for one that is unknown.
+-- What an access is to the word at an address: serve (28, 29) and write (31, 32) ask this of the accesses before one.
 use Prim.Native.Nat.{ℕ}
 use mathlib.Core.Bool.{Bool, true, false}
 use mathlib.Core.Option.{Option, none, some}

@@ -1,16 +1,16 @@
-// Serving loads: "a served load gets the data of the nearest earlier unwritten store to its address, and counts as forwarded;
-// with no such store it gets the memory word".
+// Serving loads, as S-7 has it: the earlier stores are walked back, nearest first, to the one that decides where the load's word comes
+// from. A load that a store supplies counts as forwarded.
 ghost use mathlib.Core.Path.{_≡_};
 ghost use Prim.Native.Nat.{_≤_, _<_};
 ghost use lib.ListN.{length};
 ghost use Rattle.table.specs.declared.Table.{Table};
-ghost use Rattle.queue.specs.Entry.{entryOf, dataOf, withWord};
+ghost use Rattle.queue.specs.Entry.{entryOf, withWord};
 ghost use Rattle.queue.specs.Contents.{entriesHeld, contentsOf};
-ghost use Rattle.queue.specs.Serve.{fromStore, fromMemory, source, serveAt, serve};
+ghost use Rattle.queue.specs.Serve.{source, serveAt, serve};
 ghost use Rattle.queue.specs.Outcome.{Serves, withCounts};
 ghost use Rattle.queue.specs.Parts.{frameOf, queueOf, countedOf, onParts};
 ghost use Rattle.queue.specs.Internal.{frameWith, Checked};
-ghost use Rattle.queue.specs.Internal.{sourceIn, unwrittenTo, serveRefused, servedAs, MadeAnew};
+ghost use Rattle.queue.specs.Internal.{sourceIn, Decides, serveRefused, servedAs, MadeAnew};
 use crate::Counted;
 use crate::Entry;
 use crate::Outcome;
@@ -35,20 +35,23 @@ use number::refusal::WRONG_MEMORY;
 
 // Where a load's word comes from.
 pub(crate) enum Source {
-    // an earlier store has no address
+    // the nearest store that is not known to have another address has none yet
     Unknown,
-    // the nearest earlier unwritten store to the load's address has no data
+    // the nearest store to the load's address is unwritten and has no data
     NoData,
-    // it has this data
+    // it is unwritten and has this data
     Forwarded(u32),
-    // there is no such store
+    // it is written, or there is no such store
     Memory,
 }
 
-// The source of a load whose nearest earlier unwritten store to its address is this one.
+// The source of a load whose walk comes to this store to its address, whatever lies farther back.
 fn from_store(store: Entry) -> Source
-    ensures { λ r. ⌜ sourceIn r ≡ fromStore (dataOf (entryOf store)) ⌝ }
+    ensures { λ r. ⌜ Decides (entryOf store) r ⌝ }
 {
+    if store.finished {
+        return Source::Memory;
+    }
     if store.filled {
         Source::Forwarded(store.word)
     } else {
@@ -56,38 +59,24 @@ fn from_store(store: Entry) -> Source
     }
 }
 
-// Is it an unwritten store to the address?
-fn unwritten_to(store: Entry, address: u16) -> bool
-    ensures { λ r. ⌜ r ≡ unwrittenTo address (entryOf store) ⌝ }
-{
-    if store.finished {
-        return false;
-    }
-    if !store.addressed {
-        return false;
-    }
-    store.address == address
-}
-
-// The source of a load of the address that comes behind the first n stores. They are walked from the oldest: a nearer
-// unwritten store to the address takes the place of one before it, or the load would get a stale word.
+// The source of a load of the address that comes after the first n stores. They are walked back, nearest first, and no farther than
+// to the one that decides: an older store may have any address, or none yet.
 pub(crate) fn source_of(entries: &[u64], n: usize, address: u16) -> Source
     requires { ⌜ n ≤ length (now entries) ⌝ }
-    ensures { λ r. ⌜ sourceIn r ≡ source address fromMemory (entriesHeld n (now (entries .entry))) ⌝ }
+    ensures { λ r. ⌜ sourceIn r ≡ source address (entriesHeld n (now (entries .entry))) ⌝ }
 {
-    let mut found = Source::Memory;
-    let mut i: usize = 0;
-    while i < n {
+    let mut i = n;
+    while 0 < i {
+        i -= 1;
         let store = unpack(entries[i]);
         if !store.addressed {
             return Source::Unknown;
         }
-        i += 1;
-        if unwritten_to(store, address) {
-            found = from_store(store);
+        if store.address == address {
+            return from_store(store);
         }
     }
-    found
+    Source::Memory
 }
 
 // What a serve on a queue's parts hands back: its answer and value, and the counts that follow.

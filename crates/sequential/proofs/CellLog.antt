@@ -69,7 +69,7 @@ module _ (m memory : List ℕ) (pre : List LogEntry) (e e′ : LogEntry) (post :
   -- A load of the address a is served the word that its source gives.
   pub cells-served : (a v : ℕ) → ((b j : ℕ) → view b j e ≡ load (touch b (some a)) waiting none)
       → ((b j : ℕ) → view b j e′ ≡ load (touch b (some a)) ended (some (laneOf v j)))
-      → wordFrom (getD m a 0) (wordSource a fromMemory (ownIn stores pre)) ≡ some v
+      → wordFrom (getD m a 0) (wordSource a (ownIn stores pre)) ≡ some v
       → CellsHold m memory (pre ++ e ∷ post) → CellsHold m memory (pre ++ e′ ∷ post)
   cells-served a v was is word h =
       cells-change m (λ b j low lane k. rw (is b j) (go b j (eqb a b) refl (rw (was b j) at k))) h
@@ -92,7 +92,7 @@ module _ (m memory : List ℕ) (pre : List LogEntry) (e e′ : LogEntry) (post :
       go b j true here k =
           let at-a = eqb-true a b here in
           rw (← at-a)
-          (from j (wordSource a fromMemory (ownIn stores pre)) (source-view a j pre) word (cellAt memory a j) (map (view a j) post) (rw (← at-a) at k))
+          (from j (wordSource a (ownIn stores pre)) (source-view a j pre) word (cellAt memory a j) (map (view a j) post) (rw (← at-a) at k))
       go b j false here k = moves-keep (cellAt m b j) (cellAt memory b j) (map (view b j) pre) (map (view b j) post) load-aside k
 
   -- A store of w to the address a is written, where nothing before it conflicts.

@@ -1,16 +1,17 @@
 -- One cell: virtual memory, and what becomes of Agree. Each law is one walk over the entries before the one that changes.
 use mathlib.Core.Path.{_≡_, refl, sym, _∙_}
-use mathlib.Core.Bool.{Bool, true, false, _||_}
+use mathlib.Core.Bool.{Bool, true, false, _&&_, _||_}
 use mathlib.Core.List.{List, [], _∷_, _++_}
 use mathlib.Core.Option.{Option, none, some}
 use Rattle.number.specs.Basics.{pick}
 use Rattle.number.proofs.Both.{and-left}
 use Rattle.table.specs.RightTables.{Each}
 use Rattle.queue.proofs.Lists.{false-true}
-use Rattle.sequential.proofs.Cells.{Stage, waiting, begun, ended, isEnded, Seen, load, store, Source, unsettled, supplied, inMemory, settled}
-use Rattle.sequential.proofs.Cells.{after, source, storePassed}
-use Rattle.queue.specs.Touch.{Touch, apart, unknown, same, isApart}
-use Rattle.sequential.proofs.CellInvariant.{may, orElse, fits, does, Agree, RightLoad, Right, passed}
+use Rattle.sequential.proofs.EachLaws.{Pairs, each-both}
+use Rattle.sequential.proofs.Cells.{Stage, waiting, begun, ended, isBegun, isEnded, Seen, load, store, CellSource, supplied, inMemory, after}
+use Rattle.sequential.proofs.Cells.{source, storePassed}
+use Rattle.queue.specs.Touch.{Touch, apart, unknown, same, isApart, isSame}
+use Rattle.sequential.proofs.CellInvariant.{may, orElse, fits, does, Agree, RightLoad, Right, writes, passed, Before}
 
 module _ {B : Type 0} where
   -- ---- virtual memory
@@ -41,19 +42,9 @@ module _ {B : Type 0} where
 
   -- ---- the source
 
-  -- a store to the cell supplies only where nothing before it was unsettled
-  supplied-own : (k : Source B) (o : Option B) (v : B) → pick (settled k) (supplied o) k ≡ supplied (some v) → o ≡ some v
-  supplied-own unsettled o v e = cc
-  supplied-own (supplied x) o v e = cc
-  supplied-own inMemory o v e = cc
-
-  not-in-memory : {A : Type 0} (k : Source B) (o : Option B) → pick (settled k) (supplied o) k ≡ inMemory → A
-  not-in-memory unsettled o e = let z : false ≡ true = cc in false-true z
-  not-in-memory (supplied x) o e = let z : false ≡ true = cc in false-true z
-  not-in-memory inMemory o e = let z : false ≡ true = cc in false-true z
-
-  -- Virtual memory holds what the nearest unwritten store supplies.
-  pub supplied-holds : (v : B) (k : Source B) (m : B) (pre : List (Seen B)) → (k ≡ supplied (some v) → m ≡ v)
+  -- Virtual memory holds what the nearest store that is not apart supplies. Nothing is asked of the stores behind it: they may have any
+  -- address, or none yet.
+  pub supplied-holds : (v : B) (k : CellSource B) (m : B) (pre : List (Seen B)) → (k ≡ supplied (some v) → m ≡ v)
       → source k pre ≡ supplied (some v) → Holding v m pre
   supplied-holds v k m [] h e = h e
   supplied-holds v k m (load t g o ∷ pre) h e = supplied-holds v k m pre h e
@@ -66,22 +57,32 @@ module _ {B : Type 0} where
       next : (b : Bool) (w : B) (t : Touch) (g : Stage) → may t b → fits o w → after t g o k ≡ supplied (some v) → does g b w m ≡ v
       next b w apart g p q f = does-passed apart g refl b p w m ∙ h f
       next b w unknown g p q f = cc
-      next b w same waiting p q f = rw p (word o w q (supplied-own k o v f))
-      next b w same begun p q f = rw p (word o w q (supplied-own k o v f))
-      next b w same ended p q f = h f
+      next b w same waiting p q f = let is : o ≡ some v = cc in rw p (word o w q is)
+      next b w same begun p q f = let is : o ≡ some v = cc in rw p (word o w q is)
+      next b w same ended p q f = cc
 
-  -- A load that is sent to memory has only written and apart stores before it.
-  pub memory-clear : (k : Source B) (pre : List (Seen B)) → source k pre ≡ inMemory → (k ≡ inMemory) × Each (λ a. storePassed a ≡ true) pre
-  memory-clear k [] e = (e, record {})
-  memory-clear k (load t g o ∷ pre) e = let (is, rest) = memory-clear k pre e in (is, (refl, rest))
-  memory-clear k (store t g o ∷ pre) e = let (is, rest) = memory-clear (after t g o k) pre e in let (was, past) = last t g is in (was, (past, rest))
+  -- A load that is sent to memory has only written and apart stores before it. Where a written store sent it there, this is the order in
+  -- which stores are written (`Before .ordered`). P says that all stores before `pre` are passed.
+  pub memory-clear : (P : Type 0) (k : CellSource B) (pre : List (Seen B)) → (k ≡ inMemory → P) → Each (λ x. writes x ≡ true → P) pre
+      → Pairs Before pre → source k pre ≡ inMemory → P × Each (λ a. storePassed a ≡ true) pre
+  memory-clear P k [] h f r e = (h e, record {})
+  memory-clear P k (load t g o ∷ pre) h f r e = let (p, rest) = memory-clear P k pre h (f .1) (r .1) e in (p, (refl, rest))
+  memory-clear P k (store t g o ∷ pre) h f r e =
+      let (both, rest) = memory-clear (P × (isApart t || isEnded g ≡ true)) (after t g o k) pre (next t g (f .0)) later (r .1) e in
+      (both .0, (both .1, rest))
     where
-      last : (t : Touch) (g : Stage) → after t g o k ≡ inMemory → (k ≡ inMemory) × (isApart t || isEnded g ≡ true)
-      last apart g f = (f, refl)
-      last unknown g f = let z : false ≡ true = cc in false-true z
-      last same waiting f = not-in-memory k o f
-      last same begun f = not-in-memory k o f
-      last same ended f = (f, refl)
+      later : Each (λ x. writes x ≡ true → P × (isApart t || isEnded g ≡ true)) pre
+      later =
+          each-both (λ x. writes x ≡ true → P) (Before (store t g o)) (λ x. writes x ≡ true → P × (isApart t || isEnded g ≡ true))
+          (λ x p b w. (p w, b .ordered w)) pre (f .1) (r .0)
+
+      next : (t : Touch) (g : Stage) → (isSame t && (isBegun g || isEnded g) ≡ true → P) → after t g o k ≡ inMemory
+          → P × (isApart t || isEnded g ≡ true)
+      next apart g p f = (h f, refl)
+      next unknown g p f = let z : false ≡ true = cc in false-true z
+      next same waiting p f = let z : false ≡ true = cc in false-true z
+      next same begun p f = let z : false ≡ true = cc in false-true z
+      next same ended p f = (p refl, refl)
 
   -- ---- Agree
 

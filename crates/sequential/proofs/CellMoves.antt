@@ -6,8 +6,8 @@ use mathlib.Core.Option.{Option, none, some}
 use Rattle.number.specs.Basics.{pick}
 use Rattle.table.specs.RightTables.{Each}
 use Rattle.queue.proofs.Lists.{false-true}
-use Rattle.sequential.proofs.EachLaws.{everywhere, each-weaken, each-before, each-at, each-change, each-more, pairs-before, pairs-change}
-use Rattle.sequential.proofs.EachLaws.{pairs-more}
+use Rattle.sequential.proofs.EachLaws.{everywhere, each-weaken, each-before, each-at, each-change, each-more, pairs-prefix, pairs-before}
+use Rattle.sequential.proofs.EachLaws.{pairs-change, pairs-more}
 use Rattle.sequential.proofs.Cells.{Stage, waiting, begun, ended, isWaiting, isBegun, Seen, load, store, supplied, inMemory, source}
 use Rattle.sequential.proofs.Cells.{storePassed}
 use Rattle.queue.specs.Touch.{Touch, apart, unknown, same, isSame}
@@ -159,7 +159,9 @@ module _ {B : Type 0} where
         (λ a p b. record { ordered = λ z. false-true z; clear = λ z. p }) pre clear)
       where
         clear : Each (λ a. storePassed a ≡ true) pre
-        clear = memory-clear inMemory pre s .1
+        clear =
+            memory-clear (Unit {0}) inMemory pre (λ e. record {}) (everywhere (λ x. writes x ≡ true → Unit {0}) (λ x w. record {}) pre)
+            (pairs-prefix Before pre post (load same waiting o) (h .before)) s .1
 
     kept-load-ended : (o : Option B)
         → CellInvariant m n (pre ++ load same begun o ∷ post) → CellInvariant m n (pre ++ load same ended (some (orElse o m)) ∷ post)

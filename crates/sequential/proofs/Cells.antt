@@ -3,7 +3,6 @@
 use mathlib.Core.Bool.{Bool, true, false, _||_}
 use mathlib.Core.List.{List, [], _∷_}
 use mathlib.Core.Option.{Option}
-use Rattle.number.specs.Basics.{pick}
 use Rattle.queue.specs.Touch.{Touch, apart, unknown, same, isApart}
 
 -- An access waits, is begun, and has ended: a load is then served, a store written. Today none stays begun.
@@ -33,27 +32,23 @@ pub data Seen (B : Type 0) : Type 0 where
   store : Touch → Stage → Option B → Seen B
 
 -- where a load would find its value
-pub data Source (B : Type 0) : Type 0 where
-  unsettled : Source B
-  supplied : Option B → Source B
-  inMemory : Source B
+pub data CellSource (B : Type 0) : Type 0 where
+  unsettled : CellSource B
+  supplied : Option B → CellSource B
+  inMemory : CellSource B
 
 module _ {B : Type 0} where
-  abbrev pub settled : Source B → Bool
-  settled unsettled = false
-  settled (supplied o) = true
-  settled inMemory = true
-
-  -- The source past one more store, where it was k before. The stores are walked from the oldest. One without address leaves the source
-  -- unsettled for good (28); an unwritten one to the cell takes the place of what was found; a written one is passed over.
-  abbrev pub after : Touch → Stage → Option B → Source B → Source B
+  -- The source past one more store, where it was k before. The stores are walked from the oldest, so the nearest one that is not apart
+  -- decides: one without address leaves the source unsettled (28); one to the cell supplies its value or, where it is written, sends the
+  -- load to memory. Until it has ended a store is not written.
+  abbrev pub after : Touch → Stage → Option B → CellSource B → CellSource B
   after apart stage byte k = k
   after unknown stage byte k = unsettled
-  after same waiting byte k = pick (settled k) (supplied byte) k
-  after same begun byte k = pick (settled k) (supplied byte) k
-  after same ended byte k = k
+  after same waiting byte k = supplied byte
+  after same begun byte k = supplied byte
+  after same ended byte k = inMemory
 
-  abbrev pub source : Source B → List (Seen B) → Source B
+  abbrev pub source : CellSource B → List (Seen B) → CellSource B
   source k [] = k
   source k (load t g o ∷ es) = source k es
   source k (store t g o ∷ es) = source (after t g o k) es

@@ -16,6 +16,10 @@ module _ {A : Type 0} where
   each-weaken P Q w [] h = record {}
   each-weaken P Q w (x ∷ xs) h = (w x (h .0), each-weaken P Q w xs (h .1))
 
+  pub each-both : (P Q R : A → Type 0) → ((x : A) → P x → Q x → R x) → (xs : List A) → Each P xs → Each Q xs → Each R xs
+  each-both P Q R w [] h k = record {}
+  each-both P Q R w (x ∷ xs) h k = (w x (h .0) (k .0), each-both P Q R w xs (h .1) (k .1))
+
   -- one element among others
   pub each-before : (P : A → Type 0) (xs ys : List A) (x : A) → Each P (xs ++ x ∷ ys) → Each P xs
   each-before P [] ys x h = record {}
@@ -37,6 +41,10 @@ module _ {A : Type 0} where
     pub pairs-more : (xs : List A) (x : A) → ((a : A) → R a x) → Pairs R xs → Pairs R (xs ++ x ∷ [])
     pairs-more [] x f h = (record {}, h)
     pairs-more (y ∷ xs) x f h = (each-more (R y) xs x (f y) (h .0), pairs-more xs x f (h .1))
+
+    pub pairs-prefix : (xs ys : List A) (x : A) → Pairs R (xs ++ x ∷ ys) → Pairs R xs
+    pairs-prefix [] ys x h = record {}
+    pairs-prefix (y ∷ xs) ys x h = (each-before (R y) xs ys x (h .0), pairs-prefix xs ys x (h .1))
 
     -- what each earlier element is to one
     pub pairs-before : (xs ys : List A) (x : A) → Pairs R (xs ++ x ∷ ys) → Each (λ a. R a x) xs

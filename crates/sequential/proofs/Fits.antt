@@ -12,11 +12,12 @@ use Rattle.table.specs.Group.{GroupPairs, blankPair}
 use Rattle.table.specs.Table.{checkTable}
 use Rattle.table.proofs.OrderOffsets.{GroupRight, table-group-right}
 use Rattle.number.specs.Reply.{accept, passed}
-use Rattle.queue.specs.Entry.{Entry, withWord, markFinished}
+use Rattle.queue.specs.Entry.{Entry, dataOf, written, withWord, markFinished}
 use Rattle.queue.specs.Contents.{Contents, withEntries, updateAt, placeOf, sideOf, othersBefore}
 use Rattle.queue.specs.Activate.{withGroup}
 use Rattle.queue.specs.Arguments.{kindOf, withArgument}
-use Rattle.queue.specs.Serve.{fromMemory, source, Loaded, loadedFrom}
+use Rattle.queue.specs.Touch.{Touch, apart, unknown, same, touch}
+use Rattle.queue.specs.Serve.{Source, unsettled, fromStore, fromMemory, decided, source, Loaded, loadedFrom}
 use Rattle.queue.specs.Take.{takePlace}
 use Rattle.queue.specs.Retire.{finished, afterRetiring, retiring, retire}
 use Rattle.queue.specs.Internal.{entryAfter}
@@ -26,7 +27,7 @@ use Rattle.table.specs.declared.Pair.{Pair}
 use Rattle.number.proofs.Both.{and-left, and-right}
 use Rattle.queue.proofs.Lists.{false-true, and-both, all-join, all-take, all-map, all-weaken, all-middle, getElem?-split}
 use Rattle.queue.proofs.ActivateLaws.{with-group-is}
-use Rattle.queue.proofs.SourceLaws.{wordFrom, loaded-word, source-passes}
+use Rattle.queue.proofs.SourceLaws.{pastStore, sourceFrom, source-from, wordFrom, loaded-word}
 use Rattle.sequential.specs.Calls.{Call}
 use Rattle.sequential.specs.Answers.{Machine, Response, step, machine}
 use Rattle.queue.specs.declared.arguments.Argument.{Argument}
@@ -90,11 +91,29 @@ word-of : (e : Entry) → entryFits e ≡ true → wordFits (e .word) ≡ true
 word-of e h = and-right (bitsFit 5 (e .port)) (wordFits (e .word)) h
 
 -- ---- what a served load is given
+-- a test that no source fails: it is unsettled, memory, or one of the stores
+module _ (p : Source → Bool) (a : ℕ) (h : p unsettled ≡ true) (k : p fromMemory ≡ true) where
+  passes-from : (found : Source) (ss : List Entry) → p found ≡ true → allOf (λ s. p (fromStore (dataOf s))) ss ≡ true
+      → p (sourceFrom a found ss) ≡ true
+  passes-from found [] f t = f
+  passes-from found (s ∷ ss) f t =
+      passes-from (pastStore a s found) ss (at (touch a (s .address)) (written s))
+      (and-right (p (fromStore (dataOf s))) (allOf (λ s. p (fromStore (dataOf s))) ss) t)
+    where
+      at : (x : Touch) (w : Bool) → p (decided x w (dataOf s) found) ≡ true
+      at apart w = f
+      at unknown w = h
+      at same true = k
+      at same false = and-left (p (fromStore (dataOf s))) (allOf (λ s. p (fromStore (dataOf s))) ss) t
+
+  source-passes : (ss : List Entry) → allOf (λ s. p (fromStore (s .word))) ss ≡ true → p (source a ss) ≡ true
+  source-passes ss t = rw (source-from a ss) (passes-from fromMemory ss k t)
+
 source-fits : (memory : List ℕ) (a : ℕ) (ss : List Entry) (v : Loaded) → allOf (bitsFit 32) memory ≡ true → allOf entryFits ss ≡ true
-    → loadedFrom memory a (source a fromMemory ss) ≡ accept v → bitsFit 32 (v .value) ≡ true
+    → loadedFrom memory a (source a ss) ≡ accept v → bitsFit 32 (v .value) ≡ true
 source-fits memory a ss v h k e =
-    rw (loaded-word memory a (source a fromMemory ss) v e) at
-    (source-passes (λ x. wordFits (wordFrom (getD memory a 0) x)) a refl ss (all-getD (bitsFit 32) memory a 0 h refl)
+    rw (loaded-word memory a (source a ss) v e) at
+    (source-passes (λ x. wordFits (wordFrom (getD memory a 0) x)) a refl (all-getD (bitsFit 32) memory a 0 h refl) ss
     (all-weaken entryFits (λ s. wordFits (s .word)) word-of ss k))
 
 -- ---- a queue with an entry made anew, with a group, with what is finished retired; a memory with a word written

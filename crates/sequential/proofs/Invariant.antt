@@ -109,7 +109,7 @@ pub record Invariant (groups : List GroupPairs) (memory : List ℕ) (answered : 
 
 -- ---- one more answer
 
-gather-append : {A : Type 0} (f : Call → Option A) (xs ys : List Told) → gather f (xs ++ ys) ≡ gather f xs ++ gather f ys
+pub gather-append : {A : Type 0} (f : Call → Option A) (xs ys : List Told) → gather f (xs ++ ys) ≡ gather f xs ++ gather f ys
 gather-append f [] ys = refl
 gather-append {A} f (t ∷ xs) ys = go (t .accepted) (f (t .call)) (gather-append f xs ys)
   where
@@ -119,7 +119,7 @@ gather-append {A} f (t ∷ xs) ys = go (t .accepted) (f (t .call)) (gather-appen
     go true (some a) h = ap (λ (l : List A). a ∷ l) h
     go false o h = h
 
-inOrder-append : (groups : List GroupPairs) (xs ys : List ℕ) → inOrder groups (xs ++ ys) ≡ inOrder groups xs ++ inOrder groups ys
+pub inOrder-append : (groups : List GroupPairs) (xs ys : List ℕ) → inOrder groups (xs ++ ys) ≡ inOrder groups xs ++ inOrder groups ys
 inOrder-append groups [] ys = refl
 inOrder-append groups (g ∷ xs) ys =
     rw (inOrder-append groups xs ys) (sym (append-assoc (accessesOf (getElem? groups g)) (inOrder groups xs) (inOrder groups ys)))

@@ -33,5 +33,5 @@ pub mod RunsExist
 pub mod RunsOnParts
 -- empty groups
 pub mod EmptyGroups
+
 -- where the plain run's words come from
-pub mod Sources

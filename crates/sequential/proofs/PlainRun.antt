@@ -46,10 +46,10 @@ abbrev pub Cellwise : (ℕ → ℕ → ℕ) → List ℕ → List LogEntry → T
 Cellwise v n es = (b j : ℕ) → b < length n → j < lanes → Agree (v b j) (cellAt n b j) (map (view b j) es)
 
 -- what a store of w to the address a leaves in virtual memory
-abbrev virtually : Bool → ℕ → ℕ → (ℕ → ℕ → ℕ) → ℕ → ℕ → ℕ
+abbrev pub virtually : Bool → ℕ → ℕ → (ℕ → ℕ → ℕ) → ℕ → ℕ → ℕ
 virtually written a w v b j = does (stageOf written) (eqb a b) (laneOf w j) (v b j)
 
-cellwise-store : (s : Entry) (a w : ℕ) → fits (s .address) a → fits (s .word) w → (v : ℕ → ℕ → ℕ) (n : List ℕ) (es : List LogEntry)
+pub cellwise-store : (s : Entry) (a w : ℕ) → fits (s .address) a → fits (s .word) w → (v : ℕ → ℕ → ℕ) (n : List ℕ) (es : List LogEntry)
     → Cellwise v n (ofStore s ∷ es) → Cellwise (virtually (s .finished) a w v) (set n a w) es
 cellwise-store s a w p q v n es h b j low lane =
     rw (at-put n a w b j inside) (h b j inside lane (eqb a b) (may-fits b (s .address) a p) (laneOf w j) (fits-lane j (s .word) w q))
@@ -58,7 +58,7 @@ cellwise-store s a w p q v n es h b j low lane =
     inside = rw (length-set n a w) at low
 
 -- A served load has the plain run's word at its address.
-cellwise-load : (l : Entry) (a x : ℕ) (v : ℕ → ℕ → ℕ) (n : List ℕ) (es : List LogEntry) → rightLoad (length n) l ≡ true
+pub cellwise-load : (l : Entry) (a x : ℕ) (v : ℕ → ℕ → ℕ) (n : List ℕ) (es : List LogEntry) → rightLoad (length n) l ≡ true
     → fits (l .address) a → l .word ≡ some x → Cellwise v n (ofLoad l ∷ es) → x ≡ getD n a 0
 cellwise-load l a x v n es right p has h =
     go (l .address) refl (implied (isSome (l .word)) (isSome (l .address)) (served-addressed (length n) l right) (rw has))
@@ -140,7 +140,7 @@ cellwise-written fill (ofStore s ∷ es) k v n rows h g t b j low lane =
     word : ℕ
     word = nextOf (rows StoreData (s .port)) (fill .word k)
 
-memory-long : (fill : Filling) (k : ℕ) (s : PlainState ℕ) (accesses : List Access)
+pub memory-long : (fill : Filling) (k : ℕ) (s : PlainState ℕ) (accesses : List Access)
     → length (memoryFrom wordReading fill k s accesses) ≡ length (s .memory)
 memory-long fill k s [] = refl
 memory-long fill k s (load p ∷ rest) = memory-long fill (suc k) (afterLoad s (p .port)) rest

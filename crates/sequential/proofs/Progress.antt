@@ -42,7 +42,7 @@ use Rattle.sequential.proofs.ReachedSound.{holds-sound}
 
 serve-accepted : (q : Contents) (m : List ℕ) (serial : ℕ) (l : Entry) (a : ℕ) → sound q ≡ true → length m ≡ q .memoryLength
     → getElem? (q .loads .entries) (placeOf (q .loads) serial) ≡ some l
-    → l .word ≡ none → l .address ≡ some a → source a fromMemory (take (l .before) (q .stores .entries)) ≡ fromMemory
+    → l .word ≡ none → l .address ≡ some a → source a (take (l .before) (q .stores .entries)) ≡ fromMemory
     → number (serve q m serial) ≡ 0
 unfolding serve
 serve-accepted q m serial l a right long at unserved address sourced =

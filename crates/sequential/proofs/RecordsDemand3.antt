@@ -145,7 +145,7 @@ open-proper groups loadDepth storeDepth first words =
     (need-among notZero (memoryRight words) _ _ refl (need-among notZero (allOf (groupFits loadDepth storeDepth) groups) _ _ refl refl)))
 
 -- such an opening is one in the sense of demand 3
-pub opening : {table : Table} {memory : List ℕ} {o : Opened} → OpenedRecord table memory o
+unfoldable pub opening : {table : Table} {memory : List ℕ} {o : Opened} → OpenedRecord table memory o
     → Opening (groupsOf table) memory (machineOf (o .queue) memory)
 opening {table} {memory} {o} w = record {
   loadDepth = w .loadDepth;
@@ -166,13 +166,13 @@ records-demand3 table memory o w calls log q left run fill below =
     rw (← a .says, ← a .ends) (demand3 (groupsOf table) memory (machineOf (o .queue) memory) (opening w) calls fill below)
 
 -- an opened frame, with any two runs, is an opened record
-opened-parts : (fresh : Frame) (rule : Reply Contents) (o : OpenedFrame) (l s : List ℕ) → OpensFrame fresh rule o
+pub opened-parts : (fresh : Frame) (rule : Reply Contents) (o : OpenedFrame) (l s : List ℕ) → OpensFrame fresh rule o
     → Opens (queueOf (o .frame) l s) rule (record { answer = o .answer; queue = queueOf (o .frame) l s })
 opened-parts fresh (refuse n) o l s e = ap (λ (x : OpenedFrame). record { answer = x .answer; queue = queueOf (o .frame) l s }) e
 opened-parts fresh (accept q) o l s e =
     (ap (λ (x : OpenedFrame). x .answer) (e .0), ap (λ (x : OpenedFrame). contentsOf (queueOf (x .frame) l s)) (e .0) ∙ e .1 l s)
 
-pub opened-frame : (table : Table) (loadDepth storeDepth first : ℕ) (memory : List ℕ) (o : OpenedFrame) → first < 2 ^ 32
+unfoldable pub opened-frame : (table : Table) (loadDepth storeDepth first : ℕ) (memory : List ℕ) (o : OpenedFrame) → first < 2 ^ 32
     → OpensFrame (freshFrame table loadDepth storeDepth first (length memory)) (openQueue (groupsOf table) loadDepth storeDepth first (length memory)) o
     → o .answer ≡ 0 → (l s : List ℕ) → OpenedRecord table memory (record { answer = o .answer; queue = queueOf (o .frame) l s })
 opened-frame table loadDepth storeDepth first memory o serial opens accepted l s = record {

@@ -1,6 +1,6 @@
 -- What a cell sees of an entry of the log, and that the queue's tests of entries are the cell's.
 use Prim.Native.Nat.{ℕ}
-use mathlib.Core.Path.{_≡_, refl}
+use mathlib.Core.Path.{_≡_, refl, sym, ap, _∙_}
 use mathlib.Core.Bool.{Bool, true, false, _||_}
 use mathlib.Core.List.{List, [], _∷_, map}
 use mathlib.Core.Option.{Option, none, some}
@@ -10,12 +10,13 @@ use Rattle.number.proofs.Both.{and-left, and-right}
 use Rattle.table.specs.RightTables.{Each}
 use Rattle.queue.specs.Entry.{Entry, served, written}
 use Rattle.queue.specs.Touch.{Touch, unknown, same, apart, touch, isApart}
-use Rattle.queue.specs.Serve.{fromStore, fromMemory, Source as Word, unsettled as unsettledWord, source as wordSource, nearer}
+use Rattle.queue.specs.Serve.{Source as Word, unsettled as unsettledWord, fromStore, fromMemory, decided, source as wordSource}
 use Rattle.queue.specs.Write.{noConflict}
 use Rattle.queue.proofs.Lists.{and-both}
+use Rattle.queue.proofs.SourceLaws.{pastStore, sourceFrom, source-from}
 use Rattle.sequential.proofs.Log.{LogEntry, ofLoad, ofStore, loads, stores, ownIn}
 use Rattle.sequential.proofs.Lanes.{laneOf}
-use Rattle.sequential.proofs.Cells.{Stage, waiting, begun, ended, isEnded, Seen, load, store, Source, unsettled, supplied, inMemory, settled}
+use Rattle.sequential.proofs.Cells.{Stage, waiting, ended, isEnded, Seen, load, store, CellSource, unsettled, supplied, inMemory}
 use Rattle.sequential.proofs.Cells.{after, source}
 use Rattle.sequential.proofs.CellInvariant.{passed}
 
@@ -46,47 +47,32 @@ store-view b j s has filled done = rw (has, filled, done)
 -- ---- a load's source
 
 -- where a load's word comes from, seen from a cell of its address
-abbrev pub sourceIn : ℕ → Word → Source ℕ
+abbrev pub sourceIn : ℕ → Word → CellSource ℕ
 sourceIn j unsettledWord = unsettled
 sourceIn j (fromStore word) = supplied (laneIn j word)
 sourceIn j fromMemory = inMemory
 
-unsettled-stays : {B : Type 0} (es : List (Seen B)) → source unsettled es ≡ unsettled
-unsettled-stays [] = refl
-unsettled-stays (load t g o ∷ es) = unsettled-stays es
-unsettled-stays (store t g o ∷ es) = rw (past t g) (unsettled-stays es)
+-- one store is to the cell what it is to the load
+past-view : (a j : ℕ) (s : Entry) (found : Word)
+    → after (touch a (s .address)) (stageOf (s .finished)) (laneIn j (s .word)) (sourceIn j found) ≡ sourceIn j (pastStore a s found)
+past-view a j s found = go (touch a (s .address)) (s .finished)
   where
-    past : (t : Touch) (g : Stage) → after t g o unsettled ≡ unsettled
-    past apart g = refl
-    past unknown g = refl
-    past same waiting = refl
-    past same begun = refl
-    past same ended = refl
+    go : (t : Touch) (written : Bool) → after t (stageOf written) (laneIn j (s .word)) (sourceIn j found)
+        ≡ sourceIn j (decided t written (s .word) found)
+    go apart written = refl
+    go unknown written = refl
+    go same true = refl
+    go same false = refl
 
-source-from : (a j : ℕ) (found : Word) → settled (sourceIn j found) ≡ true → (pre : List LogEntry)
-    → source (sourceIn j found) (map (view a j) pre) ≡ sourceIn j (wordSource a found (ownIn stores pre))
-source-from a j found h [] = refl
-source-from a j found h (ofLoad l ∷ pre) = source-from a j found h pre
-source-from a j found h (ofStore s ∷ pre) = go (s .address) (s .finished) (s .word) (λ x k. source-from a j x k pre)
-  where
-    go : (address : Option ℕ) (written : Bool) (word : Option ℕ)
-        → ((x : Word) → settled (sourceIn j x) ≡ true → source (sourceIn j x) (map (view a j) pre) ≡ sourceIn j (wordSource a x (ownIn stores pre)))
-        → source (after (touch a address) (stageOf written) (laneIn j word) (sourceIn j found)) (map (view a j) pre)
-        ≡ sourceIn j (pick (isSome address) (wordSource a (nearer (touch a address) written word found) (ownIn stores pre)) unsettledWord)
-    go none written word on = unsettled-stays (map (view a j) pre)
-    go (some b) written word on = met (eqb b a) written
-      where
-        met : (t written : Bool) → source (after (pick t same apart) (stageOf written) (laneIn j word) (sourceIn j found)) (map (view a j) pre)
-            ≡ sourceIn j (wordSource a (nearer (pick t same apart) written word found) (ownIn stores pre))
-        met true true = on found h
-        met true false = rw h (on (fromStore word) refl)
-        met false true = on found h
-        met false false = on found h
+view-from : (a j : ℕ) (found : Word) (pre : List LogEntry)
+    → source (sourceIn j found) (map (view a j) pre) ≡ sourceIn j (sourceFrom a found (ownIn stores pre))
+view-from a j found [] = refl
+view-from a j found (ofLoad l ∷ pre) = view-from a j found pre
+view-from a j found (ofStore s ∷ pre) = rw (past-view a j s found) (view-from a j (pastStore a s found) pre)
 
 -- The cell's source is the queue's.
-pub source-view : (a j : ℕ) (pre : List LogEntry)
-    → source inMemory (map (view a j) pre) ≡ sourceIn j (wordSource a fromMemory (ownIn stores pre))
-source-view a j pre = source-from a j fromMemory refl pre
+pub source-view : (a j : ℕ) (pre : List LogEntry) → source inMemory (map (view a j) pre) ≡ sourceIn j (wordSource a (ownIn stores pre))
+source-view a j pre = view-from a j fromMemory pre ∙ ap (sourceIn j) (sym (source-from a (ownIn stores pre)))
 
 -- ---- 31 and 32
 

@@ -68,6 +68,8 @@ pub record Located (K K′ : Kind) (log : List LogEntry) (held held′ : List En
   -- the queue shows it with this remembered number
   pub number : ℕ
   pub at : getElem? held i ≡ some (withBefore number it)
+  -- as many of its kind come before it in the log as have left and stand before it in the queue
+  pub nth : length (ownIn K pre) + length held ≡ length (ownIn K log) + i
   -- the entries before it, of its own side and of the other
   pub before : Before K (take i held) pre
   pub before′ : Before K′ (take number held′) pre
@@ -155,6 +157,13 @@ module _ (K K′ : Kind) (opposite : Opposite K K′) where
         (getElem?-seam (map (shown gone′) near) (shown gone′ (place (others K pre) it))
         (map (shown gone′) (side K (others K pre) post)))
 
+    located-nth : length (ownIn K pre) + length held ≡ length (ownIn K log) + length near
+    located-nth =
+        let first-part = sym (side-length K 0 pre) ∙ ap length pre-is ∙ length-append (w .old) near in
+        let whole = sym (side-length K 0 log) ∙ ap length (w .parts) ∙ length-append (w .old) (w .live) in
+        let queued = ap length (w .shows) ∙ length-map (w .live) (shown gone′) in
+        omega arith
+
     located-before : Before K (take (length near) held) pre
     located-before = record {
       out = gone′;
@@ -222,6 +231,7 @@ module _ (K K′ : Kind) (opposite : Opposite K K′) where
       log-is = log-is;
       number = others K pre - gone′;
       at = located-at;
+      nth = located-nth;
       before = located-before;
       before′ = located-before′;
       anew = located-anew;

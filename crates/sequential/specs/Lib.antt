@@ -7,4 +7,3 @@ pub mod Records
 pub mod RunsExist
 pub mod RunsOnParts
 pub mod EmptyGroups
-pub mod Sources

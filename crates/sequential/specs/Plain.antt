@@ -97,7 +97,7 @@ pub record Reading (A : Type 0) : Type 0 where
   pub beyond : A
   pub put : ℕ → ℕ → A
 
--- The plain run reads words; specs/Sources.antt reads where they come from.
+-- The plain run reads words; the crate `origins` reads where they come from.
 abbrev pub wordReading : Reading ℕ
 wordReading = record { beyond = 0; put = λ k w. w }
 

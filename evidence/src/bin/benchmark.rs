@@ -4,6 +4,8 @@
 //! over, for a profiler; WORKLOAD is a, b, c1, c16, depthN or groupsN, and
 //! IMPLEMENTATION is proved, recorded, checked, unchecked, live or inplace.
 //! `benchmark orders` measures orders from pairs alone.
+//! `benchmark waits` counts alone the serves that no longer wait for a store's address
+//! (S-7); nothing is timed.
 //! `benchmark files FOLDER` writes each workload's title, table and trace to a folder of
 //! its name in FOLDER, for a program in another language.
 
@@ -20,7 +22,7 @@ use evidence::orders::{compare, OrderCase};
 use evidence::timing::{
     agree, ordering, reading, rounds, Implementation, Run, Spread, CALLS, RECORDS, REPLAYS,
 };
-use evidence::workloads::{named, Workload, BY_DEPTH, BY_GROUPS, MAIN};
+use evidence::workloads::{named, Waits, Workload, BY_DEPTH, BY_GROUPS, MAIN};
 
 const ROUNDS: usize = 15;
 const SAMPLE: Duration = Duration::from_millis(60);
@@ -40,6 +42,7 @@ fn main() -> ExitCode {
     match args[..] {
         [] => all(),
         ["orders"] => print_orders(),
+        ["waits"] => waits(),
         ["files", folder] => match write_files(Path::new(folder)) {
             Ok(()) => ExitCode::SUCCESS,
             Err(error) => {
@@ -61,7 +64,9 @@ fn main() -> ExitCode {
 }
 
 fn usage() -> ExitCode {
-    eprintln!("usage: benchmark [only WORKLOAD IMPLEMENTATION SECONDS | orders | files FOLDER]");
+    eprintln!(
+        "usage: benchmark [only WORKLOAD IMPLEMENTATION SECONDS | orders | waits | files FOLDER]"
+    );
     ExitCode::from(2)
 }
 
@@ -103,14 +108,25 @@ fn write_files(folder: &Path) -> io::Result<()> {
     Ok(())
 }
 
-fn all() -> ExitCode {
+fn all_of(names: &[&str]) -> Vec<Workload> {
     let one = |name: &&str| named(name).expect("a workload of this name");
-    let all_of = |names: &[&str]| names.iter().map(one).collect();
-    let workloads: Vec<Workload> = all_of(&MAIN);
-    let growth: [Vec<Workload>; 2] = [all_of(&BY_DEPTH), all_of(&BY_GROUPS)];
-    let every = workloads.iter().chain(growth.iter().flatten());
-    if let Some(workload) = every.into_iter().find(|workload| !agree(workload)) {
+    names.iter().map(one).collect()
+}
+
+/// Whether all implementations agree on each of these; where they do not, it says so.
+fn all_agree<'a>(workloads: impl IntoIterator<Item = &'a Workload>) -> bool {
+    let mut workloads = workloads.into_iter();
+    let differing = workloads.find(|workload| !agree(workload));
+    if let Some(workload) = differing {
         println!("{}: the implementations differ", workload.title);
+    }
+    differing.is_none()
+}
+
+fn all() -> ExitCode {
+    let workloads = all_of(&MAIN);
+    let growth = [all_of(&BY_DEPTH), all_of(&BY_GROUPS)];
+    if !all_agree(workloads.iter().chain(growth.iter().flatten())) {
         return ExitCode::FAILURE;
     }
     print_workloads(&workloads);
@@ -125,7 +141,17 @@ fn all() -> ExitCode {
     print_live("Workload", &workloads);
     print_live(DEPTH, &depth);
     print_live(GROUPS, &groups);
+    print_waits(&workloads);
     print_orders()
+}
+
+fn waits() -> ExitCode {
+    let workloads = all_of(&MAIN);
+    if !all_agree(&workloads) {
+        return ExitCode::FAILURE;
+    }
+    print_waits(&workloads);
+    ExitCode::SUCCESS
 }
 
 /// 32 accesses and 64 pairs. In a falling chain the one access that is ready stands
@@ -242,6 +268,49 @@ fn print_growth(title: &str, workloads: &[Workload]) {
         );
     }
     println!();
+}
+
+/// First the serves of the traces. Those are chosen: most are of loads that are ready
+/// by the rule of now. So the same is counted of all loads too.
+fn print_waits(workloads: &[Workload]) {
+    println!("Serves that no longer wait. A serve past 27 is answered 0, 28 or 29; before S-7 it got 28 if any earlier store had no address.");
+    println!();
+    println!("The serves of the traces, most of them of loads that are ready now:");
+    println!();
+    print_waits_by(workloads, |workload| workload.waits);
+    println!("Every queued load tried after each call, ready or not:");
+    println!();
+    print_waits_by(workloads, Workload::waits_of_all_loads);
+}
+
+fn print_waits_by(workloads: &[Workload], counted: impl Fn(&Workload) -> Waits) {
+    println!("| Workload | Serves past 27 | 28 before S-7 | 28 now | No longer 28, of those before | Of these accepted | Of these 29 |");
+    println!("|---|---|---|---|---|---|---|");
+    for workload in workloads {
+        let waits = counted(workload);
+        let Waits {
+            past_27,
+            accepted,
+            no_data,
+            ..
+        } = waits;
+        println!(
+            "| {} | {past_27} | {} | {} | {} | {accepted} | {no_data} |",
+            workload.title,
+            with_share(waits.before, past_27),
+            with_share(waits.now, past_27),
+            with_share(accepted + no_data, waits.before),
+        );
+    }
+    println!();
+}
+
+/// A count, and in brackets its share of another one, if that is not 0.
+fn with_share(count: usize, of: usize) -> String {
+    match of {
+        0 => format!("{count}"),
+        _ => format!("{count} ({:.1}%)", 100.0 * count as f64 / of as f64),
+    }
 }
 
 fn print_reading(workloads: &[Workload]) {

@@ -5,6 +5,7 @@ use std::path::{Path, PathBuf};
 use std::process::Command;
 use std::{env, fs, process};
 
+use lsq_ref::queue::TrustingQueue;
 use lsq_ref::table::{Access, Group};
 use lsq_ref::{Header, Queue, Table};
 
@@ -65,6 +66,18 @@ pub fn header(load_depth: u32, store_depth: u32, first_serial: u32, memory_lengt
 /// An opened queue over a table of one group.
 pub fn open(order: &[Access], header: Header) -> Queue {
     Queue::open(table_of(order), header).expect("an opening that is accepted")
+}
+
+/// The same record without check 40.
+pub fn trusting(queue: &Queue) -> TrustingQueue {
+    TrustingQueue {
+        table: queue.table.clone(),
+        load_depth: queue.load_depth,
+        store_depth: queue.store_depth,
+        memory_length: queue.memory_length,
+        loads: queue.loads.clone(),
+        stores: queue.stores.clone(),
+    }
 }
 
 /// An empty folder, gone again at the end of the test.

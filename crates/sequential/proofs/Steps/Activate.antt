@@ -38,7 +38,7 @@ new-shown Load out n (store p ∷ new) = new-shown Load out (suc n) new ∙ ap (
 new-shown Store out n (load p ∷ new) = new-shown Store out (suc n) new ∙ ap (λ (k : ℕ). map (shown out) (side Store k (map fresh new))) (add-suc out n)
 new-shown Store out n (store p ∷ new) = rw (add-sub-cancel-left out n, new-shown Store out n new)
 
-new-length : (K : Kind) (n : ℕ) (new : List Access) → length (newEntries K n new) ≡ length (pairsWhere (isOf K) new)
+pub new-length : (K : Kind) (n : ℕ) (new : List Access) → length (newEntries K n new) ≡ length (pairsWhere (isOf K) new)
 new-length K n [] = refl
 new-length K n (a ∷ new) = go (isOf K a) (new-length K n new) (new-length K (suc n) new)
   where

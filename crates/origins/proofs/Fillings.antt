@@ -9,6 +9,7 @@ use mathlib.Core.Option.{Option, none, some}
 use lib.Dec.{eqb}
 use lib.ListN.{length, getD, set, length-set}
 use Rattle.number.specs.Basics.{pick}
+use Rattle.queue.specs.declared.arguments.Argument.{Argument}
 use Rattle.queue.specs.declared.arguments.Argument.the-variants.{StoreAddress}
 use Rattle.queue.specs.Entry.{Entry}
 use Rattle.queue.specs.Touch.{same, apart, touch}
@@ -34,6 +35,14 @@ rows-past [] rest rows h = h
 rows-past (ofLoad l ∷ pre) rest rows h = rows-past pre rest (rowsAfter (accessOf (ofLoad l)) rows) (rows-after-load l (pre ++ rest) rows h)
 rows-past (ofStore s ∷ pre) rest rows h = rows-past pre rest (rowsAfter (accessOf (ofStore s)) rows) (rows-after-store s (pre ++ rest) rows h)
 
+-- where an entry lacks an argument the row has run out, so that it is filled in
+pub none-given : (argument : Argument) (port : ℕ) (e : LogEntry) (es : List LogEntry) (rows : Rows) (filled : ℕ) → AllRows (e ∷ es) rows
+    → given argument port e ≡ some none → nextOf (rows argument port) filled ≡ filled
+none-given argument port e es rows filled h is = go (rows argument port) (rw is at (h argument port))
+  where
+    go : (row : List ℕ) → fed (some none) (Row (given argument port) es) row → nextOf row filled ≡ filled
+    go row k = rw (k .0)
+
 -- a store's address is what its entry has, or what is filled in
 store-given : (s : Entry) (es : List LogEntry) (rows : Rows) (filled b : ℕ) → AllRows (ofStore s ∷ es) rows → s .address ≡ some b
     → nextOf (rows StoreAddress (s .port)) filled ≡ b
@@ -41,10 +50,7 @@ store-given s es rows filled b h is = sym (rw is at (store-fits s es rows filled
 
 store-filled : (s : Entry) (es : List LogEntry) (rows : Rows) (filled : ℕ) → AllRows (ofStore s ∷ es) rows → s .address ≡ none
     → nextOf (rows StoreAddress (s .port)) filled ≡ filled
-store-filled s es rows filled h is = go (rows StoreAddress (s .port)) (rw (eqb-self (s .port), is) at (h StoreAddress (s .port)))
-  where
-    go : (row : List ℕ) → fed (some none) (Row (given StoreAddress (s .port)) es) row → nextOf row filled ≡ filled
-    go row k = rw (k .0)
+store-filled s es rows filled h is = none-given StoreAddress (s .port) (ofStore s) es rows filled h (rw (eqb-self (s .port), is))
 
 module _ (a end : ℕ) where
   -- what the run leaves at the address

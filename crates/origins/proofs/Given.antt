@@ -26,7 +26,7 @@ use Rattle.origins.specs.Origins.{Origin, originOf, originsLoaded, loade
 use Rattle.origins.specs.Exactly.{ServesGiveWords}
 use Rattle.origins.proofs.Past.{state, rowsAfter}
 use Rattle.origins.proofs.Words.{wordsLoaded, loads-give-words}
-use Rattle.origins.proofs.Loaded.{loads-there, origin-there}
+use Rattle.origins.proofs.Loaded.{some-same, loads-there, origin-there}
 use Rattle.origins.proofs.Exactly.{is-nth}
 
 -- ---- every cell agrees at an entry of the log too
@@ -89,9 +89,6 @@ module _ {groups : List GroupPairs} {memory : List ℕ} {answered : List Answere
       (loads-there inv l (s .may .addressed) wordReading memory fill) in
       some-same (sym origin ∙ ap (λ (r : List (Option ℕ)). getElem? r n) (loads-give-words groups memory (told answered) fill) ∙ word)
       ∙ ap some (sym given-there)
-    where
-      some-same : {y z : Option ℕ} → _≡_ {A = Option (Option ℕ)} (some y) (some z) → y ≡ z
-      some-same e = cc
 
 pub serves-give-words : ServesGiveWords
 serves-give-words groups memory m o calls n named r accepted fill low =

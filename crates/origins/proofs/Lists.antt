@@ -1,29 +1,27 @@
 -- From an opening a load's address is in the memory, accepted or filled in, so its origin is the last store to that address.
 use Prim.Native.Nat.{ℕ, _<_}
-use mathlib.Core.Path.{_≡_, refl, sym, ap, ap₂, _∙_}
+use mathlib.Core.Path.{_≡_, refl, ap, ap₂, _∙_}
 use mathlib.Core.Bool.{true, false}
 use mathlib.Core.List.{List, [], _∷_, _++_, map, map-append, head-eq-of-cons-eq, tail-eq-of-cons-eq}
 use mathlib.Core.Option.{Option, none, some}
 use lib.ListN.{length}
 use borrow.Author.Tests.{ltb-true}
-use Rattle.number.specs.Basics.{countWhere}
 use Rattle.table.specs.declared.Pair.{Pair}
 use Rattle.table.specs.Group.{GroupPairs, Access, load, pairOf, uncounted}
 use Rattle.queue.specs.declared.arguments.Argument.the-variants.{LoadAddress}
-use Rattle.queue.specs.Entry.{Entry}
 use Rattle.queue.proofs.Lists.{false-true, all-middle}
-use Rattle.sequential.specs.Answers.{Machine, Answered, answers, machineAfter}
-use Rattle.sequential.specs.Plain.{Rows, rowsOf, accesses, nextOf}
+use Rattle.sequential.specs.Answers.{Machine, Answered, answers}
+use Rattle.sequential.specs.Plain.{rowsOf, accesses, nextOf}
 use Rattle.sequential.specs.Demand3.{told, uses}
 use Rattle.sequential.proofs.Log.{LogEntry, ofLoad, ofStore, accessOf, loads, ownIn, ownIn-append}
 use Rattle.sequential.proofs.PlainRun.{count-uncounted, uses-uncounted}
-use Rattle.sequential.proofs.Rows.{Row, given, fed, AllRows, load-fits, eqb-self}
+use Rattle.sequential.proofs.Rows.{given, AllRows, load-fits, eqb-self}
 use Rattle.sequential.proofs.Invariant.{Invariant, rightLoad, load-in-range}
 use Rattle.sequential.proofs.Run.{reached}
 use Rattle.origins.specs.Origins.{usedBy, ListsOriginsAreLast}
 use Rattle.origins.proofs.Past.{rowsPast, left-past}
 use Rattle.origins.proofs.Last.{origins-are-last}
-use Rattle.origins.proofs.Fillings.{rows-past}
+use Rattle.origins.proofs.Fillings.{rows-past, none-given}
 
 -- a list by what is made of it
 map-split : {A B : Type 0} (f : A → B) (l : List A) (xs : List B) (y : B) (ys : List B) → map f l ≡ xs ++ y ∷ ys
@@ -34,14 +32,6 @@ map-split f (e ∷ l) [] y ys h = ([], e, l, refl, refl, head-eq-of-cons-eq h)
 map-split {A} {B} f (e ∷ l) (x ∷ xs) y ys h =
     let (pre, d, post, is, front, at) = map-split f l xs y ys (tail-eq-of-cons-eq h) in
     (e ∷ pre, d, post, ap (λ (r : List A). e ∷ r) is, ap₂ (λ (b : B) (r : List B). b ∷ r) (head-eq-of-cons-eq h) front, at)
-
--- a load's next address is what its entry has, or what is filled in
-load-filled : (l : Entry) (es : List LogEntry) (rows : Rows) (filled : ℕ) → AllRows (ofLoad l ∷ es) rows → l .address ≡ none
-    → nextOf (rows LoadAddress (l .port)) filled ≡ filled
-load-filled l es rows filled h is = go (rows LoadAddress (l .port)) (rw (eqb-self (l .port), is) at (h LoadAddress (l .port)))
-  where
-    go : (row : List ℕ) → fed (some none) (Row (given LoadAddress (l .port)) es) row → nextOf row filled ≡ filled
-    go row k = rw (k .0)
 
 module _ {groups : List GroupPairs} {memory : List ℕ} {answered : List Answered} {m : Machine} (st : Invariant groups memory answered m)
     (before : List Access) (p : Pair) (rest : List Access) (is : accesses groups (told answered) ≡ before ++ load p ∷ rest) (filled : ℕ)
@@ -74,7 +64,11 @@ module _ {groups : List GroupPairs} {memory : List ℕ} {answered : List Answere
 
           known : (o : Option ℕ) → l .address ≡ o
               → nextOf (rowsPast (map accessOf pre) (rowsOf (told answered)) LoadAddress (l .port)) filled < length memory
-          known none e = rw (load-filled l post (rowsPast (map accessOf pre) (rowsOf (told answered))) filled past e) low
+          known none e =
+              rw (none-given LoadAddress (l .port) (ofLoad l) post (rowsPast (map accessOf pre) (rowsOf (told answered))) filled past lacking) low
+            where
+              lacking : given LoadAddress (l .port) (ofLoad l) ≡ some none
+              lacking = rw (eqb-self (l .port), e)
           known (some a) e =
               let right = all-middle (rightLoad (m .queue .memoryLength)) (ownIn loads pre) (ownIn loads post) l
               (rw (log-is, ownIn-append loads pre (ofLoad l ∷ post)) at (st .holds .right loads)) in

@@ -24,11 +24,14 @@ use Rattle.sequential.proofs.PlainRun.{values-uncounted}
 use Rattle.sequential.proofs.Rows.{load-fits}
 use Rattle.sequential.proofs.Invariant.{Invariant}
 use Rattle.sequential.proofs.Steps.Serve.{queued-in-range}
-use Rattle.origins.specs.Origins.{Origin, opening, originReading, openings, originOf, usedBy, loaded}
+use Rattle.origins.specs.Origins.{opening, originReading, openings, originOf, usedBy, loaded}
 use Rattle.origins.specs.Exactly.{TwoOrigins}
 use Rattle.origins.proofs.Past.{rowsPast, left-past, nth-loads}
 use Rattle.origins.proofs.Last.{openings-at, openings-length}
 use Rattle.origins.proofs.Fillings.{isSettled, rows-past, left, Under, settled-one, unsettled-two}
+
+pub some-same : {A : Type 0} {x y : A} → _≡_ {A = Option A} (some x) (some y) → x ≡ y
+some-same e = cc
 
 pub count-loads : (es : List LogEntry) → countWhere isLoad (map accessOf es) ≡ length (ownIn loads es)
 count-loads [] = refl
@@ -105,9 +108,6 @@ module _ {groups : List GroupPairs} {memory : List ℕ} {answered : List Answere
     differ = λ same-origin. two-left (some-same (sym (origin-there everywhere) ∙ same-origin ∙ origin-there nowhere));
   }
     where
-      some-same : {x y : Origin} → _≡_ {A = Option Origin} (some x) (some y) → x ≡ y
-      some-same e = cc
-
       under : Under a (length memory) 0 (getD (openings 0 memory) a (opening (length memory)))
       under = rw (openings-at 0 memory a (opening (length memory)) address-low) tt
 

@@ -11,7 +11,7 @@ use borrow.Author.Tests.{ltb-true, ltb-false, eqb-true, eqb-false, eq-eqb, ne_eq
 use Rattle.counts.specs.declared.Counts.{Counts}
 use Rattle.counts.specs.Counts.{nearest, share}
 use Rattle.counts.specs.Shares.{NearestHalfToEven, SharesNearest, OnlySharesNearest, NoLoadsNoShare}
-use Rattle.counts.specs.Shares.{shareHalfUp, ExactHalf, HalvesGoToEven, EvenBelowHalf, OnlyHalvesDiffer}
+use Rattle.counts.specs.Shares.{share_half_up, ExactHalf, HalvesGoToEven, EvenBelowHalf, OnlyHalvesDiffer}
 
 -- whether the nearest is the whole or the next number, and what the rest is then
 data Rounded (n d : ℕ) : Type 0 where
@@ -42,7 +42,7 @@ module _ (c : Counts) (some : 0 < c.loads) where
   share-nearest = rw (ne_eqb d 0 (λ z. omega arith))
 
   -- the share before S-3, by the two numbers that it lies between
-  half-up-is : (s : ℕ) → s * (2 * d) ≤ 2000 * c.forwarded + d → 2000 * c.forwarded + d < (s + 1) * (2 * d) → shareHalfUp c ≡ s
+  half-up-is : (s : ℕ) → s * (2 * d) ≤ 2000 * c.forwarded + d → 2000 * c.forwarded + d < (s + 1) * (2 * d) → share_half_up c ≡ s
   half-up-is s low high = rw (ne_eqb d 0 (λ z. omega arith)) (div-eq_of_lt-le (2 * d) low high)
 
   -- 1000 × forwarded is the whole times the loads, and the rest
@@ -100,10 +100,10 @@ module _ (c : Counts) (some : 0 < c.loads) where
           let is = only-share (m + 1) (record { near = omega arith; even = λ z. omega arith }) in
           omega arith
 
-  half-was : (m : ℕ) → ExactHalf c m → shareHalfUp c ≡ m + 1
+  half-was : (m : ℕ) → ExactHalf c m → share_half_up c ≡ m + 1
   half-was m h = half-up-is (m + 1) (omega arith) (omega arith)
 
-  differs : share c ≢ shareHalfUp c → EvenBelowHalf c
+  differs : share c ≢ share_half_up c → EvenBelowHalf c
   differs h = go (rounded n d) (ltb (2 * (n % d)) d) refl
     where
       go : Rounded n d → (under : Bool) → ltb (2 * (n % d)) d ≡ under → EvenBelowHalf c
@@ -112,24 +112,24 @@ module _ (c : Counts) (some : 0 < c.loads) where
           absurd (h (share-nearest ∙ e ∙ sym (half-up-is (n / d) (omega (arith, is_whole)) (omega (arith, is_whole)))))
       go (down few even e) false f =
           let half : 2 * (n % d) ≡ d = omega (arith, ltb-false (2 * (n % d)) d f) in
-          record { some-loads = some; lower = n / d; half = omega (arith, is_whole); even = even half }
+          record { some_loads = some; lower = n / d; half = omega (arith, is_whole); even = even half }
       go (up many odd e) under f =
           absurd (h (share-nearest ∙ e ∙ sym (half-up-is (n / d + 1) (omega (arith, is_whole)) (omega (arith, is_whole, rest-small)))))
 
-pub shares-nearest : SharesNearest
-shares-nearest = share-right
+pub shares_nearest : SharesNearest
+shares_nearest = share-right
 
-pub only-shares-nearest : OnlySharesNearest
-only-shares-nearest c s some h = only-share c some s h
+pub only_shares_nearest : OnlySharesNearest
+only_shares_nearest c s some h = only-share c some s h
 
-pub no-loads-no-share : NoLoadsNoShare
-no-loads-no-share c none = rw (eq-eqb c.loads 0 none)
+pub no_loads_no_share : NoLoadsNoShare
+no_loads_no_share c none = rw (eq-eqb c.loads 0 none)
 
-pub halves-go-to-even : HalvesGoToEven
-halves-go-to-even c m some h = record { was = half-was c some m h; is = half_is c some m h }
+pub halves_go_to_even : HalvesGoToEven
+halves_go_to_even c m some h = record { was = half-was c some m h; is = half_is c some m h }
 
-pub only-halves-differ : OnlyHalvesDiffer
-only-halves-differ c h = go (eqb c.loads 0) refl
+pub only_halves_differ : OnlyHalvesDiffer
+only_halves_differ c h = go (eqb c.loads 0) refl
   where
     go : (none : Bool) → eqb c.loads 0 ≡ none → EvenBelowHalf c
     go true e = absurd (h (rw e))

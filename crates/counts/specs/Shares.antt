@@ -10,13 +10,13 @@ abbrev pub distance : ℕ → ℕ → ℕ
 distance m n = (m - n) + (n - m)
 
 -- twice the distance of s × loads from 1000 × forwarded
-abbrev pub twiceOff : Counts → ℕ → ℕ
-twiceOff c s = 2 * distance (s * c.loads) (1000 * c.forwarded)
+abbrev pub twice_off : Counts → ℕ → ℕ
+twice_off c s = 2 * distance (s * c.loads) (1000 * c.forwarded)
 
 -- s is nearest to 1000 × forwarded / loads: it is off by 1 / 2 at most, and where it is off by just that, an exact half, it is even
 pub record NearestHalfToEven (c : Counts) (s : ℕ) : Type 0 where
-  pub near : twiceOff c s ≤ c.loads
-  pub even : twiceOff c s ≡ c.loads → s % 2 ≡ 0
+  pub near : twice_off c s ≤ c.loads
+  pub even : twice_off c s ≡ c.loads → s % 2 ≡ 0
 
 -- Of one load or more the share is such a number, whatever is forwarded, and no other number is; of no loads it is 0.
 abbrev pub SharesNearest : Type 0
@@ -29,8 +29,8 @@ abbrev pub NoLoadsNoShare : Type 0
 NoLoadsNoShare = (c : Counts) → c.loads ≡ 0 → share c ≡ 0
 
 -- the share before S-3, "half going up": 1000 * forwarded / loads + 1 / 2, rounded down
-abbrev pub shareHalfUp : Counts → ℕ
-shareHalfUp c = pick (eqb c.loads 0) 0 ((2000 * c.forwarded + c.loads) / (2 * c.loads))
+abbrev pub share_half_up : Counts → ℕ
+share_half_up c = pick (eqb c.loads 0) 0 ((2000 * c.forwarded + c.loads) / (2 * c.loads))
 
 -- 1000 * forwarded / loads is n + 1 / 2, where there are loads
 abbrev pub ExactHalf : Counts → ℕ → Type 0
@@ -38,7 +38,7 @@ ExactHalf c n = 2000 * c.forwarded ≡ (2 * n + 1) * c.loads
 
 -- At an exact half the share was the upper neighbour before; now it is the even one of both.
 pub record AtHalf (c : Counts) (n : ℕ) : Type 0 where
-  pub was : shareHalfUp c ≡ n + 1
+  pub was : share_half_up c ≡ n + 1
   pub is : share c ≡ n + n % 2
 
 abbrev pub HalvesGoToEven : Type 0
@@ -46,10 +46,10 @@ HalvesGoToEven = (c : Counts) (n : ℕ) → 0 < c.loads → ExactHalf c n → At
 
 -- "All else is as it was": the share is another than before only at an exact half whose lower neighbour is even.
 pub record EvenBelowHalf (c : Counts) : Type 0 where
-  pub some-loads : 0 < c.loads
+  pub some_loads : 0 < c.loads
   pub lower : ℕ
   pub half : ExactHalf c lower
   pub even : lower % 2 ≡ 0
 
 abbrev pub OnlyHalvesDiffer : Type 0
-OnlyHalvesDiffer = (c : Counts) → share c ≢ shareHalfUp c → EvenBelowHalf c
+OnlyHalvesDiffer = (c : Counts) → share c ≢ share_half_up c → EvenBelowHalf c

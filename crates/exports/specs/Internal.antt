@@ -3,10 +3,10 @@ use Rattle.std.specs.Prelude.{◌≡◌}
 use Rattle.number.specs.Reply.{Reply, number}
 use Rattle.replay.specs.declared.Prepared.{Prepared}
 use Rattle.replay.specs.Replay.{Start}
-use Rattle.exports.specs.Prepared.{eventCount, memoryLength}
+use Rattle.exports.specs.Prepared.{event_count, memory_length}
 
 -- the parts of a prepared trace that callers from outside are told
 pub record TellsPrepared (rule : Reply Start) (r : Prepared) : Type 0 where
   pub answer : r.answer ≡ number rule
-  pub memory-length : r.memory_length ≡ memoryLength rule
-  pub events : r.events ≡ eventCount rule
+  pub memory-length : r.memory_length ≡ memory_length rule
+  pub events : r.events ≡ event_count rule

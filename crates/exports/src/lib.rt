@@ -1,14 +1,14 @@
 // Functions for C and Rust to link: tables and traces as bytes, replays as numbers in lent runs. A name is the whole
 // program's, as in C, so each begins with `lsq_`. Whatever is handed in, each answers as its contract says.
 ghost use Rattle.std.specs.Prelude.{◌≡◌};
-ghost use Rattle.table.specs.TableBytes.{readTable, tableAnswer};
+ghost use Rattle.table.specs.TableBytes.{read_table, table_answer};
 ghost use Rattle.counts.specs.Counts.{share};
 ghost use Rattle.number.specs.Reply.{number};
 ghost use Rattle.printed.specs.Outcome.{printed};
-ghost use Rattle.paged.specs.Recorded.{keptAfter};
-ghost use Rattle.exports.specs.Text.{textLength};
-ghost use Rattle.exports.specs.Prepared.{prepared, eventCount, memoryLength};
-ghost use Rattle.exports.specs.Replay.{lent, replayLent, lentAfter};
+ghost use Rattle.paged.specs.Recorded.{kept_after};
+ghost use Rattle.exports.specs.Text.{text_length};
+ghost use Rattle.exports.specs.Prepared.{prepared, event_count, memory_length};
+ghost use Rattle.exports.specs.Replay.{lent, replay_lent, lent_after};
 ghost use Rattle.exports.specs.Internal.{TellsPrepared};
 
 use counts::{Counts, share};
@@ -45,7 +45,7 @@ fn make_ready(table: &[u8], trace: &[u8]) -> Prepared
 // 0 where the bytes are a table, else their refusal.
 #[unsafe(no_mangle)]
 pub extern "C" fn lsq_table_fault(table: &[u8]) -> u32
-    ensures { result ≡ (tableAnswer (readTable table.now)).answer }
+    ensures { result ≡ (table_answer (read_table table.now)).answer }
 {
     let read = read_table(table);
     read.answer as u32
@@ -64,7 +64,7 @@ pub extern "C" fn lsq_trace_fault(table: &[u8], trace: &[u8]) -> u32
 // How many events the trace has: the length that a replay's buffers need. 0 where the trace cannot be played.
 #[unsafe(no_mangle)]
 pub extern "C" fn lsq_event_count(table: &[u8], trace: &[u8]) -> u64
-    ensures { result ≡ eventCount (prepared table.now trace.now) }
+    ensures { result ≡ event_count (prepared table.now trace.now) }
 {
     let ready = make_ready(table, trace);
     ready.events as u64
@@ -73,7 +73,7 @@ pub extern "C" fn lsq_event_count(table: &[u8], trace: &[u8]) -> u64
 // The memory length that the trace asks for, in words. 0 where the trace cannot be played.
 #[unsafe(no_mangle)]
 pub extern "C" fn lsq_memory_length(table: &[u8], trace: &[u8]) -> u32
-    ensures { result ≡ memoryLength (prepared table.now trace.now) }
+    ensures { result ≡ memory_length (prepared table.now trace.now) }
 {
     let ready = make_ready(table, trace);
     ready.memory_length as u32
@@ -96,8 +96,8 @@ pub extern "C" fn lsq_replay(
       answer = result;
       left = lent memory.new counts.new answers.new given.new values.new;
     }
-        ≡ lentAfter (lent memory.old counts.old answers.old given.old values.old)
-        (replayLent table.now trace.now
+        ≡ lent_after (lent memory.old counts.old answers.old given.old values.old)
+        (replay_lent table.now trace.now
         (lent memory.old counts.old answers.old given.old values.old)) }
 {
     let read = read_table(table);
@@ -136,10 +136,10 @@ pub extern "C" fn lsq_replay_recorded(
       answer = result.answer;
       left = lent memory.new counts.new answers.new given.new values.new;
     }
-        ≡ lentAfter (lent memory.old counts.old answers.old given.old values.old)
-        (replayLent table.now trace.now
+        ≡ lent_after (lent memory.old counts.old answers.old given.old values.old)
+        (replay_lent table.now trace.now
         (lent memory.old counts.old answers.old given.old values.old)))
-        × (result.kept ≡ keptAfter kept trace.now (replayLent table.now trace.now
+        × (result.kept ≡ kept_after kept trace.now (replay_lent table.now trace.now
         (lent memory.old counts.old answers.old given.old values.old))) }
 {
     let answer = lsq_replay(table, trace, memory, counts, answers, given, values);
@@ -157,7 +157,7 @@ pub extern "C" fn lsq_replay_recorded(
 // is. Where the buffer has no room for every text it answers 0, and nothing is written.
 #[unsafe(no_mangle)]
 pub extern "C" fn lsq_text(table: &[u8], trace: &[u8], out: &mut [u8]) -> u64
-    ensures { (result ≡ textLength (printed table.now trace.now out.old).answer)
+    ensures { (result ≡ text_length (printed table.now trace.now out.old).answer)
         × (out.new ≡ (printed table.now trace.now out.old).buffer) }
 {
     let written = print(table, trace, out);

@@ -6,48 +6,48 @@ use Rattle.ordering.specs.Records.{order_in}
 use Rattle.table.specs.declared.Pair.{Pair}
 use Rattle.table.specs.declared.Span.{Span}
 use Rattle.table.specs.declared.Table.{Table}
-use Rattle.table.specs.Packed.{pair, packedPair, packedGroup}
+use Rattle.table.specs.Packed.{pair, packed_pair, packed_group}
 use Rattle.table.specs.Group.{Access}
 use Rattle.table.specs.TableBytes.{filled}
 use Rattle.grouping.specs.declared.Accesses.{Accesses}
 use Rattle.grouping.specs.declared.PairList.{PairList}
 use Rattle.grouping.specs.declared.GroupSoFar.{GroupSoFar}
-use Rattle.grouping.specs.Grouping.{inOrder, withOffsets}
+use Rattle.grouping.specs.Grouping.{in_order, with_offsets}
 
-abbrev pub withPair : PairList → Pair → PairList
-withPair list p = record { count = list.count + 1; places = set list.places list.count (packedPair p) }
+abbrev pub with_pair : PairList → Pair → PairList
+with_pair list p = record { count = list.count + 1; places = set list.places list.count (packed_pair p) }
 
 -- a load, or a store, more: its offset counts those of the other kind
-abbrev pub withAccess : GroupSoFar → ℕ → ℕ → GroupSoFar
-withAccess g kind port =
+abbrev pub with_access : GroupSoFar → ℕ → ℕ → GroupSoFar
+with_access g kind port =
     pick (eqb kind 0)
-    (record { loads = withPair g.loads (pair g.stores.count port); stores = g.stores })
-    (record { loads = g.loads; stores = withPair g.stores (pair g.loads.count port) })
+    (record { loads = with_pair g.loads (pair g.stores.count port); stores = g.stores })
+    (record { loads = g.loads; stores = with_pair g.stores (pair g.loads.count port) })
 
 -- there is a place for one more of each kind
 pub record Room (g : GroupSoFar) : Type 0 where
   pub loads : g.loads.count < 32
   pub stores : g.stores.count < 32
 
-abbrev pub accessesOf : Ordered → Accesses → List Access
-accessesOf r accesses = inOrder accesses (order_in r)
+abbrev pub accesses_of : Ordered → Accesses → List Access
+accesses_of r accesses = in_order accesses (order_in r)
 
 -- the record of pairs, and of the group that accesses in their order make
 abbrev pub listed : List Pair → PairList
 listed ps = record { count = length ps; places = filled ps }
 
 pub record HoldsGroup (accesses : List Access) (g : GroupSoFar) : Type 0 where
-  pub loads : g.loads ≡ listed (withOffsets accesses).loads
-  pub stores : g.stores ≡ listed (withOffsets accesses).stores
+  pub loads : g.loads ≡ listed (with_offsets accesses).loads
+  pub stores : g.stores ≡ listed (with_offsets accesses).stores
 
 -- the table of the group: its loads and its stores stand from the first place on
 abbrev pub front : PairList → Span
 front list = record { first = 0; count = list.count }
 
-abbrev pub oneGroup : GroupSoFar → Table
-oneGroup g = record {
+abbrev pub one_group : GroupSoFar → Table
+one_group g = record {
   count = 1;
-  groups = set (replicate 16 0) 0 (packedGroup (record { loads = front g.loads; stores = front g.stores }));
+  groups = set (replicate 16 0) 0 (packed_group (record { loads = front g.loads; stores = front g.stores }));
   loads = g.loads.places;
   stores = g.stores.places;
 }

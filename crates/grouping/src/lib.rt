@@ -1,8 +1,8 @@
 // How the order that pairs give becomes a group of a table: the accesses in that order, offsets counted.
 ghost use Rattle.std.specs.Prelude.{◌≡◌, true, [], ◌<◌};
 ghost use Rattle.table.specs.TableBytes.{pack};
-ghost use Rattle.grouping.specs.Grouping.{namesAccesses, groupsInOrder};
-ghost use Rattle.grouping.specs.Internal.{withPair, withAccess, Room, accessesOf, HoldsGroup, oneGroup};
+ghost use Rattle.grouping.specs.Grouping.{names_accesses, groups_in_order};
+ghost use Rattle.grouping.specs.Internal.{with_pair, with_access, Room, accesses_of, HoldsGroup, one_group};
 
 use ordering::{MOST_ACCESSES, Ordered};
 use table::parts::{pack_group, pack_pair};
@@ -33,7 +33,7 @@ pub(crate) struct GroupSoFar {
 // One access more.
 fn with_pair(list: PairList, pair: Pair) -> PairList
     requires { list.count < 32 }
-    ensures { result ≡ withPair list pair }
+    ensures { result ≡ with_pair list pair }
 {
     let place = list.count as usize;
     let mut places = list.places;
@@ -47,7 +47,7 @@ fn with_pair(list: PairList, pair: Pair) -> PairList
 // One access more: its offset counts the accesses of the other kind so far.
 fn with_access(group: GroupSoFar, kind: u8, port: u8) -> GroupSoFar
     requires { Room group }
-    ensures { result ≡ withAccess group kind port }
+    ensures { result ≡ with_access group kind port }
 {
     let loads = group.loads;
     let stores = group.stores;
@@ -73,7 +73,7 @@ fn with_access(group: GroupSoFar, kind: u8, port: u8) -> GroupSoFar
 
 // Is it no refusal, and are its first `count` places numbers of accesses?
 fn names_accesses(order: Ordered) -> bool
-    ensures { result ≡ namesAccesses order }
+    ensures { result ≡ names_accesses order }
 {
     if order.answer != 0 {
         return false;
@@ -94,8 +94,8 @@ fn names_accesses(order: Ordered) -> bool
 
 // The loads and the stores along an order.
 fn count_offsets(order: Ordered, accesses: Accesses) -> GroupSoFar
-    requires { namesAccesses order ≡ true }
-    ensures { HoldsGroup (accessesOf order accesses) result }
+    requires { names_accesses order ≡ true }
+    ensures { HoldsGroup (accesses_of order accesses) result }
 {
     let count = order.count as usize;
     let mut group = GroupSoFar {
@@ -119,7 +119,7 @@ fn count_offsets(order: Ordered, accesses: Accesses) -> GroupSoFar
 
 // The table of this group.
 fn one_group(group: GroupSoFar) -> Table
-    ensures { result ≡ oneGroup group }
+    ensures { result ≡ one_group group }
 {
     let loads = group.loads;
     let stores = group.stores;
@@ -161,7 +161,7 @@ fn no_group() -> Table
 // The table whose one group has the accesses in this order. Where the record is a refusal, or has a count or an access above what an
 // order has, it is the table of no groups, which writing and opening refuse with 4.
 pub fn table_in_order(order: Ordered, accesses: Accesses) -> Table
-    ensures { result ≡ pack (groupsInOrder order accesses) }
+    ensures { result ≡ pack (groups_in_order order accesses) }
 {
     if !names_accesses(order) {
         return no_group();

@@ -6,9 +6,9 @@ use Rattle.live.specs.declared.bytes.LiveWritten.{LiveWritten}
 use Rattle.live.specs.declared.bytes.TableFound.{TableFound}
 
 -- 0 and how many bytes were written, or the refusal and 0
-abbrev pub liveWritten : Reply ℕ → LiveWritten
-liveWritten (accept n) = record { answer = 0; count = n }
-liveWritten (refuse k) = record { answer = k; count = 0 }
+abbrev pub live_written : Reply ℕ → LiveWritten
+live_written (accept n) = record { answer = 0; count = n }
+live_written (refuse k) = record { answer = k; count = 0 }
 
-abbrev pub tableFound : TableRead → TableFound
-tableFound r = record { answer = r.answer; table = r.table }
+abbrev pub table_found : TableRead → TableFound
+table_found r = record { answer = r.answer; table = r.table }

@@ -1,10 +1,10 @@
 // For C and Rust: a table read into its record, and tables, events and numbers written to lent buffers.
 ghost use Rattle.std.specs.Prelude.{◌≡◌};
-ghost use Rattle.number.specs.Number.{numberBytes, writtenReply, wrote};
+ghost use Rattle.number.specs.Number.{number_bytes, written_reply, wrote};
 ghost use Rattle.table.specs.Table.{groups_of};
-ghost use Rattle.table.specs.TableBytes.{readTable, tableAnswer, wroteTable};
-ghost use Rattle.trace.specs.Event.{wroteEventOf};
-ghost use Rattle.live.specs.Bytes.{liveWritten, tableFound};
+ghost use Rattle.table.specs.TableBytes.{read_table, table_answer, wrote_table};
+ghost use Rattle.trace.specs.Event.{wrote_event_of};
+ghost use Rattle.live.specs.Bytes.{live_written, table_found};
 
 use number::BytesWritten;
 use number::writing::write_number;
@@ -31,7 +31,7 @@ pub struct TableFound {
 
 // The numbers of a writer's answer.
 pub(crate) fn live_written(written: BytesWritten) -> LiveWritten
-    ensures { result ≡ liveWritten (writtenReply written) }
+    ensures { result ≡ live_written (written_reply written) }
 {
     match written {
         BytesWritten::Bytes(n) => LiveWritten {
@@ -48,7 +48,7 @@ pub(crate) fn live_written(written: BytesWritten) -> LiveWritten
 // Reads a table: 1 to 9 or 42.
 #[unsafe(no_mangle)]
 pub extern "C" fn lsq_read_table(bytes: &[u8]) -> TableFound
-    ensures { result ≡ tableFound (tableAnswer (readTable bytes.now)) }
+    ensures { result ≡ table_found (table_answer (read_table bytes.now)) }
 {
     let read = read_table(bytes);
     let table = read.table;
@@ -61,8 +61,8 @@ pub extern "C" fn lsq_read_table(bytes: &[u8]) -> TableFound
 // Writes a table at the front of a buffer: 4, 5, 8, 6, 7, then 10.
 #[unsafe(no_mangle)]
 pub extern "C" fn lsq_write_table(table: Table, out: &mut [u8]) -> LiveWritten
-    ensures { let done = wroteTable (groups_of table) out.old in
-        (result ≡ liveWritten done.answer) × (out.new ≡ done.buffer) }
+    ensures { let done = wrote_table (groups_of table) out.old in
+        (result ≡ live_written done.answer) × (out.new ≡ done.buffer) }
 {
     let written = write_table(table, out);
     live_written(written)
@@ -71,8 +71,8 @@ pub extern "C" fn lsq_write_table(table: Table, out: &mut [u8]) -> LiveWritten
 // Writes an event, by its kind and its numbers, at the front of a buffer: 35, then 10.
 #[unsafe(no_mangle)]
 pub extern "C" fn lsq_write_event(kind: u32, first: u32, second: u32, out: &mut [u8]) -> LiveWritten
-    ensures { let done = wroteEventOf kind first second out.old in
-        (result ≡ liveWritten done.answer) × (out.new ≡ done.buffer) }
+    ensures { let done = wrote_event_of kind first second out.old in
+        (result ≡ live_written done.answer) × (out.new ≡ done.buffer) }
 {
     let written = write_event_of(kind, first, second, out);
     live_written(written)
@@ -81,8 +81,8 @@ pub extern "C" fn lsq_write_event(kind: u32, first: u32, second: u32, out: &mut 
 // Writes a number at the front of a buffer, in the fewest bytes: 10.
 #[unsafe(no_mangle)]
 pub extern "C" fn lsq_write_number(value: u32, out: &mut [u8]) -> LiveWritten
-    ensures { let done = wrote (numberBytes value) out.old in
-        (result ≡ liveWritten done.answer) × (out.new ≡ done.buffer) }
+    ensures { let done = wrote (number_bytes value) out.old in
+        (result ≡ live_written done.answer) × (out.new ≡ done.buffer) }
 {
     let written = write_number(value, out);
     live_written(written)

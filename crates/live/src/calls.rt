@@ -3,21 +3,21 @@
 // another length first of all. The frame's arrays are lent on to the queue's own calls: a table is copied nowhere.
 ghost use Rattle.std.specs.Prelude.{◌≡◌, ◌&&◌};
 ghost use Rattle.queue.specs.Entry.{bit};
-ghost use Rattle.queue.specs.Contents.{contentsOf};
+ghost use Rattle.queue.specs.Contents.{contents_of};
 ghost use Rattle.queue.specs.Sound.{sound};
 ghost use Rattle.queue.specs.Activate.{activate};
-ghost use Rattle.queue.specs.Arguments.{loadAddress, storeAddress, storeData};
+ghost use Rattle.queue.specs.Arguments.{load_address, store_address, store_data};
 ghost use Rattle.queue.specs.Serve.{serve};
 ghost use Rattle.queue.specs.Write.{write};
-ghost use Rattle.queue.specs.Take.{takeRule};
+ghost use Rattle.queue.specs.Take.{take_rule};
 ghost use Rattle.queue.specs.declared.Kind.TheVariants.{Load as load, Store as store};
 ghost use Rattle.queue.specs.Ready.{ready, Readies};
 ghost use Rattle.queue.specs.Outcome.{Moves};
-ghost use Rattle.queue.specs.Parts.{whole, onParts, queueOf, answered};
+ghost use Rattle.queue.specs.Parts.{whole, on_parts, queue_of, answered};
 ghost use Rattle.number.specs.Reply.{and_then};
-ghost use Rattle.replay.specs.Playing.{afterServe};
-ghost use Rattle.live.specs.Calls.{LiveOpens, toldStep, toldService, LiveTells, moveGives, takeGives, serveGives, writeGives, memoryAfter, liveReadied};
-ghost use Rattle.live.specs.Internal.{liveStep, liveService};
+ghost use Rattle.replay.specs.Playing.{after_serve};
+ghost use Rattle.live.specs.Calls.{LiveOpens, told_step, told_service, LiveTells, move_gives, take_gives, serve_gives, write_gives, memory_after, live_readied};
+ghost use Rattle.live.specs.Internal.{live_step, live_service};
 
 use counts::Counts;
 use queue::activation::activate_in;
@@ -73,7 +73,7 @@ pub struct LiveReady {
 
 // The numbers of a step.
 fn live_step(step: Step) -> LiveStep
-    ensures { result ≡ liveStep step }
+    ensures { result ≡ live_step step }
 {
     let value = step.value;
     let loads = step.loads;
@@ -89,7 +89,7 @@ fn live_step(step: Step) -> LiveStep
 
 // The numbers of a serve.
 fn live_service(service: Service) -> LiveService
-    ensures { result ≡ liveService service }
+    ensures { result ≡ live_service service }
 {
     let value = service.value;
     let counts = service.counts;
@@ -131,8 +131,8 @@ pub extern "C" fn lsq_open_in(
 // 1 where no call would refuse these parts with 40, else 0.
 #[unsafe(no_mangle)]
 pub extern "C" fn lsq_sound_in(frame: Frame, loads: &[u64], stores: &[u64]) -> u32
-    ensures { let q = queueOf frame loads.now stores.now in
-        result ≡ bit (whole loads.now stores.now && sound (contentsOf q)) }
+    ensures { let q = queue_of frame loads.now stores.now in
+        result ≡ bit (whole loads.now stores.now && sound (contents_of q)) }
 {
     let outline = outline_of(frame);
     let right = sound_in(
@@ -154,9 +154,9 @@ pub extern "C" fn lsq_activate_in(
     stores: &mut [u64],
     group: u32,
 ) -> LiveStep
-    ensures { let q = queueOf frame loads.old stores.old in
-        let rule = onParts loads.old stores.old (activate (contentsOf q) group) in
-        LiveTells q (and_then rule moveGives) (toldStep frame result loads.new stores.new) }
+    ensures { let q = queue_of frame loads.old stores.old in
+        let rule = on_parts loads.old stores.old (activate (contents_of q) group) in
+        LiveTells q (and_then rule move_gives) (told_step frame result loads.new stores.new) }
 {
     let outline = outline_of(frame);
     let step = activate_in(
@@ -180,9 +180,9 @@ pub extern "C" fn lsq_load_address_in(
     port: u32,
     address: u32,
 ) -> u32
-    ensures { let q = queueOf frame loads.old stores.now in
-        let rule = onParts loads.old stores.now (loadAddress (contentsOf q) port address) in
-        Moves q rule (answered result (queueOf frame loads.new stores.now)) }
+    ensures { let q = queue_of frame loads.old stores.now in
+        let rule = on_parts loads.old stores.now (load_address (contents_of q) port address) in
+        Moves q rule (answered result (queue_of frame loads.new stores.now)) }
 {
     let outline = outline_of(frame);
     let answer = give_in(
@@ -208,9 +208,9 @@ pub extern "C" fn lsq_store_address_in(
     port: u32,
     address: u32,
 ) -> u32
-    ensures { let q = queueOf frame loads.now stores.old in
-        let rule = onParts loads.now stores.old (storeAddress (contentsOf q) port address) in
-        Moves q rule (answered result (queueOf frame loads.now stores.new)) }
+    ensures { let q = queue_of frame loads.now stores.old in
+        let rule = on_parts loads.now stores.old (store_address (contents_of q) port address) in
+        Moves q rule (answered result (queue_of frame loads.now stores.new)) }
 {
     let outline = outline_of(frame);
     let answer = give_in(
@@ -236,9 +236,9 @@ pub extern "C" fn lsq_store_data_in(
     port: u32,
     word: u32,
 ) -> u32
-    ensures { let q = queueOf frame loads.now stores.old in
-        let rule = onParts loads.now stores.old (storeData (contentsOf q) port word) in
-        Moves q rule (answered result (queueOf frame loads.now stores.new)) }
+    ensures { let q = queue_of frame loads.now stores.old in
+        let rule = on_parts loads.now stores.old (store_data (contents_of q) port word) in
+        Moves q rule (answered result (queue_of frame loads.now stores.new)) }
 {
     let outline = outline_of(frame);
     let answer = give_in(
@@ -265,10 +265,10 @@ pub extern "C" fn lsq_serve_in(
     counts: Counts,
     serial: u32,
 ) -> LiveService
-    ensures { let q = queueOf frame loads.old stores.now in
-        let rule = onParts loads.old stores.now (serve (contentsOf q) memory.now serial) in
-        LiveTells q (and_then rule serveGives) (toldService result (queueOf frame loads.new stores.now))
-        × (result.counts ≡ afterServe counts rule) }
+    ensures { let q = queue_of frame loads.old stores.now in
+        let rule = on_parts loads.old stores.now (serve (contents_of q) memory.now serial) in
+        LiveTells q (and_then rule serve_gives) (told_service result (queue_of frame loads.new stores.now))
+        × (result.counts ≡ after_serve counts rule) }
 {
     let outline = outline_of(frame);
     let service = serve_in(
@@ -294,10 +294,10 @@ pub extern "C" fn lsq_write_in(
     memory: &mut [u32],
     serial: u32,
 ) -> LiveStep
-    ensures { let q = queueOf frame loads.old stores.old in
-        let rule = onParts loads.old stores.old (write (contentsOf q) memory.old serial) in
-        LiveTells q (and_then rule writeGives) (toldStep frame result loads.new stores.new)
-        × (memory.new ≡ memoryAfter memory.old rule) }
+    ensures { let q = queue_of frame loads.old stores.old in
+        let rule = on_parts loads.old stores.old (write (contents_of q) memory.old serial) in
+        LiveTells q (and_then rule write_gives) (told_step frame result loads.new stores.new)
+        × (memory.new ≡ memory_after memory.old rule) }
 {
     let outline = outline_of(frame);
     let step = write_in(
@@ -321,9 +321,9 @@ pub extern "C" fn lsq_take_in(
     stores: &mut [u64],
     port: u32,
 ) -> LiveStep
-    ensures { let q = queueOf frame loads.old stores.old in
-        let rule = onParts loads.old stores.old (takeRule (contentsOf q) port) in
-        LiveTells q (and_then rule takeGives) (toldStep frame result loads.new stores.new) }
+    ensures { let q = queue_of frame loads.old stores.old in
+        let rule = on_parts loads.old stores.old (take_rule (contents_of q) port) in
+        LiveTells q (and_then rule take_gives) (told_step frame result loads.new stores.new) }
 {
     let outline = outline_of(frame);
     let step = take_in(
@@ -346,9 +346,9 @@ pub extern "C" fn lsq_ready_loads_in(
     stores: &[u64],
     out: &mut [u32],
 ) -> LiveReady
-    ensures { let q = queueOf frame loads.now stores.now in
-        let rule = onParts loads.now stores.now (ready load (contentsOf q) out.old) in
-        Readies q out.old rule (liveReadied result q) out.new }
+    ensures { let q = queue_of frame loads.now stores.now in
+        let rule = on_parts loads.now stores.now (ready load (contents_of q) out.old) in
+        Readies q out.old rule (live_readied result q) out.new }
 {
     let outline = outline_of(frame);
     let ready = ready_in(
@@ -375,9 +375,9 @@ pub extern "C" fn lsq_ready_stores_in(
     stores: &[u64],
     out: &mut [u32],
 ) -> LiveReady
-    ensures { let q = queueOf frame loads.now stores.now in
-        let rule = onParts loads.now stores.now (ready store (contentsOf q) out.old) in
-        Readies q out.old rule (liveReadied result q) out.new }
+    ensures { let q = queue_of frame loads.now stores.now in
+        let rule = on_parts loads.now stores.now (ready store (contents_of q) out.old) in
+        Readies q out.old rule (live_readied result q) out.new }
 {
     let outline = outline_of(frame);
     let ready = ready_in(

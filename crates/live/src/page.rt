@@ -1,8 +1,8 @@
 // For C and Rust: the shift record, and its page.
 ghost use Rattle.std.specs.Prelude.{◌≡◌};
 ghost use Rattle.shift.specs.Record.{recorded};
-ghost use Rattle.shift.specs.Page.{pageWritten};
-ghost use Rattle.live.specs.Bytes.{liveWritten};
+ghost use Rattle.shift.specs.Page.{page_written};
+ghost use Rattle.live.specs.Bytes.{live_written};
 
 use crate::bytes::{LiveWritten, live_written};
 use shift::ShiftRecord;
@@ -21,8 +21,8 @@ pub extern "C" fn lsq_recorded(kept: ShiftRecord, port: u32, value: u32) -> Shif
 // Writes the page of a record at the front of a buffer: 41.
 #[unsafe(no_mangle)]
 pub extern "C" fn lsq_page(kept: ShiftRecord, out: &mut [u8]) -> LiveWritten
-    ensures { let done = pageWritten kept out.old in
-        (result ≡ liveWritten done.answer) × (out.new ≡ done.buffer) }
+    ensures { let done = page_written kept out.old in
+        (result ≡ live_written done.answer) × (out.new ≡ done.buffer) }
 {
     let written = write_page(kept, out);
     live_written(written)

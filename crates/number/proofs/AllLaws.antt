@@ -10,10 +10,10 @@ use lib.Seq.{drop-cons}
 use Rattle.number.specs.Basics.{all_of}
 use Rattle.number.proofs.Both.{and_left, and_right}
 
-pub all-at : {A : Type 0} (p : A → Bool) (xs : List A) (i : ℕ) (d : A) → all_of p xs ≡ true → i < length xs → p (get_or xs i d) ≡ true
-all-at p [] i d h low = absurd (omega arith)
-all-at p (x ∷ xs) zero d h low = and_left (p x) (all_of p xs) h
-all-at p (x ∷ xs) (suc i) d h low = all-at p xs i d (and_right (p x) (all_of p xs) h) (omega arith)
+pub all_at : {A : Type 0} (p : A → Bool) (xs : List A) (i : ℕ) (d : A) → all_of p xs ≡ true → i < length xs → p (get_or xs i d) ≡ true
+all_at p [] i d h low = absurd (omega arith)
+all_at p (x ∷ xs) zero d h low = and_left (p x) (all_of p xs) h
+all_at p (x ∷ xs) (suc i) d h low = all_at p xs i d (and_right (p x) (all_of p xs) h) (omega arith)
 
 -- all elements pass just where those from i on do
 pub record AllYet {A : Type 0} (p : A → Bool) (xs : List A) (i : ℕ) : Type 0 where

@@ -8,7 +8,7 @@ use native.Mathlib.Omega.{arith}
 use lib.Dec.{eqb}
 use borrow.Author.Tests.{eqb-false, not-true}
 use Rattle.number.specs.Reply.{Reply, refuse, accept, need, have, and_then, number, accepted, passed, both}
-use Rattle.number.specs.Number.{Got, got, thenRead}
+use Rattle.number.specs.Number.{Got, got, then_read}
 
 pub refused-accepted : {A B : Type 0} {n : ℕ} {a : A} → refuse n ≡ accept a → B
 refused-accepted h = let z : ◌≡◌ {A = ℕ} 0 1 = cc in absurd (omega arith)
@@ -28,17 +28,17 @@ module _ {A : Type 0} where
   andThen-accepts (refuse n) rest h = refused-accepted h
   andThen-accepts (accept a) rest h = (a, refl, h)
 
-  pub thenRead-accepts : {B : Type 0} (r : Reply (Got A)) (rest : A → List ℕ → Reply B) {b : B} → thenRead r rest ≡ accept b
+  pub thenRead-accepts : {B : Type 0} (r : Reply (Got A)) (rest : A → List ℕ → Reply B) {b : B} → then_read r rest ≡ accept b
       → (a : A) × (s : List ℕ) × (r ≡ accept (got a s)) × (rest a s ≡ accept b)
   thenRead-accepts (refuse n) rest h = refused-accepted h
   thenRead-accepts (accept (got a s)) rest h = (a, s, refl, h)
 
 -- ---- what holds of what is accepted holds of it by its other name
-pub of-accepted : {A : Type 0} (P : A → Type 0) {a b : A} → accept a ≡ accept b → P a → P b
-of-accepted P {a} {b} e h = let p : a ≡ b = cc in rw (← p) h
+pub of_accepted : {A : Type 0} (P : A → Type 0) {a b : A} → accept a ≡ accept b → P a → P b
+of_accepted P {a} {b} e h = let p : a ≡ b = cc in rw (← p) h
 
-pub of-read : {A : Type 0} (P : A → List ℕ → Type 0) {a b : A} {s t : List ℕ} → accept (got a s) ≡ accept (got b t) → P a s → P b t
-of-read P {a} {b} {s} {t} e h =
+pub of_read : {A : Type 0} (P : A → List ℕ → Type 0) {a b : A} {s t : List ℕ} → accept (got a s) ≡ accept (got b t) → P a s → P b t
+of_read P {a} {b} {s} {t} e h =
     let p : a ≡ b = cc in
     let q : s ≡ t = cc in
     rw (← p, ← q) h
@@ -54,7 +54,7 @@ module _ {A B C : Type 0} where
   andThen-then (accept a) f k = refl
 
   pub thenRead-then : (r : Reply A) (f : A → Reply (Got B)) (k : B → List ℕ → Reply C)
-      → thenRead (and_then r f) k ≡ (and_then r λ a. thenRead (f a) k)
+      → then_read (and_then r f) k ≡ (and_then r λ a. then_read (f a) k)
   thenRead-then (refuse n) f k = refl
   thenRead-then (accept a) f k = refl
 
@@ -84,43 +84,43 @@ module _ (among : ℕ → Bool) where
   andThen-among (accept a) rest e h = h a
 
   pub thenRead-among : {A B : Type 0} (r : Reply (Got A)) (rest : A → List ℕ → Reply B) → refusesAmong r ≡ true
-      → ((a : A) (s : List ℕ) → refusesAmong (rest a s) ≡ true) → refusesAmong (thenRead r rest) ≡ true
+      → ((a : A) (s : List ℕ) → refusesAmong (rest a s) ≡ true) → refusesAmong (then_read r rest) ≡ true
   thenRead-among (refuse n) rest e h = e
   thenRead-among (accept (got a s)) rest e h = h a s
 
 -- no refusal number is 0, so an answer of 0 is that of what was accepted
-abbrev pub notZero : ℕ → Bool
-notZero n = not (eqb n 0)
+abbrev pub not_zero : ℕ → Bool
+not_zero n = not (eqb n 0)
 
-pub not-zero : (n : ℕ) → notZero n ≡ true → n ≡ 0 → ⊥
-not-zero n h = eqb-false n 0 (not-true (eqb n 0) h)
+pub not_zero_lem : (n : ℕ) → not_zero n ≡ true → n ≡ 0 → ⊥
+not_zero_lem n h = eqb-false n 0 (not-true (eqb n 0) h)
 
-pub refusal-not-zero : {A : Type 0} (r : Reply A) (n : ℕ) → refusesAmong notZero r ≡ true → r ≡ refuse n → eqb n 0 ≡ false
-refusal-not-zero r n h e = not-true (eqb n 0) (refused-among notZero r h e)
+pub refusal_not_zero : {A : Type 0} (r : Reply A) (n : ℕ) → refusesAmong not_zero r ≡ true → r ≡ refuse n → eqb n 0 ≡ false
+refusal_not_zero r n h e = not-true (eqb n 0) (refused-among not_zero r h e)
 
-pub refused-some : {A : Type 0} (r : Reply A) {n : ℕ} → refusesAmong notZero r ≡ true → r ≡ refuse n → n ≡ 0 → ⊥
-refused-some r {n} h e = not-zero n (refused-among notZero r h e)
+pub refused_some : {A : Type 0} (r : Reply A) {n : ℕ} → refusesAmong not_zero r ≡ true → r ≡ refuse n → n ≡ 0 → ⊥
+refused_some r {n} h e = not_zero_lem n (refused-among not_zero r h e)
 
-pub accepted-number : {A : Type 0} (r : Reply A) → refusesAmong notZero r ≡ true → eqb (number r) 0 ≡ accepted r
-accepted-number (refuse n) h = not-true (eqb n 0) h
-accepted-number (accept a) h = refl
+pub accepted_number : {A : Type 0} (r : Reply A) → refusesAmong not_zero r ≡ true → eqb (number r) 0 ≡ accepted r
+accepted_number (refuse n) h = not-true (eqb n 0) h
+accepted_number (accept a) h = refl
 
 -- an answer other than 0 is the number of a refusal
-pub some-refused : {A : Type 0} (r : Reply A) {k : ℕ} → k ≡ number r → (k ≡ 0 → ⊥) → r ≡ refuse k
-some-refused (refuse n) e apart = ap refuse (sym e)
-some-refused (accept a) e apart = absurd (apart e)
+pub some_refused : {A : Type 0} (r : Reply A) {k : ℕ} → k ≡ number r → (k ≡ 0 → ⊥) → r ≡ refuse k
+some_refused (refuse n) e apart = ap refuse (sym e)
+some_refused (accept a) e apart = absurd (apart e)
 
-pub zero-passed : (r : Reply (Unit {0})) → refusesAmong notZero r ≡ true → number r ≡ 0 → r ≡ passed
+pub zero-passed : (r : Reply (Unit {0})) → refusesAmong not_zero r ≡ true → number r ≡ 0 → r ≡ passed
 zero-passed (accept tt) h e = refl
-zero-passed (refuse n) h e = absurd (not-zero n h e)
+zero-passed (refuse n) h e = absurd (not_zero_lem n h e)
 
 pub accepted-passed : (r : Reply (Unit {0})) → accepted r ≡ true → r ≡ passed
 accepted-passed (accept tt) h = refl
 accepted-passed (refuse n) h = let z : ◌≡◌ {A = ℕ} 0 1 = cc in absurd (omega arith)
 
 -- both checks are passed just where each is
-pub both-pass : {first second : Reply (Unit {0})} → first ≡ passed → second ≡ passed → both first second ≡ passed
-both-pass e f = rw (e, f)
+pub both_pass : {first second : Reply (Unit {0})} → first ≡ passed → second ≡ passed → both first second ≡ passed
+both_pass e f = rw (e, f)
 
 pub both-passed : (first second : Reply (Unit {0})) → both first second ≡ passed → (first ≡ passed) × (second ≡ passed)
 both-passed (accept tt) second h = (refl, h)

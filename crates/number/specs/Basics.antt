@@ -22,23 +22,23 @@ all_of p [] = true
 all_of p (x ∷ xs) = p x && all_of p xs
 
 -- how many elements pass
-abbrev pub countWhere : {A : Type 0} → (A → Bool) → List A → ℕ
-countWhere p [] = 0
-countWhere p (x ∷ xs) = pick (p x) (suc (countWhere p xs)) (countWhere p xs)
+abbrev pub count_where : {A : Type 0} → (A → Bool) → List A → ℕ
+count_where p [] = 0
+count_where p (x ∷ xs) = pick (p x) (suc (count_where p xs)) (count_where p xs)
 
 -- the elements that pass, in order
-abbrev pub keepWhere : {A : Type 0} → (A → Bool) → List A → List A
-keepWhere p [] = []
-keepWhere p (x ∷ xs) = pick (p x) (x ∷ keepWhere p xs) (keepWhere p xs)
+abbrev pub keep_where : {A : Type 0} → (A → Bool) → List A → List A
+keep_where p [] = []
+keep_where p (x ∷ xs) = pick (p x) (x ∷ keep_where p xs) (keep_where p xs)
 
 -- the elements at the front that pass; the list from the first that does not
-abbrev pub frontWhile : {A : Type 0} → (A → Bool) → List A → List A
-frontWhile p [] = []
-frontWhile p (x ∷ xs) = pick (p x) (x ∷ frontWhile p xs) []
+abbrev pub front_while : {A : Type 0} → (A → Bool) → List A → List A
+front_while p [] = []
+front_while p (x ∷ xs) = pick (p x) (x ∷ front_while p xs) []
 
-abbrev pub afterWhile : {A : Type 0} → (A → Bool) → List A → List A
-afterWhile p [] = []
-afterWhile p (x ∷ xs) = pick (p x) (afterWhile p xs) (x ∷ xs)
+abbrev pub after_while : {A : Type 0} → (A → Bool) → List A → List A
+after_while p [] = []
+after_while p (x ∷ xs) = pick (p x) (after_while p xs) (x ∷ xs)
 
 -- what f gives of each element, one after the other
 abbrev pub flat_map : {A B : Type 0} → (A → List B) → List A → List B

@@ -9,37 +9,37 @@ use Rattle.number.specs.declared.BytesWritten.{BytesWritten}
 use Rattle.number.specs.declared.BytesWritten.TheVariants.{Bytes, Unwritten}
 use Rattle.number.specs.Basics.{pick, splice, all_of}
 use Rattle.number.specs.Reply.{Reply, refuse, accept, need, number}
-use Rattle.number.specs.Refusal.{ended, tooLarge, paddedNumber, tooShort}
+use Rattle.number.specs.Refusal.{ended, too_large, padded_number, too_short}
 
 -- what was read, and the bytes after it
 pub data Got (A : Type 0) : Type 0 where
   got : A → List ℕ → Got A
 
 -- what follows with what was read, or the same refusal
-abbrev pub thenRead : {A B : Type 0} → Reply (Got A) → (A → List ℕ → Reply B) → Reply B
-thenRead (accept (got a s)) rest = rest a s
-thenRead (refuse n) rest = refuse n
+abbrev pub then_read : {A B : Type 0} → Reply (Got A) → (A → List ℕ → Reply B) → Reply B
+then_read (accept (got a s)) rest = rest a s
+then_read (refuse n) rest = refuse n
 
 -- an element before those that reading goes on to give
 abbrev pub before : {A : Type 0} → A → Reply (Got (List A)) → Reply (Got (List A))
-before a r = thenRead r λ l s. accept (got (a ∷ l) s)
+before a r = then_read r λ l s. accept (got (a ∷ l) s)
 
 -- a group of seven bits below a number of higher groups
 abbrev pub above : ℕ → Reply (Got ℕ) → Reply (Got ℕ)
-above low r = thenRead r λ n s. accept (got (low + 128 * n) s)
+above low r = then_read r λ n s. accept (got (low + 128 * n) s)
 
 -- A number of one byte and up to `more` bytes after it, padded or not; of the most bytes that there may be, the last is at most `top`.
-unfoldable pub numberUpTo : ℕ → ℕ → List ℕ → Reply (Got ℕ)
-numberUpTo more top [] = refuse ended
-numberUpTo zero top (b ∷ s) = need (leb b top) tooLarge (accept (got b s))
-numberUpTo (suc more) top (b ∷ s) = pick (ltb b 128) (accept (got b s)) (above (b - 128) (numberUpTo more top s))
+unfoldable pub number_up_to : ℕ → ℕ → List ℕ → Reply (Got ℕ)
+number_up_to more top [] = refuse ended
+number_up_to zero top (b ∷ s) = need (leb b top) too_large (accept (got b s))
+number_up_to (suc more) top (b ∷ s) = pick (ltb b 128) (accept (got b s)) (above (b - 128) (number_up_to more top s))
 
 -- the place of s at which its last part, `rest`, begins; the bytes before it
 abbrev pub place_of : List ℕ → List ℕ → ℕ
 place_of s rest = length s - length rest
 
-abbrev pub bytesBefore : List ℕ → List ℕ → List ℕ
-bytesBefore s rest = take (place_of s rest) s
+abbrev pub bytes_before : List ℕ → List ℕ → List ℕ
+bytes_before s rest = take (place_of s rest) s
 
 -- the last of some bytes; 0 of none
 abbrev pub last_of : List ℕ → ℕ
@@ -48,18 +48,18 @@ last_of (b ∷ []) = b
 last_of (b ∷ c ∷ cs) = last_of (c ∷ cs)
 
 -- "more than one byte whose last byte is 00": so many bytes, and the last of them
-abbrev pub paddedBy : ℕ → ℕ → Bool
-paddedBy count last = ltb 1 count && eqb last 0
+abbrev pub padded_by : ℕ → ℕ → Bool
+padded_by count last = ltb 1 count && eqb last 0
 
 abbrev pub padded : List ℕ → Bool
-padded bytes = paddedBy (length bytes) (last_of bytes)
+padded bytes = padded_by (length bytes) (last_of bytes)
 
 -- "Reading a number: 1 the bytes end inside it or before it; 2 a fifth byte above 0F." S-4: "42: padded number, checked after 1
 -- and 2 of that number."
-unfoldable pub readNumber : List ℕ → Reply (Got ℕ)
-readNumber s =
-    thenRead (numberUpTo 4 15 s) λ n rest.
-    need (not (padded (bytesBefore s rest))) paddedNumber
+unfoldable pub read_number : List ℕ → Reply (Got ℕ)
+read_number s =
+    then_read (number_up_to 4 15 s) λ n rest.
+    need (not (padded (bytes_before s rest))) padded_number
     (accept (got n rest))
 
 -- what was read, and the place after it
@@ -67,46 +67,46 @@ pub data Reading (A : Type 0) : Type 0 where
   reading : A → ℕ → Reading A
 
 -- the reply of a call that reads in s
-abbrev pub readIn : {A : Type 0} → List ℕ → Reply (Got A) → Reply (Reading A)
-readIn s r = thenRead r λ a rest. accept (reading a (place_of s rest))
+abbrev pub read_in : {A : Type 0} → List ℕ → Reply (Got A) → Reply (Reading A)
+read_in s r = then_read r λ a rest. accept (reading a (place_of s rest))
 
 -- the number and the values of each case of `NumberRead`
-abbrev pub numberReply : NumberRead → Reply (Reading ℕ)
-numberReply (Number n next) = accept (reading n next)
-numberReply (Refused k) = refuse k
+abbrev pub number_reply : NumberRead → Reply (Reading ℕ)
+number_reply (Number n next) = accept (reading n next)
+number_reply (Refused k) = refuse k
 
 -- its number: 0 where a number was read
-abbrev pub numberRefusal : NumberRead → ℕ
-numberRefusal read = number (numberReply read)
+abbrev pub number_refusal : NumberRead → ℕ
+number_refusal read = number (number_reply read)
 
 -- "Significant bits are 32 less the leading zeros"; of a number of another width, that width less them.
-abbrev pub significantBitsIn : ℕ → ℕ → ℕ
-significantBitsIn width n = width - count_leading_zeros width n
+abbrev pub significant_bits_in : ℕ → ℕ → ℕ
+significant_bits_in width n = width - count_leading_zeros width n
 
-abbrev pub significantBits : ℕ → ℕ
-significantBits = significantBitsIn 32
+abbrev pub significant_bits : ℕ → ℕ
+significant_bits = significant_bits_in 32
 
 -- S-5, of the byte count: "significant bits plus 6, divided by 7 and rounded down, at least 1."
 abbrev pub byte_count : ℕ → ℕ
 byte_count bits = max 1 ((bits + 6) / 7)
 
 -- The bytes that the writer uses: one, and up to `more` after it.
-unfoldable pub bytesUpTo : ℕ → ℕ → List ℕ
-bytesUpTo zero n = n ∷ []
-bytesUpTo (suc more) n = pick (ltb n 128) (n ∷ []) ((128 + n % 128) ∷ bytesUpTo more (n / 128))
+unfoldable pub bytes_up_to : ℕ → ℕ → List ℕ
+bytes_up_to zero n = n ∷ []
+bytes_up_to (suc more) n = pick (ltb n 128) (n ∷ []) ((128 + n % 128) ∷ bytes_up_to more (n / 128))
 
-abbrev pub numberBytes : ℕ → List ℕ
-numberBytes = bytesUpTo 4
+abbrev pub number_bytes : ℕ → List ℕ
+number_bytes = bytes_up_to 4
 
 -- the bytes of several numbers, one after the other
 abbrev pub bytes_of : List ℕ → List ℕ
 bytes_of [] = []
-bytes_of (n ∷ ns) = numberBytes n ++ bytes_of ns
+bytes_of (n ∷ ns) = number_bytes n ++ bytes_of ns
 
 -- the number of each case of `BytesWritten`, and how many bytes were written
-abbrev pub writtenReply : BytesWritten → Reply ℕ
-writtenReply (Bytes n) = accept n
-writtenReply (Unwritten k) = refuse k
+abbrev pub written_reply : BytesWritten → Reply ℕ
+written_reply (Bytes n) = accept n
+written_reply (Unwritten k) = refuse k
 
 -- what a writer answers, and the buffer that it leaves
 pub record Wrote : Type 0 where
@@ -115,7 +115,7 @@ pub record Wrote : Type 0 where
 
 -- a writer's call: its answer, and the buffer as it is left
 abbrev pub HasWritten : Wrote → BytesWritten → List ℕ → Type 0
-HasWritten w r left = (writtenReply r ≡ w.answer) × (left ≡ w.buffer)
+HasWritten w r left = (written_reply r ≡ w.answer) × (left ≡ w.buffer)
 
 -- nothing is written
 abbrev pub unwritten : ℕ → List ℕ → Wrote
@@ -127,12 +127,12 @@ unfoldable pub wrote : List ℕ → List ℕ → Wrote
 wrote bytes buffer =
     pick (leb (length bytes) (length buffer))
     (record { answer = accept (length bytes); buffer = bytes ++ drop (length bytes) buffer })
-    (unwritten tooShort buffer)
+    (unwritten too_short buffer)
 
 -- the same after a check: its refusal comes first, and then nothing is written
-abbrev pub wroteIf : Reply (Unit {0}) → List ℕ → List ℕ → Wrote
-wroteIf (refuse k) bytes buffer = unwritten k buffer
-wroteIf (accept right) bytes buffer = wrote bytes buffer
+abbrev pub wrote_if : Reply (Unit {0}) → List ℕ → List ℕ → Wrote
+wrote_if (refuse k) bytes buffer = unwritten k buffer
+wrote_if (accept right) bytes buffer = wrote bytes buffer
 
 -- bytes put at a place of a buffer: where they end, and the buffer as it is left
 pub record Puts (buffer : List ℕ) (at : ℕ) (bytes : List ℕ) (r : ℕ) (left : List ℕ) : Type 0 where
@@ -149,7 +149,7 @@ pub record PutIfFits (buffer : List ℕ) (at : ℕ) (bytes : List ℕ) (r : ℕ)
 -- every number is one of 32 bits
 pub data Fit : List ℕ → Type 0 where
   fit_none : Fit []
-  fit-one : {n : ℕ} {ns : List ℕ} → n < 2 ^ 32 → Fit ns → Fit (n ∷ ns)
+  fit_one : {n : ℕ} {ns : List ℕ} → n < 2 ^ 32 → Fit ns → Fit (n ∷ ns)
 
 -- Every number of a list is a byte, as those of a file are.
 abbrev pub is_byte : ℕ → Bool
@@ -164,20 +164,20 @@ WrittenAreBytes = (ns : List ℕ) → Fit ns → AreBytes (bytes_of ns)
 
 -- It is read back, whatever follows it.
 abbrev pub NumbersReadBack : Type 0
-NumbersReadBack = (n : ℕ) → n < 2 ^ 32 → (rest : List ℕ) → readNumber (numberBytes n ++ rest) ≡ accept (got n rest)
+NumbersReadBack = (n : ℕ) → n < 2 ^ 32 → (rest : List ℕ) → read_number (number_bytes n ++ rest) ≡ accept (got n rest)
 
 -- S-4: what is read was written so: the reader accepts the writer's bytes and no others.
 abbrev pub NumbersAreWritten : Type 0
 NumbersAreWritten =
     (s rest : List ℕ) (n : ℕ) → AreBytes s →
-    (readNumber s ≡ accept (got n rest)) ↔ ((n < 2 ^ 32) × (s ≡ numberBytes n ++ rest))
+    (read_number s ≡ accept (got n rest)) ↔ ((n < 2 ^ 32) × (s ≡ number_bytes n ++ rest))
 
 -- 42 is what a number gets that passes 1 and 2 and that the writer would have written otherwise, and nothing else gets it.
 abbrev pub PaddingIsRefused : Type 0
 PaddingIsRefused =
     (s : List ℕ) → AreBytes s →
-    (readNumber s ≡ refuse paddedNumber)
-    ↔ ((n : ℕ) × (rest : List ℕ) × (numberUpTo 4 15 s ≡ accept (got n rest)) × (s ≡ numberBytes n ++ rest → ⊥))
+    (read_number s ≡ refuse padded_number)
+    ↔ ((n : ℕ) × (rest : List ℕ) × (number_up_to 4 15 s ≡ accept (got n rest)) × (s ≡ number_bytes n ++ rest → ⊥))
 
 -- ---- how long numbers are; the proofs are proofs/Lengths.antt, that of `FewestBytes` proofs/RoundTrip.antt
 
@@ -186,24 +186,24 @@ abbrev pub FewestBits : ℕ → (ℕ → ℕ) → Type 0
 FewestBits width bits = (n k : ℕ) → n < 2 ^ width → (bits n ≤ k) ↔ (n < 2 ^ k)
 
 abbrev pub BitsAreFewest : Type 0
-BitsAreFewest = ((width : ℕ) → FewestBits width (significantBitsIn width)) × FewestBits 32 significantBits
+BitsAreFewest = ((width : ℕ) → FewestBits width (significant_bits_in width)) × FewestBits 32 significant_bits
 
 -- What is written is as long as the byte count of its significant bits: for numbers of any width, where the most bytes that there may
 -- be hold them, seven bits in each; and so for those of 32 bits, in up to 5.
 abbrev pub NumberLengths : Type 0
 NumberLengths =
-    (width more n : ℕ) → n < 2 ^ width → n < 128 ^ (1 + more) → length (bytesUpTo more n) ≡ byte_count (significantBitsIn width n)
+    (width more n : ℕ) → n < 2 ^ width → n < 128 ^ (1 + more) → length (bytes_up_to more n) ≡ byte_count (significant_bits_in width n)
 
 abbrev pub NumberLength : Type 0
-NumberLength = (n : ℕ) → n < 2 ^ 32 → length (numberBytes n) ≡ byte_count (significantBits n)
+NumberLength = (n : ℕ) → n < 2 ^ 32 → length (number_bytes n) ≡ byte_count (significant_bits n)
 
 -- The byte count is the fewest that will do: k bytes are enough just where k is at least 1 and the number is below 128 ^ k.
 abbrev pub CountsAreFewest : Type 0
-CountsAreFewest = (width n k : ℕ) → n < 2 ^ width → (byte_count (significantBitsIn width n) ≤ k) ↔ ((0 < k) × (n < 128 ^ k))
+CountsAreFewest = (width n k : ℕ) → n < 2 ^ width → (byte_count (significant_bits_in width n) ≤ k) ↔ ((0 < k) × (n < 128 ^ k))
 
 -- No bytes that stand for a number, padded or not, are fewer than those that are written, whatever `more` and `top` are; for 32 bits
 -- they are 4 and 0F.
 abbrev pub FewestBytes : Type 0
 FewestBytes =
-    (more top n : ℕ) (s rest : List ℕ) → AreBytes s → numberUpTo more top s ≡ accept (got n rest)
-    → length (bytesUpTo more n) + length rest ≤ length s
+    (more top n : ℕ) (s rest : List ℕ) → AreBytes s → number_up_to more top s ≡ accept (got n rest)
+    → length (bytes_up_to more n) + length rest ≤ length s

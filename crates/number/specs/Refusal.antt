@@ -7,136 +7,136 @@ abbrev pub ended : ℕ
 ended = 1
 
 -- a number's fifth byte is above 0F
-abbrev pub tooLarge : ℕ
-tooLarge = 2
+abbrev pub too_large : ℕ
+too_large = 2
 
 -- fields per access are not 2
-abbrev pub badFields : ℕ
-badFields = 3
+abbrev pub bad_fields : ℕ
+bad_fields = 3
 
 -- the number of groups is not 1 to 16
-abbrev pub badGroupCount : ℕ
-badGroupCount = 4
+abbrev pub bad_group_count : ℕ
+bad_group_count = 4
 
 -- a group's counts: one is above 16
-abbrev pub badCounts : ℕ
-badCounts = 5
+abbrev pub bad_counts : ℕ
+bad_counts = 5
 
 -- a port is above 31
-abbrev pub badPort : ℕ
-badPort = 6
+abbrev pub bad_port : ℕ
+bad_port = 6
 
 -- a port was seen before in the table
-abbrev pub portSeen : ℕ
-portSeen = 7
+abbrev pub port_seen : ℕ
+port_seen = 7
 
 -- an offset is wrong: a load's above the store count or below the load before, a store's disagreeing with the loads
-abbrev pub badOffset : ℕ
-badOffset = 8
+abbrev pub bad_offset : ℕ
+bad_offset = 8
 
 -- bytes are left over after a table
-abbrev pub leftOver : ℕ
-leftOver = 9
+abbrev pub left_over : ℕ
+left_over = 9
 
 -- a lent buffer is too short
-abbrev pub tooShort : ℕ
-tooShort = 10
+abbrev pub too_short : ℕ
+too_short = 10
 
 -- the load depth is not 1 to 64
-abbrev pub badLoadDepth : ℕ
-badLoadDepth = 11
+abbrev pub bad_load_depth : ℕ
+bad_load_depth = 11
 
 -- the store depth is not 1 to 64
-abbrev pub badStoreDepth : ℕ
-badStoreDepth = 12
+abbrev pub bad_store_depth : ℕ
+bad_store_depth = 12
 
 -- the memory length is not 1 to 4,096
-abbrev pub badMemoryLength : ℕ
-badMemoryLength = 13
+abbrev pub bad_memory_length : ℕ
+bad_memory_length = 13
 
 -- some group has more loads or stores than its depth
-abbrev pub groupTooLarge : ℕ
-groupTooLarge = 14
+abbrev pub group_too_large : ℕ
+group_too_large = 14
 
 -- there is no such group
-abbrev pub noGroup : ℕ
-noGroup = 20
+abbrev pub no_group : ℕ
+no_group = 20
 
 -- there are too few free places on either side
-abbrev pub noPlace : ℕ
-noPlace = 21
+abbrev pub no_place : ℕ
+no_place = 21
 
 -- the port is not in the table
-abbrev pub noPort : ℕ
-noPort = 22
+abbrev pub no_port : ℕ
+no_port = 22
 
 -- the address is not below the memory length
-abbrev pub badAddress : ℕ
-badAddress = 23
+abbrev pub bad_address : ℕ
+bad_address = 23
 
 -- no entry waits for the argument
-abbrev pub noneWaits : ℕ
-noneWaits = 24
+abbrev pub none_waits : ℕ
+none_waits = 24
 
 -- the serial is not in the queue
-abbrev pub noSerial : ℕ
-noSerial = 25
+abbrev pub no_serial : ℕ
+no_serial = 25
 
 -- the load was served already, or the store written
-abbrev pub alreadyDone : ℕ
-alreadyDone = 26
+abbrev pub already_done : ℕ
+already_done = 26
 
 -- the load to be served, or the store to be written, has no address
-abbrev pub noAddress : ℕ
-noAddress = 27
+abbrev pub no_address : ℕ
+no_address = 27
 
 -- an earlier store has no address, and no nearer one has the load's
-abbrev pub earlierStoreUnknown : ℕ
-earlierStoreUnknown = 28
+abbrev pub earlier_store_unknown : ℕ
+earlier_store_unknown = 28
 
 -- the store to forward from, or the store to be written, has no data
-abbrev pub noData : ℕ
-noData = 29
+abbrev pub no_data : ℕ
+no_data = 29
 
 -- the lent memory has another length than at opening
-abbrev pub wrongMemory : ℕ
-wrongMemory = 30
+abbrev pub wrong_memory : ℕ
+wrong_memory = 30
 
 -- an earlier unserved load has no address or the same one
-abbrev pub loadConflict : ℕ
-loadConflict = 31
+abbrev pub load_conflict : ℕ
+load_conflict = 31
 
 -- an earlier unwritten store has no address or the same one
-abbrev pub storeConflict : ℕ
-storeConflict = 32
+abbrev pub store_conflict : ℕ
+store_conflict = 32
 
 -- no untaken load of the port is queued
-abbrev pub noneUntaken : ℕ
-noneUntaken = 33
+abbrev pub none_untaken : ℕ
+none_untaken = 33
 
 -- the port's oldest untaken load is not served
-abbrev pub notServed : ℕ
-notServed = 34
+abbrev pub not_served : ℕ
+not_served = 34
 
 -- an event's kind is above 6
-abbrev pub badKind : ℕ
-badKind = 35
+abbrev pub bad_kind : ℕ
+bad_kind = 35
 
 -- a file has more than 16,384 bytes
-abbrev pub fileTooLong : ℕ
-fileTooLong = 36
+abbrev pub file_too_long : ℕ
+file_too_long = 36
 
 -- the record is not one that the rules speak of
 abbrev pub unsound : ℕ
 unsound = 40
 
 -- a page buffer has fewer than 1,394 bytes
-abbrev pub pageTooShort : ℕ
-pageTooShort = 41
+abbrev pub page_too_short : ℕ
+page_too_short = 41
 
 -- S-4: a number of more than one byte has 00 as its last byte
-abbrev pub paddedNumber : ℕ
-paddedNumber = 42
+abbrev pub padded_number : ℕ
+padded_number = 42
 
 -- S-6: more than 32 accesses or 64 pairs, or a pair naming an access not listed
 abbrev pub unlisted : ℕ

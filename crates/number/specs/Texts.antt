@@ -10,10 +10,10 @@ bytes []ˢ = []
 bytes (c ∷ˢ s) = code c ∷ bytes s
 
 -- A number in decimal: no leading zero, and 0 is one digit. Here one digit, and up to `more` before it.
-unfoldable pub digitsUpTo : ℕ → ℕ → List ℕ
-digitsUpTo zero n = (48 + n % 10) ∷ []
-digitsUpTo (suc more) n = let high = digitsUpTo more (n / 10) in pick (ltb n 10) ((48 + n) ∷ []) (high ++ (48 + n % 10) ∷ [])
+unfoldable pub digits_up_to : ℕ → ℕ → List ℕ
+digits_up_to zero n = (48 + n % 10) ∷ []
+digits_up_to (suc more) n = let high = digits_up_to more (n / 10) in pick (ltb n 10) ((48 + n) ∷ []) (high ++ (48 + n % 10) ∷ [])
 
 -- twenty digits hold every number of 64 bits
 abbrev pub decimal : ℕ → List ℕ
-decimal = digitsUpTo 19
+decimal = digits_up_to 19

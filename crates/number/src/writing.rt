@@ -1,14 +1,14 @@
 // Writing numbers, in the fewest bytes.
 ghost use Rattle.std.specs.Prelude.{◌≡◌, ◌+◌, ◌≤◌, length};
-ghost use Rattle.number.specs.Number.{numberBytes, byte_count, significantBits, HasWritten, wrote, Puts, PutIfFits};
+ghost use Rattle.number.specs.Number.{number_bytes, byte_count, significant_bits, HasWritten, wrote, Puts, PutIfFits};
 
 use crate::BytesWritten;
 use crate::refusal::TOO_SHORT;
 
 // How many bytes the writer uses for a number: up to seven of its significant bits go in each, and 0, which has none, takes one.
 pub fn number_length(value: u32) -> usize
-    ensures value { result ≡ byte_count (significantBits value) }
-    ensures value_2 { result ≡ length (numberBytes value) }
+    ensures value { result ≡ byte_count (significant_bits value) }
+    ensures value_2 { result ≡ length (number_bytes value) }
 {
     let bits = 32 - u32::leading_zeros(value);
     let count = (bits + 6) / 7;
@@ -20,8 +20,8 @@ pub fn number_length(value: u32) -> usize
 
 // Puts a number's bytes at a place where they fit, and says where they end.
 fn put_fitting(out: &mut [u8], at: usize, value: u32) -> usize
-    requires { at + length (numberBytes value) ≤ length out.old }
-    ensures { Puts out.old at (numberBytes value) result out.new }
+    requires { at + length (number_bytes value) ≤ length out.old }
+    ensures { Puts out.old at (number_bytes value) result out.new }
 {
     let mut left = value;
     let mut place = at;
@@ -36,7 +36,7 @@ fn put_fitting(out: &mut [u8], at: usize, value: u32) -> usize
 
 // Puts a number's bytes at a place, and says where they end. Where they do not fit, it puts nothing and says the place itself.
 pub fn put_number(out: &mut [u8], at: usize, value: u32) -> usize
-    ensures { PutIfFits out.old at (numberBytes value) result out.new }
+    ensures { PutIfFits out.old at (number_bytes value) result out.new }
 {
     let length = out.len();
     if length < at {
@@ -50,7 +50,7 @@ pub fn put_number(out: &mut [u8], at: usize, value: u32) -> usize
 
 // Writes a number at the front of a buffer, in the fewest bytes.
 pub fn write_number(value: u32, out: &mut [u8]) -> BytesWritten
-    ensures { HasWritten (wrote (numberBytes value) out.old) result out.new }
+    ensures { HasWritten (wrote (number_bytes value) out.old) result out.new }
 {
     let length = number_length(value);
     if out.len() < length {

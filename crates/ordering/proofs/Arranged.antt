@@ -15,7 +15,7 @@ use Rattle.ordering.specs.declared.Precedence.{Precedence}
 use Rattle.ordering.specs.Orders.{asks, times, position, AtMost, one, Circle}
 use Rattle.ordering.specs.Answer.{Waiting, without, ready, next, arrange}
 use Rattle.ordering.proofs.Tests.{false-true, seek-passes, seek-least, ready-none-before, not-ready-some-before}
-use Rattle.ordering.proofs.Tests.{without_other, tally, tally-none, tally-some, tally-without}
+use Rattle.ordering.proofs.Tests.{without_other, tally, tally_none, tally_some, tally-without}
 use Rattle.ordering.proofs.Circles.{Leads, preceded-circle}
 
 -- ---- each once
@@ -120,17 +120,17 @@ module _ (n : ℕ) (pairs : List Precedence) where
     stuck : arrange n pairs k w ≡ none → Circle pairs → Outcome k w
 
   module _ (w : Waiting) (below : (a : ℕ) → w a ≡ true → a < n) where
-    none-waits : tally w n ≡ 0 → (a : ℕ) → w a ≡ false
-    none-waits empty a = go (w a) refl
+    none_waits_lem : tally w n ≡ 0 → (a : ℕ) → w a ≡ false
+    none_waits_lem empty a = go (w a) refl
       where
         go : (t : Bool) → w a ≡ t → w a ≡ false
-        go true e = tally-none w n empty a (below a e)
+        go true e = tally_none w n empty a (below a e)
         go false e = e
 
     -- some wait and none is ready
     stuck-circle : (k : ℕ) → tally w n ≡ suc k → n ≤ next n pairs w → Circle pairs
     stuck-circle k many none-ready =
-        let (b, low, waits) = tally-some w n k many in
+        let (b, low, waits) = tally_some w n k many in
         preceded-circle pairs w n (λ c low waits. go c low waits (ready pairs w c) refl) b low waits
       where
         go : (c : ℕ) → c < n → w c ≡ true → (t : Bool) → ready pairs w c ≡ t → Leads pairs w n c
@@ -145,7 +145,7 @@ module _ (n : ℕ) (pairs : List Precedence) where
     taken k e (stuck is l) = stuck (rw (e, is)) l
 
   pub arrange-outcome : (k : ℕ) (w : Waiting) → ((a : ℕ) → w a ≡ true → a < n) → tally w n ≡ k → Outcome k w
-  arrange-outcome zero w below many = arranged [] refl (none-waits w below many)
+  arrange-outcome zero w below many = arranged [] refl (none_waits_lem w below many)
   arrange-outcome (suc k) w below many = go (ltb (next n pairs w) n) refl (λ below many. arrange-outcome k (without (next n pairs w) w) below many)
     where
       go : (t : Bool) → ltb (next n pairs w) n ≡ t

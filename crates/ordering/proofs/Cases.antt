@@ -21,25 +21,25 @@ abbrev down : ℕ → List ℕ
 down zero = 0 ∷ []
 down (suc n) = suc n ∷ down n
 
-no-accesses : answer 0 [] ≡ accept []
-no-accesses = refl
+no_accesses : answer 0 [] ≡ accept []
+no_accesses = refl
 
-none-listed : answer 0 (then 0 0 ∷ []) ≡ refuse unlisted
-none-listed = refl
+none_listed : answer 0 (then 0 0 ∷ []) ≡ refuse unlisted
+none_listed = refl
 
 -- one of the two is listed
-second-not-listed : answer 2 (then 0 2 ∷ []) ≡ refuse unlisted
-second-not-listed = refl
+second_not_listed : answer 2 (then 0 2 ∷ []) ≡ refuse unlisted
+second_not_listed = refl
 
-first-not-listed : answer 2 (then 2 0 ∷ []) ≡ refuse unlisted
-first-not-listed = refl
+first_not_listed : answer 2 (then 2 0 ∷ []) ≡ refuse unlisted
+first_not_listed = refl
 
 by_number : answer 4 (then 3 1 ∷ []) ≡ accept (0 ∷ 2 ∷ 3 ∷ 1 ∷ [])
 by_number = refl
 
 -- the order begins with 1, and access 0 is not put as far left as it could be
-from-the-left : answer 3 (then 2 0 ∷ []) ≡ accept (1 ∷ 2 ∷ 0 ∷ [])
-from-the-left = refl
+from_the_left : answer 3 (then 2 0 ∷ []) ≡ accept (1 ∷ 2 ∷ 0 ∷ [])
+from_the_left = refl
 
 reverse-chain : answer 32 (falling 31) ≡ accept (down 31)
 reverse-chain = refl
@@ -48,18 +48,18 @@ with_itself : answer 3 (then 1 1 ∷ []) ≡ refuse circle
 with_itself = refl
 
 -- 0 is free: nothing is given all the same
-far-from-zero : answer 32 (then 30 31 ∷ then 31 30 ∷ []) ≡ refuse circle
-far-from-zero = refl
+far_from_zero : answer 32 (then 30 31 ∷ then 31 30 ∷ []) ≡ refuse circle
+far_from_zero = refl
 
-too-many-with-circle : answer 33 (then 1 1 ∷ []) ≡ refuse unlisted
-too-many-with-circle = refl
+too_many_with_circle : answer 33 (then 1 1 ∷ []) ≡ refuse unlisted
+too_many_with_circle = refl
 
-sixty-four-copies : answer 2 (replicate 64 (then 1 0)) ≡ accept (1 ∷ 0 ∷ [])
-sixty-four-copies = refl
+sixty_four_copies : answer 2 (replicate 64 (then 1 0)) ≡ accept (1 ∷ 0 ∷ [])
+sixty_four_copies = refl
 
-sixty-five-copies : answer 2 (replicate 65 (then 0 0)) ≡ refuse unlisted
-sixty-five-copies = refl
+sixty_five_copies : answer 2 (replicate 65 (then 0 0)) ≡ refuse unlisted
+sixty_five_copies = refl
 
 -- the whole record: every place beyond the order is 0
-one-access : ordered (answer 1 []) ≡ record { answer = 0; count = 1; accesses = replicate 32 0 }
-one-access = refl
+one_access : ordered (answer 1 []) ≡ record { answer = 0; count = 1; accesses = replicate 32 0 }
+one_access = refl

@@ -17,20 +17,20 @@ use Rattle.number.proofs.HeldLaws.{drop-replicate}
 use Rattle.ordering.specs.declared.Precedence.{Precedence}
 use Rattle.ordering.specs.declared.Precedences.{Precedences}
 use Rattle.ordering.specs.Answer.{seek, Waiting, without, blocks, followed, next, arrange, arranged}
-use Rattle.ordering.specs.Records.{blankPrecedence, precedencesOf, ordered}
+use Rattle.ordering.specs.Records.{blank_precedence, precedences_of, ordered}
 use Rattle.ordering.specs.Internal.{waits, Unready}
-use Rattle.ordering.proofs.Tests.{or-true}
+use Rattle.ordering.proofs.Tests.{or_true}
 use Rattle.ordering.proofs.RecordLaws.{pairs-length, take-pairs}
 
 -- ---- the accesses that are not ready, marked pair by pair
 
-or-false : (t : Bool) → t || false ≡ t
-or-false true = refl
-or-false false = refl
+or_false : (t : Bool) → t || false ≡ t
+or_false true = refl
+or_false false = refl
 
-any-more : {A : Type 0} (p : A → Bool) (xs : List A) (x : A) → any_of p (xs ++ x ∷ []) ≡ any_of p xs || p x
-any-more p [] x = or-false (p x)
-any-more p (y ∷ ys) x = rw (any-more p ys x) (go (p y))
+any_more : {A : Type 0} (p : A → Bool) (xs : List A) (x : A) → any_of p (xs ++ x ∷ []) ≡ any_of p xs || p x
+any_more p [] x = or_false (p x)
+any_more p (y ∷ ys) x = rw (any_more p ys x) (go (p y))
   where
     go : (t : Bool) → t || (any_of p ys || p x) ≡ (t || any_of p ys) || p x
     go true = refl
@@ -38,26 +38,26 @@ any-more p (y ∷ ys) x = rw (any-more p ys x) (go (p y))
 
 -- the first i pairs were looked at
 pub record Marked (w : Waiting) (placed marks : List Bool) (pairs : Precedences) (i : ℕ) : Type 0 where
-  pub is : (a : ℕ) → get_or marks a false ≡ get_or placed a false || any_of (blocks w a) (take i (precedencesOf pairs))
+  pub is : (a : ℕ) → get_or marks a false ≡ get_or placed a false || any_of (blocks w a) (take i (precedences_of pairs))
 
-pub marked-none : {w : Waiting} {placed : List Bool} {pairs : Precedences} → Marked w placed placed pairs 0
-marked-none {w} {placed} = record { is = λ a. sym (or-false (get_or placed a false)) }
+pub marked_none : {w : Waiting} {placed : List Bool} {pairs : Precedences} → Marked w placed placed pairs 0
+marked_none {w} {placed} = record { is = λ a. sym (or_false (get_or placed a false)) }
 
 module _ {w : Waiting} {placed marks : List Bool} {pairs : Precedences} {i : ℕ} (so : Marked w placed marks pairs i) (low : i < pairs.count) where
   abbrev pair : Precedence
-  pair = get_or pairs.pairs i blankPrecedence
+  pair = get_or pairs.pairs i blank_precedence
 
   abbrev passed : ℕ → Bool
-  passed a = any_of (blocks w a) (take i (precedencesOf pairs))
+  passed a = any_of (blocks w a) (take i (precedences_of pairs))
 
-  one_more : (a : ℕ) → any_of (blocks w a) (take (i + 1) (precedencesOf pairs)) ≡ passed a || blocks w a pair
-  one_more a = rw (add-one, take-pairs pairs i low) (any-more (blocks w a) (take i (precedencesOf pairs)) pair)
+  one_more : (a : ℕ) → any_of (blocks w a) (take (i + 1) (precedences_of pairs)) ≡ passed a || blocks w a pair
+  one_more a = rw (add-one, take-pairs pairs i low) (any_more (blocks w a) (take i (precedences_of pairs)) pair)
 
   or-last : (s t : Bool) → s || t ≡ s || (t || false)
-  or-last s t = rw (or-false t)
+  or-last s t = rw (or_false t)
 
   or-all : (s t : Bool) → true ≡ s || (t || true)
-  or-all s t = rw (or-true t, or-true s)
+  or-all s t = rw (or_true t, or_true s)
 
   pub marked-keep : w pair.first ≡ false → Marked w placed marks pairs (i + 1)
   marked-keep e = record { is = λ a. so.is a ∙ rw (one_more a, e) (or-last (get_or placed a false) (passed a)) }
@@ -66,7 +66,7 @@ module _ {w : Waiting} {placed marks : List Bool} {pairs : Precedences} {i : ℕ
   marked-set e room = record { is = λ a. go a (eqb pair.second a) refl }
     where
       go : (a : ℕ) (t : Bool) → eqb pair.second a ≡ t
-          → get_or (set marks pair.second true) a false ≡ get_or placed a false || any_of (blocks w a) (take (i + 1) (precedencesOf pairs))
+          → get_or (set marks pair.second true) a false ≡ get_or placed a false || any_of (blocks w a) (take (i + 1) (precedences_of pairs))
       go a true d =
           let is : get_or (set marks pair.second true) a false ≡ true =
           rw (← eqb-true pair.second a d) (get_or-set_same marks pair.second true false room) in
@@ -77,11 +77,11 @@ module _ {w : Waiting} {placed marks : List Bool} {pairs : Precedences} {i : ℕ
 
 -- all pairs were looked at: the marks are those of the accesses that are not ready
 pub marked-unready : {n : ℕ} {placed marks : List Bool} {pairs : Precedences} {i : ℕ} → Marked (waits n placed) placed marks pairs i → pairs.count ≤ i
-    → Unready n (precedencesOf pairs) placed marks
+    → Unready n (precedences_of pairs) placed marks
 marked-unready {n} {placed} {marks} {pairs} {i} so high = record { is = λ a low. rw (so.is a, all-pairs, lt-ltb a n low) (go (get_or placed a false) _) }
   where
-    all-pairs : take i (precedencesOf pairs) ≡ precedencesOf pairs
-    all-pairs = take_all i (precedencesOf pairs) (rw (pairs-length pairs) high)
+    all-pairs : take i (precedences_of pairs) ≡ precedences_of pairs
+    all-pairs = take_all i (precedences_of pairs) (rw (pairs-length pairs) high)
 
     go : (s t : Bool) → not (s || t) ≡ not s && not t
     go true t = refl
@@ -89,15 +89,15 @@ marked-unready {n} {placed} {marks} {pairs} {i} so high = record { is = λ a low
 
 -- ---- the search
 
-pub seek-same : (p q : ℕ → Bool) (k i : ℕ) → ((a : ℕ) → a < i + k → p a ≡ q a) → seek p k i ≡ seek q k i
-seek-same p q zero i h = refl
-seek-same p q (suc k) i h = rw (h i (omega arith), seek-same p q k (suc i) (λ a l. h a (omega arith)))
+pub seek_same : (p q : ℕ → Bool) (k i : ℕ) → ((a : ℕ) → a < i + k → p a ≡ q a) → seek p k i ≡ seek q k i
+seek_same p q zero i h = refl
+seek_same p q (suc k) i h = rw (h i (omega arith), seek_same p q k (suc i) (λ a l. h a (omega arith)))
 
 pub record Sought (p : ℕ → Bool) (n i : ℕ) : Type 0 where
   pub is : seek p n 0 ≡ seek p (n - i) i
 
-pub sought-none : {p : ℕ → Bool} {n : ℕ} → Sought p n 0
-sought-none {p} {n} = record { is = let whole : n - 0 ≡ n = omega arith in rw whole }
+pub sought_none : {p : ℕ → Bool} {n : ℕ} → Sought p n 0
+sought_none {p} {n} = record { is = let whole : n - 0 ≡ n = omega arith in rw whole }
 
 module _ {p : ℕ → Bool} {n i : ℕ} (so : Sought p n i) where
   step : i < n → n - i ≡ suc (n - (i + 1))
@@ -120,8 +120,8 @@ unset (suc k) zero = refl
 unset (suc k) (suc a) = unset k a
 
 -- nothing is marked at first
-waits-none : (n : ℕ) → waits n (replicate 32 false) ≡ (λ a. ltb a n)
-waits-none n = fun_ext λ a. rw (unset 32 a) (go (ltb a n))
+waits_none : (n : ℕ) → waits n (replicate 32 false) ≡ (λ a. ltb a n)
+waits_none n = fun_ext λ a. rw (unset 32 a) (go (ltb a n))
   where
     go : (t : Bool) → t && true ≡ t
     go true = refl
@@ -150,9 +150,9 @@ abbrev pub behind : List ℕ → Option (List ℕ) → Option (List ℕ)
 behind front none = none
 behind front (some rest) = some (front ++ rest)
 
-behind-none : (o : Option (List ℕ)) → o ≡ behind [] o
-behind-none none = refl
-behind-none (some xs) = refl
+behind_none : (o : Option (List ℕ)) → o ≡ behind [] o
+behind_none none = refl
+behind_none (some xs) = refl
 
 behind_more : (xs : List ℕ) (x : ℕ) (o : Option (List ℕ)) → behind xs (followed x o) ≡ behind (xs ++ x ∷ []) o
 behind_more xs x none = refl
@@ -170,9 +170,9 @@ module _ (n : ℕ) (pairs : List Precedence) (k : ℕ) (w : Waiting) (a : ℕ) (
   arrange-stop : n ≤ a → arrange n pairs (suc k) w ≡ none
   arrange-stop high = rw (le-ltb (next n pairs w) n (rw is at high))
 
-pub placing-none : {n : ℕ} {pairs : List Precedence} → Placing n pairs (replicate 32 false) (replicate 32 0) 0
-placing-none {n} {pairs} = record {
-  is = let whole : n - 0 ≡ n = omega arith in rw (whole, waits-none n) (behind-none (arrange n pairs n (λ a. ltb a n)));
+pub placing_none : {n : ℕ} {pairs : List Precedence} → Placing n pairs (replicate 32 false) (replicate 32 0) 0
+placing_none {n} {pairs} = record {
+  is = let whole : n - 0 ≡ n = omega arith in rw (whole, waits_none n) (behind_none (arrange n pairs n (λ a. ltb a n)));
   rest = refl;
 }
 

@@ -9,30 +9,30 @@ use lib.Seq.{take-suc}
 use borrow.Author.Tests.{ltb-true, le-leb, lt-leb}
 use Rattle.number.specs.Reply.{refuse}
 use Rattle.number.specs.Refusal.{unlisted}
-use Rattle.number.proofs.AllLaws.{all-at}
+use Rattle.number.proofs.AllLaws.{all_at}
 use Rattle.number.proofs.Both.{and_left, and_right}
 use Rattle.number.proofs.HeldLaws.{held-here, held-length}
 use Rattle.ordering.specs.declared.Precedence.{Precedence}
 use Rattle.ordering.specs.declared.Precedences.{Precedences}
 use Rattle.ordering.specs.Answer.{allListed, arranged, answer}
-use Rattle.ordering.specs.Records.{blankPrecedence, precedencesOf}
+use Rattle.ordering.specs.Records.{blank_precedence, precedences_of}
 
 module _ (pairs : Precedences) where
-  pub pairs-length : length (precedencesOf pairs) ≡ pairs.count
-  pairs-length = held-length blankPrecedence pairs.count pairs.pairs
+  pub pairs-length : length (precedences_of pairs) ≡ pairs.count
+  pairs-length = held-length blank_precedence pairs.count pairs.pairs
 
-  pub pair-here : (i : ℕ) → i < pairs.count → get_or (precedencesOf pairs) i blankPrecedence ≡ get_or pairs.pairs i blankPrecedence
-  pair-here i low = held-here blankPrecedence pairs.count pairs.pairs i low
+  pub pair-here : (i : ℕ) → i < pairs.count → get_or (precedences_of pairs) i blank_precedence ≡ get_or pairs.pairs i blank_precedence
+  pair-here i low = held-here blank_precedence pairs.count pairs.pairs i low
 
-  pub take-pairs : (i : ℕ) → i < pairs.count → take (suc i) (precedencesOf pairs) ≡ take i (precedencesOf pairs) ++ get_or pairs.pairs i blankPrecedence ∷ []
-  take-pairs i low = take-suc (precedencesOf pairs) i blankPrecedence (rw pairs-length low) ∙ rw (pair-here i low)
+  pub take-pairs : (i : ℕ) → i < pairs.count → take (suc i) (precedences_of pairs) ≡ take i (precedences_of pairs) ++ get_or pairs.pairs i blank_precedence ∷ []
+  take-pairs i low = take-suc (precedences_of pairs) i blank_precedence (rw pairs-length low) ∙ rw (pair-here i low)
 
   -- what 43 has ruled out, of one pair
-  pub listed_here : (n i : ℕ) → allListed n (precedencesOf pairs) ≡ true → i < pairs.count
-      → ((get_or pairs.pairs i blankPrecedence).first < n) × ((get_or pairs.pairs i blankPrecedence).second < n)
+  pub listed_here : (n i : ℕ) → allListed n (precedences_of pairs) ≡ true → i < pairs.count
+      → ((get_or pairs.pairs i blank_precedence).first < n) × ((get_or pairs.pairs i blank_precedence).second < n)
   listed_here n i h low =
-      let p = get_or pairs.pairs i blankPrecedence in
-      let e : ltb p.first n && ltb p.second n ≡ true = rw (pair-here i low) at (all-at _ (precedencesOf pairs) i blankPrecedence h (rw pairs-length low)) in
+      let p = get_or pairs.pairs i blank_precedence in
+      let e : ltb p.first n && ltb p.second n ≡ true = rw (pair-here i low) at (all_at _ (precedences_of pairs) i blank_precedence h (rw pairs-length low)) in
       (ltb-true p.first n (and_left (ltb p.first n) _ e), ltb-true p.second n (and_right (ltb p.first n) _ e))
 
 -- ---- the answer, by the checks that were passed, in their order

@@ -19,9 +19,9 @@ false-true e = absurd (false≢true e)
 pub zero_one : {A : Type 0} → ◌≡◌ {A = ℕ} 0 1 → A
 zero_one e = let z : ⊥ = omega arith in absurd z
 
-pub or-true : (a : Bool) → a || true ≡ true
-or-true true = refl
-or-true false = refl
+pub or_true : (a : Bool) → a || true ≡ true
+or_true true = refl
+or_true false = refl
 
 pick-suc : (t : Bool) (a b : ℕ) → pick t (suc a) (suc b) ≡ suc (pick t a b)
 pick-suc true a b = refl
@@ -57,8 +57,8 @@ module _ (w : Waiting) (b : ℕ) where
     where
       go : (s : Bool) → eqb p.first a ≡ s → (t : Bool) → eqb p.second b ≡ t → (s && t) || asks ps a b ≡ true
           → (asks ps a b ≡ true → any_of (blocks w b) ps ≡ true) → (w p.first && t) || any_of (blocks w b) ps ≡ true
-      go false e t d k rest = rw (rest k) (or-true (w p.first && t))
-      go true e false d k rest = rw (rest k) (or-true (w p.first && false))
+      go false e t d k rest = rw (rest k) (or_true (w p.first && t))
+      go true e false d k rest = rw (rest k) (or_true (w p.first && false))
       go true e true d k rest = rw (eqb-true p.first a e, waits)
 
   -- and only such a one does
@@ -70,7 +70,7 @@ module _ (w : Waiting) (b : ℕ) where
           → (any_of (blocks w b) ps ≡ true → (a : ℕ) × (w a ≡ true) × (asks ps a b ≡ true)) → (a : ℕ) × (w a ≡ true) × (asks (p ∷ ps) a b ≡ true)
       go true e h rest =
           (p.first, and_left (w p.first) (eqb p.second b) e, rw (eq-eqb p.first p.first refl, and_right (w p.first) (eqb p.second b) e))
-      go false e h rest = let (a, waits, k) = rest h in (a, waits, rw k (or-true (eqb p.first a && eqb p.second b)))
+      go false e h rest = let (a, waits, k) = rest h in (a, waits, rw k (or_true (eqb p.first a && eqb p.second b)))
 
   pub ready-none-before : (a : ℕ) (pairs : List Precedence) → ready pairs w b ≡ true → asks pairs a b ≡ true → w a ≡ false
   ready-none-before a pairs h k = go (w a) refl
@@ -88,18 +88,18 @@ abbrev pub tally : Waiting → ℕ → ℕ
 tally w zero = 0
 tally w (suc n) = pick (w n) (suc (tally w n)) (tally w n)
 
-pub tally-none : (w : Waiting) (n : ℕ) → tally w n ≡ 0 → (a : ℕ) → a < n → w a ≡ false
-tally-none w zero h a low = let z : ⊥ = omega arith in absurd z
-tally-none w (suc n) h a low = go (w n) refl h (eqb a n) refl (λ h l. tally-none w n h a l)
+pub tally_none : (w : Waiting) (n : ℕ) → tally w n ≡ 0 → (a : ℕ) → a < n → w a ≡ false
+tally_none w zero h a low = let z : ⊥ = omega arith in absurd z
+tally_none w (suc n) h a low = go (w n) refl h (eqb a n) refl (λ h l. tally_none w n h a l)
   where
     go : (t : Bool) → w n ≡ t → pick t (suc (tally w n)) (tally w n) ≡ 0 → (s : Bool) → eqb a n ≡ s → (tally w n ≡ 0 → a < n → w a ≡ false) → w a ≡ false
     go true e h s d rest = let z : ⊥ = omega arith in absurd z
     go false e h true d rest = rw (eqb-true a n d) e
     go false e h false d rest = let other = eqb-false a n d in rest h (omega arith)
 
-pub tally-some : (w : Waiting) (n k : ℕ) → tally w n ≡ suc k → (a : ℕ) × (a < n) × (w a ≡ true)
-tally-some w zero k h = let z : ⊥ = omega arith in absurd z
-tally-some w (suc n) k h = go (w n) refl h (λ h. tally-some w n k h)
+pub tally_some : (w : Waiting) (n k : ℕ) → tally w n ≡ suc k → (a : ℕ) × (a < n) × (w a ≡ true)
+tally_some w zero k h = let z : ⊥ = omega arith in absurd z
+tally_some w (suc n) k h = go (w n) refl h (λ h. tally_some w n k h)
   where
     go : (t : Bool) → w n ≡ t → pick t (suc (tally w n)) (tally w n) ≡ suc k
         → (tally w n ≡ suc k → (a : ℕ) × (a < n) × (w a ≡ true)) → (a : ℕ) × (a < suc n) × (w a ≡ true)
@@ -113,27 +113,27 @@ without_other w a b other = rw (ne_eqb a b other) (go (w b))
     go true = refl
     go false = refl
 
-pub without-self : (w : Waiting) (a : ℕ) → without a w a ≡ false
-without-self w a = rw (eq-eqb a a refl) (go (w a))
+pub without_self : (w : Waiting) (a : ℕ) → without a w a ≡ false
+without_self w a = rw (eq-eqb a a refl) (go (w a))
   where
     go : (t : Bool) → t && false ≡ false
     go true = refl
     go false = refl
 
-tally-past : (w : Waiting) (a n : ℕ) → n ≤ a → tally (without a w) n ≡ tally w n
-tally-past w a zero h = refl
-tally-past w a (suc n) h = rw (without_other w a n (λ e. omega arith), tally-past w a n (omega arith))
+tally_past : (w : Waiting) (a n : ℕ) → n ≤ a → tally (without a w) n ≡ tally w n
+tally_past w a zero h = refl
+tally_past w a (suc n) h = rw (without_other w a n (λ e. omega arith), tally_past w a n (omega arith))
 
 pub tally-without : (w : Waiting) (a n : ℕ) → a < n → w a ≡ true → tally w n ≡ suc (tally (without a w) n)
 tally-without w a zero low waits = let z : ⊥ = omega arith in absurd z
 tally-without w a (suc n) low waits = go (eqb a n) refl (λ l. tally-without w a n l waits)
   where
     go : (t : Bool) → eqb a n ≡ t → (a < n → tally w n ≡ suc (tally (without a w) n)) → tally w (suc n) ≡ suc (tally (without a w) (suc n))
-    go true e rest = let is = eqb-true a n e in rw (← is, waits, eq-eqb a a refl, tally-past w a a (omega arith))
+    go true e rest = let is = eqb-true a n e in rw (← is, waits, eq-eqb a a refl, tally_past w a a (omega arith))
     go false e rest =
         let other = eqb-false a n e in
         rw (without_other w a n other, rest (omega arith)) (pick-suc (w n) (suc (tally (without a w) n)) (tally (without a w) n))
 
-pub tally-all : (m n : ℕ) → n ≤ m → tally (λ a. ltb a m) n ≡ n
-tally-all m zero h = refl
-tally-all m (suc n) h = rw (lt-ltb n m h, tally-all m n (omega arith))
+pub tally_all : (m n : ℕ) → n ≤ m → tally (λ a. ltb a m) n ≡ n
+tally_all m zero h = refl
+tally_all m (suc n) h = rw (lt-ltb n m h, tally_all m n (omega arith))

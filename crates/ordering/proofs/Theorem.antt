@@ -16,18 +16,18 @@ use Rattle.ordering.specs.declared.Precedence.{Precedence}
 use Rattle.ordering.specs.Orders.{asks, Respects, AtMost, First, Chain, one, more, Circle, NamesUnlisted, Outside}
 use Rattle.ordering.specs.Answer.{Waiting, allListed, answer}
 use Rattle.ordering.specs.Theorems.{AllJustAnswered, NeverBoth, OneOfBoth, SameAsked}
-use Rattle.ordering.proofs.Tests.{false-true, or-true, tally-all}
+use Rattle.ordering.proofs.Tests.{false-true, or_true, tally_all}
 use Rattle.ordering.proofs.Circles.{circle-no-order}
 use Rattle.ordering.proofs.Arranged.{exhausts-times, times-exhausts, Arranged, arranged-exhausts, arranged-ordered, arranged-first}
 use Rattle.ordering.proofs.Arranged.{Outcome, arranged, stuck, arrange-outcome}
 
 -- ---- orders, compared
 
-at-most-both : (xs ys : List ℕ) → AtMost xs ys → AtMost ys xs → xs ≡ ys
-at-most-both [] [] h k = refl
-at-most-both [] (y ∷ ys) h k = absurd k
-at-most-both (x ∷ xs) [] h k = absurd h
-at-most-both (x ∷ xs) (y ∷ ys) h k = go h k (λ h k. at-most-both xs ys h k)
+at_most_both : (xs ys : List ℕ) → AtMost xs ys → AtMost ys xs → xs ≡ ys
+at_most_both [] [] h k = refl
+at_most_both [] (y ∷ ys) h k = absurd k
+at_most_both (x ∷ xs) [] h k = absurd h
+at_most_both (x ∷ xs) (y ∷ ys) h k = go h k (λ h k. at_most_both xs ys h k)
   where
     go : (x < y) ⊎ ((x ≡ y) × AtMost xs ys) → (y < x) ⊎ ((y ≡ x) × AtMost ys xs) → (AtMost xs ys → AtMost ys xs → xs ≡ ys) → x ∷ xs ≡ y ∷ ys
     go (inl l) (inl m) rest = let z : ⊥ = omega arith in absurd z
@@ -37,10 +37,10 @@ at-most-both (x ∷ xs) (y ∷ ys) h k = go h k (λ h k. at-most-both xs ys h k)
 
 -- ---- pairs that name accesses not listed
 
-listed-asked : (n a b : ℕ) (pairs : List Precedence) → allListed n pairs ≡ true → asks pairs a b ≡ true → (ltb a n ≡ true) × (ltb b n ≡ true)
-listed-asked n a b [] h k = false-true k
-listed-asked n a b (p ∷ ps) h k =
-    go (eqb p.first a && eqb p.second b) refl k (λ k. listed-asked n a b ps (and_right (ltb p.first n && ltb p.second n) _ h) k)
+listed_asked : (n a b : ℕ) (pairs : List Precedence) → allListed n pairs ≡ true → asks pairs a b ≡ true → (ltb a n ≡ true) × (ltb b n ≡ true)
+listed_asked n a b [] h k = false-true k
+listed_asked n a b (p ∷ ps) h k =
+    go (eqb p.first a && eqb p.second b) refl k (λ k. listed_asked n a b ps (and_right (ltb p.first n && ltb p.second n) _ h) k)
   where
     go : (t : Bool) → eqb p.first a && eqb p.second b ≡ t → t || asks ps a b ≡ true
         → (asks ps a b ≡ true → (ltb a n ≡ true) × (ltb b n ≡ true)) → (ltb a n ≡ true) × (ltb b n ≡ true)
@@ -62,10 +62,10 @@ unlisted-named n (p ∷ ps) h = go (ltb p.first n) refl (ltb p.second n) refl h 
         → (allListed n ps ≡ false → NamesUnlisted n ps) → NamesUnlisted n (p ∷ ps)
     go false e t d h rest = (p.first, p.second, named, inl (ltb-false p.first n e))
     go true e false d h rest = (p.first, p.second, named, inr (ltb-false p.second n d))
-    go true e true d h rest = let (a, b, k, o) = rest h in (a, b, rw k (or-true (eqb p.first a && eqb p.second b)), o)
+    go true e true d h rest = let (a, b, k, o) = rest h in (a, b, rw k (or_true (eqb p.first a && eqb p.second b)), o)
 
-listed-none-named : (n : ℕ) (pairs : List Precedence) → allListed n pairs ≡ true → NamesUnlisted n pairs → ⊥
-listed-none-named n pairs h (a, b, k, o) = let (la, lb) = listed-asked n a b pairs h k in go (ltb-true a n la) (ltb-true b n lb) o
+listed_none_named : (n : ℕ) (pairs : List Precedence) → allListed n pairs ≡ true → NamesUnlisted n pairs → ⊥
+listed_none_named n pairs h (a, b, k, o) = let (la, lb) = listed_asked n a b pairs h k in go (ltb-true a n la) (ltb-true b n lb) o
   where
     go : a < n → b < n → (n ≤ a) ⊎ (n ≤ b) → ⊥
     go la lb (inl m) = omega arith
@@ -78,13 +78,13 @@ module _ (n : ℕ) (pairs : List Precedence) where
   everyone a = ltb a n
 
   outcome : Outcome n pairs n everyone
-  outcome = arrange-outcome n pairs n everyone (λ a h. ltb-true a n h) (tally-all n n (omega arith))
+  outcome = arrange-outcome n pairs n everyone (λ a h. ltb-true a n h) (tally_all n n (omega arith))
 
   arranged-respects : allListed n pairs ≡ true → (order : List ℕ) → Arranged pairs everyone order → Respects n pairs order
   arranged-respects listed order h = record {
     once = exhausts-times everyone order (arranged-exhausts pairs everyone order h);
     before = λ a b k.
-        let (la, lb) = listed-asked n a b pairs listed k in
+        let (la, lb) = listed_asked n a b pairs listed k in
         arranged-ordered pairs everyone order h a b la lb k;
   }
 
@@ -103,7 +103,7 @@ module _ (n : ℕ) (pairs : List Precedence) where
   inside : leb n 32 ≡ true → leb (length pairs) 64 ≡ true → allListed n pairs ≡ true → Outside n pairs → ⊥
   inside few short listed (inl wide) = let low = leb-true n 32 few in omega arith
   inside few short listed (inr (inl long)) = let low = leb-true (length pairs) 64 short in omega arith
-  inside few short listed (inr (inr named)) = listed-none-named n pairs listed named
+  inside few short listed (inr (inr named)) = listed_none_named n pairs listed named
 
   which : Case
   which = go (leb n 32) refl (leb (length pairs) 64) refl (allListed n pairs) refl outcome
@@ -142,7 +142,7 @@ module _ (n : ℕ) (pairs : List Precedence) where
 
       if : (Outside n pairs → ⊥) → First n pairs order → Case → answer n pairs ≡ accept order
       if fits f (outside o is) = absurd (fits o)
-      if fits f (given _ found is g) = rw (at-most-both order found (f.least found g.respects) (g.least order f.respects)) is
+      if fits f (given _ found is g) = rw (at_most_both order found (f.least found g.respects) (g.least order f.respects)) is
       if fits f (round _ is l) = absurd (circle-no-order pairs n order f.respects l)
 
   circular-just : (answer n pairs ≡ refuse circle) ↔ ((Outside n pairs → ⊥) × Circle pairs)
@@ -158,8 +158,8 @@ module _ (n : ℕ) (pairs : List Precedence) where
       if fits l (given _ order is f) = absurd (circle-no-order pairs n order f.respects l)
       if fits l (round _ is _) = is
 
-pub all-just-answered : AllJustAnswered
-all-just-answered n pairs = record {
+pub all_just_answered : AllJustAnswered
+all_just_answered n pairs = record {
   outside = outside-just n pairs;
   given = given-just n pairs;
   circular = circular-just n pairs;
@@ -174,8 +174,8 @@ all-just-answered n pairs = record {
 pub never_both : NeverBoth
 never_both n pairs order r l = circle-no-order pairs n order r l
 
-pub one-of-both : OneOfBoth
-one-of-both n pairs none_named = go (allListed n pairs) refl (outcome n pairs)
+pub one_of_both : OneOfBoth
+one_of_both n pairs none_named = go (allListed n pairs) refl (outcome n pairs)
   where
     go : (t : Bool) → allListed n pairs ≡ t → Outcome n pairs n (everyone n pairs) → ((order : List ℕ) × First n pairs order) ⊎ Circle pairs
     go false e o = absurd (none_named (unlisted-named n pairs e))

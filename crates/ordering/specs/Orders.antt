@@ -1,7 +1,7 @@
 -- Orders of accesses, and what pairs ask of them; nothing here says how an order is found. Accesses are "numbered from 0".
 use Rattle.std.specs.Prelude.{ℕ, suc, ◌<◌, ◌≤◌, ◌≡◌, ◌⊎◌, Bool, true, ◌&&◌, List, [], ◌∷◌, eqb, ltb, length}
 use Rattle.ordering.specs.declared.Precedence.{Precedence}
-use Rattle.number.specs.Basics.{pick, any_of, countWhere}
+use Rattle.number.specs.Basics.{pick, any_of, count_where}
 
 -- "The first of a pair to come before the second": is it asked that a come before b?
 abbrev pub asks : List Precedence → ℕ → ℕ → Bool
@@ -9,7 +9,7 @@ asks pairs a b = any_of (λ p. eqb p.first a && eqb p.second b) pairs
 
 -- how often an access stands in an order
 abbrev pub times : ℕ → List ℕ → ℕ
-times a order = countWhere (λ x. eqb x a) order
+times a order = count_where (λ x. eqb x a) order
 
 -- the place of an access in an order; the order's length where it is not there
 abbrev pub position : ℕ → List ℕ → ℕ

@@ -9,24 +9,24 @@ use Rattle.ordering.specs.Orders.{asks}
 use Rattle.ordering.specs.Answer.{answer}
 use Rattle.ordering.specs.Theorems.{JustAnswered}
 
-abbrev pub blankPrecedence : Precedence
-blankPrecedence = record { first = 0; second = 0 }
+abbrev pub blank_precedence : Precedence
+blank_precedence = record { first = 0; second = 0 }
 
 -- As many pairs as the count says. More than there are places are more than 64: they get 43, whatever they are.
-abbrev pub precedencesOf : Precedences → List Precedence
-precedencesOf p = held blankPrecedence p.count p.pairs
+abbrev pub precedences_of : Precedences → List Precedence
+precedences_of p = held blank_precedence p.count p.pairs
 
 abbrev pub PairsCounted : Type 0
-PairsCounted = (p : Precedences) → length (precedencesOf p) ≡ p.count
+PairsCounted = (p : Precedences) → length (precedences_of p) ≡ p.count
 
 abbrev pub PairsInPlace : Type 0
-PairsInPlace = (p : Precedences) (i : ℕ) → i < p.count → get_or (precedencesOf p) i blankPrecedence ≡ get_or p.pairs i blankPrecedence
+PairsInPlace = (p : Precedences) (i : ℕ) → i < p.count → get_or (precedences_of p) i blank_precedence ≡ get_or p.pairs i blank_precedence
 
 -- What is asked is what some pair in the list says, and nothing else.
 abbrev pub PairsAsk : Type 0
 PairsAsk =
     (pairs : List Precedence) (a b : ℕ) → (asks pairs a b ≡ true)
-    ↔ ((i : ℕ) × (i < length pairs) × (get_or pairs i blankPrecedence ≡ record { first = a; second = b }))
+    ↔ ((i : ℕ) × (i < length pairs) × (get_or pairs i blank_precedence ≡ record { first = a; second = b }))
 
 -- The answer as a record: "accepted is 0"; "a refusal returns its number and no value". The places beyond the order, which mean nothing,
 -- are 0.
@@ -38,13 +38,13 @@ ordered (accept order) = record { answer = 0; count = length order; accesses = o
 abbrev pub order_in : Ordered → List ℕ
 order_in r = take r.count r.accesses
 
-abbrev pub replyOf : Ordered → Reply (List ℕ)
-replyOf r = pick (eqb r.answer 0) (accept (order_in r)) (refuse r.answer)
+abbrev pub reply_of : Ordered → Reply (List ℕ)
+reply_of r = pick (eqb r.answer 0) (accept (order_in r)) (refuse r.answer)
 
 -- The record says the very answer, and the order that it gives has as many accesses as were asked for. The proofs are
 -- proofs/ReadBack.antt.
 abbrev pub AnswersReadBack : Type 0
-AnswersReadBack = (n : ℕ) (pairs : List Precedence) → replyOf (ordered (answer n pairs)) ≡ answer n pairs
+AnswersReadBack = (n : ℕ) (pairs : List Precedence) → reply_of (ordered (answer n pairs)) ≡ answer n pairs
 
 abbrev pub OrdersAreWhole : Type 0
 OrdersAreWhole = (n : ℕ) (pairs : List Precedence) (order : List ℕ) → answer n pairs ≡ accept order → length order ≡ n
@@ -58,4 +58,4 @@ RefusalsHoldNothing =
 -- So the record that the call promises says what the paper asks for of the pairs that were handed in.
 abbrev pub RecordsJustAnswered : Type 0
 RecordsJustAnswered =
-    (n : ℕ) (pairs : Precedences) (r : Ordered) → r ≡ ordered (answer n (precedencesOf pairs)) → JustAnswered n (precedencesOf pairs) (replyOf r)
+    (n : ℕ) (pairs : Precedences) (r : Ordered) → r ≡ ordered (answer n (precedences_of pairs)) → JustAnswered n (precedences_of pairs) (reply_of r)

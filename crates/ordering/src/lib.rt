@@ -2,7 +2,7 @@
 ghost use Rattle.std.specs.Prelude.{◌≡◌, ◌≤◌, ◌<◌};
 ghost use Rattle.number.specs.Reply.{refuse};
 ghost use Rattle.ordering.specs.Answer.{answer, allListed, seek, next, arranged};
-ghost use Rattle.ordering.specs.Records.{precedencesOf, ordered};
+ghost use Rattle.ordering.specs.Records.{precedences_of, ordered};
 ghost use Rattle.ordering.specs.Internal.{Listed, waits, unmarked, Unready};
 
 use number::refusal::{CIRCLE, UNLISTED};
@@ -52,7 +52,7 @@ fn refused(number: u8) -> Ordered
 // Does every pair name two of the accesses?
 fn all_listed(accesses: usize, pairs: Precedences) -> bool
     requires { pairs.count ≤ 64 }
-    ensures { result ≡ allListed accesses (precedencesOf pairs) }
+    ensures { result ≡ allListed accesses (precedences_of pairs) }
 {
     let count = pairs.count as usize;
     let mut i: usize = 0;
@@ -77,7 +77,7 @@ fn unready(
     placed: [bool; MOST_ACCESSES],
 ) -> [bool; MOST_ACCESSES]
     requires { Listed accesses pairs }
-    ensures { Unready accesses (precedencesOf pairs) placed result }
+    ensures { Unready accesses (precedences_of pairs) placed result }
 {
     let count = pairs.count as usize;
     let mut marks = placed;
@@ -112,7 +112,7 @@ fn first_unmarked(accesses: usize, marks: [bool; MOST_ACCESSES]) -> usize
 // The smallest access that is ready; `accesses` if there is none.
 fn next_ready(accesses: usize, pairs: Precedences, placed: [bool; MOST_ACCESSES]) -> usize
     requires { Listed accesses pairs }
-    ensures { result ≡ next accesses (precedencesOf pairs) (waits accesses placed) }
+    ensures { result ≡ next accesses (precedences_of pairs) (waits accesses placed) }
 {
     let marks = unready(accesses, pairs, placed);
     first_unmarked(accesses, marks)
@@ -121,7 +121,7 @@ fn next_ready(accesses: usize, pairs: Precedences, placed: [bool; MOST_ACCESSES]
 // Again and again the smallest access that is ready. Where some wait and none is ready, some of them wait for each other in a circle.
 fn arrange(accesses: usize, pairs: Precedences) -> Ordered
     requires { Listed accesses pairs }
-    ensures { result ≡ ordered (arranged accesses (precedencesOf pairs)) }
+    ensures { result ≡ ordered (arranged accesses (precedences_of pairs)) }
 {
     let mut placed = [false; MOST_ACCESSES];
     let mut order = [0u8; MOST_ACCESSES];
@@ -144,7 +144,7 @@ fn arrange(accesses: usize, pairs: Precedences) -> Ordered
 
 // The first order, compared by access number from the left, that respects all pairs: 43, then 44.
 pub fn order(accesses: u32, pairs: Precedences) -> Ordered
-    ensures { result ≡ ordered (answer accesses (precedencesOf pairs)) }
+    ensures { result ≡ ordered (answer accesses (precedences_of pairs)) }
 {
     let listed = accesses as usize;
     if listed > MOST_ACCESSES {

@@ -11,21 +11,21 @@ use mathlib.Core.Option.{some}
 use lib.Dec.{leb}
 use lib.ListN.{length, get_elem?}
 use borrow.Author.Tests.{leb-true}
-use Rattle.number.specs.Basics.{countWhere}
-use Rattle.number.specs.Refusal.{earlierStoreUnknown}
+use Rattle.number.specs.Basics.{count_where}
+use Rattle.number.specs.Refusal.{earlier_store_unknown}
 use Rattle.number.specs.Reply.{number}
 use Rattle.number.proofs.Both.{and_right}
-use Rattle.table.specs.Group.{GroupPairs, isLoad}
+use Rattle.table.specs.Group.{GroupPairs, is_load}
 use Rattle.queue.specs.declared.Kind.TheVariants.{Load}
 use Rattle.queue.specs.Entry.{Entry, with_before}
-use Rattle.queue.specs.Contents.{after, place_of, othersBefore}
-use Rattle.queue.specs.Serve.{Source, source, loadedFrom}
+use Rattle.queue.specs.Contents.{after, place_of, others_before}
+use Rattle.queue.specs.Serve.{Source, source, loaded_from}
 use Rattle.queue.proofs.Lists.{getElem?-short}
 use Rattle.sequential.specs.Calls.{Call}
-use Rattle.sequential.specs.Answers.{Machine, answers, machineAfter}
+use Rattle.sequential.specs.Answers.{Machine, answers, machine_after}
 use Rattle.sequential.specs.Plain.{accesses, Filling}
 use Rattle.sequential.specs.Demand3.{told, Opening}
-use Rattle.sequential.proofs.Log.{LogEntry, loads, stores, ownIn, loads-stores}
+use Rattle.sequential.proofs.Log.{LogEntry, loads, stores, own_in, loads-stores}
 use Rattle.sequential.proofs.Window.{Located, locate}
 use Rattle.sequential.proofs.PlainRun.{seen-count, loads-uncounted}
 use Rattle.sequential.proofs.Invariant.{Invariant}
@@ -33,39 +33,39 @@ use Rattle.sequential.proofs.Serials.{reached-counted}
 use Rattle.sequential.proofs.Steps.Serve.{queued-source}
 use Rattle.sequential.proofs.Run.{reached}
 use Rattle.origins.specs.Origins.{origin_of}
-use Rattle.origins.specs.Exactly.{Latest, serveOfNth, past27, ServesNameLoads, TwoOrigins, ServesExactly}
+use Rattle.origins.specs.Exactly.{Latest, serve_of_nth, past27, ServesNameLoads, TwoOrigins, ServesExactly}
 use Rattle.origins.specs.Exactly.{ServedOneOrigin}
-use Rattle.origins.proofs.Fillings.{isSettled}
+use Rattle.origins.proofs.Fillings.{is_settled}
 use Rattle.origins.proofs.Loaded.{count-loads, settled_same, unsettled-differ}
-use Rattle.origins.proofs.Numbers.{serial-of-load, number_of}
-use Rattle.origins.proofs.Answers.{PastServe, past-serve, waits-unsettled, unsettled-waits}
+use Rattle.origins.proofs.Numbers.{serial_of_load, number_of}
+use Rattle.origins.proofs.Answers.{PastServe, past_serve, waits-unsettled, unsettled-waits}
 
 -- ---- a queued load and its number
 
 module _ {groups : List GroupPairs} {memory : List ℕ} {m : Machine} (o : Opening groups memory m) (calls : List Call) where
   abbrev total : ℕ
-  total = countWhere isLoad (accesses groups (told (answers m calls)))
+  total = count_where is_load (accesses groups (told (answers m calls)))
 
-  few : length (machineAfter m calls).queue.loads.entries ≤ 64
+  few : length (machine_after m calls).queue.loads.entries ≤ 64
   few =
       le_trans ((reached o calls).holds.room Load)
-      (leb-true _ 64 (and_right (leb 1 (machineAfter m calls).queue.loads.depth) _ (reached o calls).holds.limits.loadDepthRight))
+      (leb-true _ 64 (and_right (leb 1 (machine_after m calls).queue.loads.depth) _ (reached o calls).holds.limits.load_depth_right))
 
   -- as many loads are activated as have left and are queued
   numbered : {i : ℕ} {pre : List LogEntry} {it : Entry} {post : List LogEntry}
-      → Located loads stores (reached o calls).log (machineAfter m calls).queue.loads.entries (machineAfter m calls).queue.stores.entries i pre it post
-      → length (ownIn loads pre) + length (machineAfter m calls).queue.loads.entries ≡ total + i
-  numbered l = rw (sym (count-loads (reached o calls).log) ∙ seen-count (reached o calls).seen isLoad loads-uncounted) at l.nth
+      → Located loads stores (reached o calls).log (machine_after m calls).queue.loads.entries (machine_after m calls).queue.stores.entries i pre it post
+      → length (own_in loads pre) + length (machine_after m calls).queue.loads.entries ≡ total + i
+  numbered l = rw (sym (count-loads (reached o calls).log) ∙ seen-count (reached o calls).seen is_load loads-uncounted) at l.nth
 
-pub serves-name-loads : ServesNameLoads
-serves-name-loads groups memory m o calls serial small past =
-    let p = past-serve (machineAfter m calls).queue (machineAfter m calls).memory serial past in
-    let (pre, it, post, l) = locate loads stores loads-stores (reached o calls).holds.windows (place_of (machineAfter m calls).queue.loads serial) p.at in
-    let inside = getElem?-short (machineAfter m calls).queue.loads.entries (place_of (machineAfter m calls).queue.loads serial) p.at in (
-      length (ownIn loads pre),
+pub serves_name_loads : ServesNameLoads
+serves_name_loads groups memory m o calls serial small past =
+    let p = past_serve (machine_after m calls).queue (machine_after m calls).memory serial past in
+    let (pre, it, post, l) = locate loads stores loads-stores (reached o calls).holds.windows (place_of (machine_after m calls).queue.loads serial) p.at in
+    let inside = getElem?-short (machine_after m calls).queue.loads.entries (place_of (machine_after m calls).queue.loads serial) p.at in (
+      length (own_in loads pre),
       record { activated = omega (arith, numbered o calls l); latest = omega (arith, numbered o calls l, few o calls) },
-      serial-of-load o.first (total o calls) (machineAfter m calls).queue.loads.next (length (machineAfter m calls).queue.loads.entries)
-          (place_of (machineAfter m calls).queue.loads serial) (length (ownIn loads pre)) serial ((reached-counted o calls).next Load) (few o calls) small
+      serial_of_load o.first (total o calls) (machine_after m calls).queue.loads.next (length (machine_after m calls).queue.loads.entries)
+          (place_of (machine_after m calls).queue.loads serial) (length (own_in loads pre)) serial ((reached-counted o calls).next Load) (few o calls) small
           (numbered o calls l) refl,
     )
 
@@ -74,21 +74,21 @@ serves-name-loads groups memory m o calls serial small past =
 module _ {groups : List GroupPairs} {memory : List ℕ} {m : Machine} (o : Opening groups memory m) (calls : List Call) (n : ℕ)
     (named : Latest groups (told (answers m calls)) n) where
   abbrev left : Machine
-  left = machineAfter m calls
+  left = machine_after m calls
 
   abbrev serial : ℕ
   serial = after o.first n
 
-  st : Invariant groups memory (answers m calls) (machineAfter m calls)
+  st : Invariant groups memory (answers m calls) (machine_after m calls)
   st = reached o calls
 
   -- a queued load with the nth serial is the nth load
   pub is-nth : {i : ℕ} {pre : List LogEntry} {it x : Entry} {post : List LogEntry} → place_of left.queue.loads serial ≡ i
       → get_elem? left.queue.loads.entries i ≡ some x
       → Located loads stores (reached o calls).log left.queue.loads.entries left.queue.stores.entries i pre it post
-      → length (ownIn loads pre) ≡ n
+      → length (own_in loads pre) ≡ n
   is-nth {i} {pre} place at l =
-      number_of o.first n (total o calls) left.queue.loads.next (length left.queue.loads.entries) i (length (ownIn loads pre))
+      number_of o.first n (total o calls) left.queue.loads.next (length left.queue.loads.entries) i (length (own_in loads pre))
       ((reached-counted o calls).next Load) named.activated named.latest (few o calls) (getElem?-short left.queue.loads.entries i at)
       (numbered o calls l) place
 
@@ -100,12 +100,12 @@ module _ {groups : List GroupPairs} {memory : List ℕ} {m : Machine} (o : Openi
     place : Located loads stores st.log left.queue.loads.entries left.queue.stores.entries (place_of left.queue.loads serial) pre it post
     address : ℕ
     addressed : it.address ≡ some address
-    nth : length (ownIn loads pre) ≡ n
-    answer : serveOfNth left o.first n ≡ number (loadedFrom left.memory address (source address (ownIn stores pre)))
+    nth : length (own_in loads pre) ≡ n
+    answer : serve_of_nth left o.first n ≡ number (loaded_from left.memory address (source address (own_in stores pre)))
 
-  found : past27 (serveOfNth left o.first n) ≡ true → Found
+  found : past27 (serve_of_nth left o.first n) ≡ true → Found
   unfolding st
-  found h = from (past-serve left.queue left.memory serial h)
+  found h = from (past_serve left.queue left.memory serial h)
     where
       from : PastServe left.queue left.memory serial → Found
       from p =
@@ -121,37 +121,37 @@ module _ {groups : List GroupPairs} {memory : List ℕ} {m : Machine} (o : Openi
             nth = is-nth refl p.at l;
             answer =
                 p.answer
-                ∙ ap (λ (e : Entry). number (loadedFrom left.memory p.address (source p.address (othersBefore left.queue.stores e)))) same
-                ∙ ap (λ (x : Source). number (loadedFrom left.memory p.address x)) (queued-source st.holds l p.address);
+                ∙ ap (λ (e : Entry). number (loaded_from left.memory p.address (source p.address (others_before left.queue.stores e)))) same
+                ∙ ap (λ (x : Source). number (loaded_from left.memory p.address x)) (queued-source st.holds l p.address);
           }
 
   -- where it stops, and what follows
   abbrev sourceFound : Found → Source
-  sourceFound f = source f.address (ownIn stores f.pre)
+  sourceFound f = source f.address (own_in stores f.pre)
 
-  settled-or-waits : (f : Found) → (isSettled (sourceFound f) ≡ true) ⊎ (serveOfNth left o.first n ≡ earlierStoreUnknown)
-  settled-or-waits f = go (isSettled (sourceFound f)) refl
+  settled-or-waits : (f : Found) → (is_settled (sourceFound f) ≡ true) ⊎ (serve_of_nth left o.first n ≡ earlier_store_unknown)
+  settled-or-waits f = go (is_settled (sourceFound f)) refl
     where
-      go : (t : Bool) → isSettled (sourceFound f) ≡ t → (isSettled (sourceFound f) ≡ true) ⊎ (serveOfNth left o.first n ≡ earlierStoreUnknown)
+      go : (t : Bool) → is_settled (sourceFound f) ≡ t → (is_settled (sourceFound f) ≡ true) ⊎ (serve_of_nth left o.first n ≡ earlier_store_unknown)
       go true e = inl e
       go false e = inr (f.answer ∙ unsettled-waits left.memory f.address (sourceFound f) e)
 
-  one-origin : (f : Found) → isSettled (sourceFound f) ≡ true → (one other : Filling)
+  one-origin : (f : Found) → is_settled (sourceFound f) ≡ true → (one other : Filling)
       → origin_of groups memory (told (answers m calls)) one n ≡ origin_of groups memory (told (answers m calls)) other n
   one-origin f e one other = rw f.nth at (settled_same st f.place f.addressed e one other)
 
-  two-origins : (f : Found) → serveOfNth left o.first n ≡ earlierStoreUnknown → 2 ≤ length memory → TwoOrigins groups memory (told (answers m calls)) n
+  two-origins : (f : Found) → serve_of_nth left o.first n ≡ earlier_store_unknown → 2 ≤ length memory → TwoOrigins groups memory (told (answers m calls)) n
   two-origins f e two =
       rw f.nth at
       (unsettled-differ st f.place f.addressed (waits-unsettled left.memory f.address (sourceFound f) (sym f.answer ∙ e)) two)
 
-pub served-one-origin : ServedOneOrigin
-served-one-origin groups memory m o calls n named past served one other one-low other-low = go (settled-or-waits o calls n named f)
+pub served_one_origin : ServedOneOrigin
+served_one_origin groups memory m o calls n named past served one other one-low other-low = go (settled-or-waits o calls n named f)
   where
     f : Found o calls n named
     f = found o calls n named past
 
-    go : (isSettled (sourceFound o calls n named f) ≡ true) ⊎ (serveOfNth (machineAfter m calls) o.first n ≡ earlierStoreUnknown)
+    go : (is_settled (sourceFound o calls n named f) ≡ true) ⊎ (serve_of_nth (machine_after m calls) o.first n ≡ earlier_store_unknown)
         → origin_of groups memory (told (answers m calls)) one n ≡ origin_of groups memory (told (answers m calls)) other n
     go (inl e) = one-origin o calls n named f e one other
     go (inr e) = absurd (served e)
@@ -164,7 +164,7 @@ serves-exactly groups memory m o two calls n named past = (λ e. two-origins o c
     f = found o calls n named past
 
     go : TwoOrigins groups memory (told (answers m calls)) n
-        → (isSettled (sourceFound o calls n named f) ≡ true) ⊎ (serveOfNth (machineAfter m calls) o.first n ≡ earlierStoreUnknown)
-        → serveOfNth (machineAfter m calls) o.first n ≡ earlierStoreUnknown
+        → (is_settled (sourceFound o calls n named f) ≡ true) ⊎ (serve_of_nth (machine_after m calls) o.first n ≡ earlier_store_unknown)
+        → serve_of_nth (machine_after m calls) o.first n ≡ earlier_store_unknown
     go t (inl e) = absurd (t.differ (one-origin o calls n named f e t.one t.other))
     go t (inr e) = e

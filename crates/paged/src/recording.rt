@@ -1,10 +1,10 @@
 // The record of a replay: what it put into the buffers says which takes gave a value.
 ghost use Rattle.std.specs.Prelude.{◌≡◌};
 ghost use Rattle.table.specs.Table.{groups_of};
-ghost use Rattle.replay.specs.Events.{eventsFrom};
+ghost use Rattle.replay.specs.Events.{events_from};
 ghost use Rattle.replay.specs.Replay.{replay};
-ghost use Rattle.shift.specs.Record.{afterTake};
-ghost use Rattle.paged.specs.Recorded.{afterEvent, valueGiven, recordBuffered, eventsRead, traceEvents, RecordsReplay};
+ghost use Rattle.shift.specs.Record.{after_take};
+ghost use Rattle.paged.specs.Recorded.{after_event, value_given, record_buffered, events_read, trace_events, RecordsReplay};
 ghost use Rattle.paged.specs.Internal.{AllReadable};
 
 use crate::ReplayRecorded;
@@ -20,7 +20,7 @@ use trace::{Event, EventRead, HeaderRead};
 
 // A take that gave a value.
 fn after_taking(kept: ShiftRecord, port: u32, given: u8, value: u32) -> ShiftRecord
-    ensures { result ≡ afterTake kept port (valueGiven given value) }
+    ensures { result ≡ after_take kept port (value_given given value) }
 {
     if given == 1 {
         return recorded(kept, port, value);
@@ -31,7 +31,7 @@ fn after_taking(kept: ShiftRecord, port: u32, given: u8, value: u32) -> ShiftRec
 // What an event leaves of the record: a take that gave a value has it recorded; every other event, and a take that was refused,
 // leaves it.
 fn after_event(kept: ShiftRecord, event: Event, given: u8, value: u32) -> ShiftRecord
-    ensures { result ≡ afterEvent kept event (valueGiven given value) }
+    ensures { result ≡ after_event kept event (value_given given value) }
 {
     match event {
         Event::Take { port } => after_taking(kept, port, given, value),
@@ -48,7 +48,7 @@ fn record_events(
     kept: ShiftRecord,
 ) -> ShiftRecord
     requires { AllReadable trace.now from }
-    ensures { result ≡ recordBuffered kept (eventsRead (eventsFrom trace.now from)) given.now values.now }
+    ensures { result ≡ record_buffered kept (events_read (events_from trace.now from)) given.now values.now }
 {
     let mut kept = kept;
     let mut place = from;
@@ -73,7 +73,7 @@ fn record_events(
 // The record after a replay of this trace, from what the replay put into these buffers. A trace whose leading numbers or events
 // cannot be read leaves it.
 pub fn record_replay(trace: &[u8], given: &[u8], values: &[u32], kept: ShiftRecord) -> ShiftRecord
-    ensures { result ≡ recordBuffered kept (traceEvents trace.now) given.now values.now }
+    ensures { result ≡ record_buffered kept (trace_events trace.now) given.now values.now }
 {
     let read = read_header(trace);
     let HeaderRead::Leading(_, at) = read else {

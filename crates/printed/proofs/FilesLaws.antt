@@ -9,62 +9,62 @@ use lib.Dec.{leb}
 use lib.ListN.{length, get_or, set, take, drop, replicate, length-append, length-drop, length-replicate, replicate-append-replicate, take-append-drop}
 use lib.Seq.{drop-cons, drop-length, set_at, append_snoc}
 use borrow.Author.Tests.{lt-ltb, le-ltb, le-leb, leb-true}
-use Rattle.number.specs.Refusal.{tooShort, fileTooLong}
+use Rattle.number.specs.Refusal.{too_short, file_too_long}
 use Rattle.number.specs.Reply.{Reply, refuse, accept}
 use Rattle.number.specs.Number.{Got}
 use Rattle.number.proofs.Both.{and_left, and_right}
 use Rattle.table.specs.Group.{GroupPairs}
-use Rattle.table.specs.TableBytes.{readTable}
+use Rattle.table.specs.TableBytes.{read_table}
 use Rattle.trace.specs.declared.Event.{Event}
 use Rattle.trace.specs.declared.Header.{Header}
 use Rattle.counts.specs.declared.Counts.{Counts}
 use Rattle.queue.specs.Contents.{Contents}
 use Rattle.sequential.proofs.Run.{limits-opened}
 use Rattle.replay.specs.declared.Replayed.{Replayed}
-use Rattle.replay.specs.Events.{eventsFrom}
-use Rattle.replay.specs.Replay.{Start, start_of, openTrace, prepare, replayed, Buffers, fits, replayFrom}
-use Rattle.replay.specs.Outcome.{atFront, logIn, ReplayedWell, Replays}
-use Rattle.number.proofs.ReplyLaws.{thenRead-accepts, notZero, refused-some}
+use Rattle.replay.specs.Events.{events_from}
+use Rattle.replay.specs.Replay.{Start, start_of, open_trace, prepare, replayed, Buffers, fits, replay_from}
+use Rattle.replay.specs.Outcome.{at_front, log_in, ReplayedWell, Replays}
+use Rattle.number.proofs.ReplyLaws.{thenRead-accepts, not_zero, refused_some}
 use Rattle.trace.proofs.Among.{events-among}
-use Rattle.replay.proofs.EventLaws.{events-few-from}
+use Rattle.replay.proofs.EventLaws.{events_few_from}
 use Rattle.replay.proofs.ReplayLaws.{replay-accepted, long-enough}
 use Rattle.printed.specs.declared.files.FilesPlayed.{FilesPlayed}
 use Rattle.printed.specs.declared.files.FilesPlayed.TheVariants.{TableFault, TraceFault, Run, NoRoom}
-use Rattle.printed.specs.Files.{mostBytes, mostWords, Files, tableFault, traceFault, run, startFiles, traceFiles, files, noCounts, run_of}
-use Rattle.printed.specs.Played.{hasRoom, zeroed, playedOn, playedIn, HasPlayed, ofTrace}
+use Rattle.printed.specs.Files.{most_bytes, most_words, Files, table_fault, trace_fault, run, start_files, trace_files, files, no_counts, run_of}
+use Rattle.printed.specs.Played.{has_room, zeroed, played_on, played_in, HasPlayed, of_trace}
 use Rattle.printed.specs.Internal.{Room, Cleared, Playable}
 use Rattle.printed.proofs.PlayedLaws.{run-many, run_long}
 
 -- ---- which files
 module _ (gs : List GroupPairs) (trace : List ℕ) where
-  pub trace-long : mostBytes < length trace → traceFiles gs trace ≡ traceFault fileTooLong
-  unfolding traceFiles
-  trace-long h = rw (lt-ltb mostBytes (length trace) h)
+  pub trace-long : most_bytes < length trace → trace_files gs trace ≡ trace_fault file_too_long
+  unfolding trace_files
+  trace-long h = rw (lt-ltb most_bytes (length trace) h)
 
-  pub trace-short : length trace ≤ mostBytes → traceFiles gs trace ≡ startFiles (prepare gs trace)
-  unfolding traceFiles
-  trace-short h = rw (le-ltb mostBytes (length trace) h)
+  pub trace-short : length trace ≤ most_bytes → trace_files gs trace ≡ start_files (prepare gs trace)
+  unfolding trace_files
+  trace-short h = rw (le-ltb most_bytes (length trace) h)
 
 module _ (table trace : List ℕ) where
-  pub table-long : mostBytes < length table → files table trace ≡ tableFault fileTooLong
+  pub table-long : most_bytes < length table → files table trace ≡ table_fault file_too_long
   unfolding files
-  table-long h = rw (lt-ltb mostBytes (length table) h)
+  table-long h = rw (lt-ltb most_bytes (length table) h)
 
-  pub table-fault : {n : ℕ} → length table ≤ mostBytes → readTable table ≡ refuse n → files table trace ≡ tableFault n
+  pub table-fault : {n : ℕ} → length table ≤ most_bytes → read_table table ≡ refuse n → files table trace ≡ table_fault n
   unfolding files
-  table-fault h e = rw (le-ltb mostBytes (length table) h, e)
+  table-fault h e = rw (le-ltb most_bytes (length table) h, e)
 
-  pub table-right : {gs : List GroupPairs} → length table ≤ mostBytes → readTable table ≡ accept gs
-      → files table trace ≡ traceFiles gs trace
+  pub table-right : {gs : List GroupPairs} → length table ≤ most_bytes → read_table table ≡ accept gs
+      → files table trace ≡ trace_files gs trace
   unfolding files
-  table-right h e = rw (le-ltb mostBytes (length table) h, e)
+  table-right h e = rw (le-ltb most_bytes (length table) h, e)
 
 -- ---- opening
-pub opened-words : (gs : List GroupPairs) (g : Reply (Got Header)) {q : Contents} → openTrace gs g ≡ accept q → q.memoryLength ≤ mostWords
+pub opened-words : (gs : List GroupPairs) (g : Reply (Got Header)) {q : Contents} → open_trace gs g ≡ accept q → q.memory_length ≤ most_words
 opened-words gs g {q} e₀ =
     let (h, rest, d, e) = thenRead-accepts g _ e₀ in
     let (limits, is) = limits-opened gs h.load_depth h.store_depth h.first h.memory_length q e in
-    rw (sym is) (leb-true _ _ (and_right (leb 1 h.memory_length) (leb h.memory_length 4096) limits.wordsRight))
+    rw (sym is) (leb-true _ _ (and_right (leb 1 h.memory_length) (leb h.memory_length 4096) limits.words_right))
 
 -- ---- what is lent
 pub room_for : (n : ℕ) (b : Buffers) → fits n b ≡ true → (n ≤ length b.answers) × (n ≤ length b.given) × (n ≤ length b.values)
@@ -75,10 +75,10 @@ room_for n b h =
     let front = and_left (a && g) w h in
     (leb-true _ _ (and_left a g front), leb-true _ _ (and_right a g front), leb-true _ _ (and_right (a && g) w h))
 
-pub has_room : (memory : List ℕ) (b : Buffers) → hasRoom memory b ≡ true → Room memory b
-has_room memory b h =
-    let w = leb mostWords (length memory) in
-    record { words = leb-true _ _ (and_left w (fits mostBytes b) h); places = and_right w (fits mostBytes b) h }
+pub has_room_lem : (memory : List ℕ) (b : Buffers) → has_room memory b ≡ true → Room memory b
+has_room_lem memory b h =
+    let w = leb most_words (length memory) in
+    record { words = leb-true _ _ (and_left w (fits most_bytes b) h); places = and_right w (fits most_bytes b) h }
 
 -- a memory that was cleared where there is room
 pub cleared : (memory : List ℕ) (b : Buffers) {memory₂ : List ℕ} → Room memory b → memory₂ ≡ zeroed memory → Cleared memory₂ b
@@ -91,8 +91,8 @@ pub record ClearedTo (d : List ℕ) (i : ℕ) (memory : List ℕ) : Type 0 where
   pub is : memory ≡ replicate i 0 ++ drop i d
   pub few : i ≤ length d
 
-pub cleared-none : {d : List ℕ} → ClearedTo d 0 d
-cleared-none = record { is = refl; few = omega arith }
+pub cleared_none : {d : List ℕ} → ClearedTo d 0 d
+cleared_none = record { is = refl; few = omega arith }
 
 module _ {d : List ℕ} {i : ℕ} {memory : List ℕ} (w : ClearedTo d i memory) where
   pub cleared-long : length memory ≡ length d
@@ -124,39 +124,39 @@ take-zeros memory n e h = ap (take n) e ∙ take-replicate n (length memory) h
 -- of the same files, and of a fault
 module _ (memory : List ℕ) (b : Buffers) {f : Files} where
   pub told-as : {g : Files} {r : FilesPlayed} {memory₂ : List ℕ} {b₂ : Buffers} → f ≡ g
-      → HasPlayed (playedOn memory b g) r memory₂ b₂ → HasPlayed (playedOn memory b f) r memory₂ b₂
+      → HasPlayed (played_on memory b g) r memory₂ b₂ → HasPlayed (played_on memory b f) r memory₂ b₂
   told-as e w = rw e w
 
-  pub told-table : {n : ℕ} → f ≡ tableFault n → HasPlayed (playedOn memory b f) (TableFault n) memory b
-  told-table e = rw e (record { outcome = refl; memory-is = refl; buffers-are = refl })
+  pub told-table : {n : ℕ} → f ≡ table_fault n → HasPlayed (played_on memory b f) (TableFault n) memory b
+  told-table e = rw e (record { outcome = refl; memory_is = refl; buffers-are = refl })
 
-  pub told-trace : {n : ℕ} → f ≡ traceFault n → HasPlayed (playedOn memory b f) (TraceFault n) memory b
-  told-trace e = rw e (record { outcome = refl; memory-is = refl; buffers-are = refl })
+  pub told-trace : {n : ℕ} → f ≡ trace_fault n → HasPlayed (played_on memory b f) (TraceFault n) memory b
+  told-trace e = rw e (record { outcome = refl; memory_is = refl; buffers-are = refl })
 
   -- of a run on the memory once it is cleared
   pub told-cleared : {s : Start} {r : FilesPlayed} {zeros memory₂ : List ℕ} {b₂ : Buffers} → f ≡ run s → zeros ≡ zeroed memory
-      → HasPlayed (playedOn zeros b f) r memory₂ b₂ → HasPlayed (playedOn memory b f) r memory₂ b₂
+      → HasPlayed (played_on zeros b f) r memory₂ b₂ → HasPlayed (played_on memory b f) r memory₂ b₂
   told-cleared e z w = rw e (rw (z, length-replicate) at (rw e at w))
 
 -- where there is not room, nothing is played
 module _ (memory : List ℕ) (b : Buffers) where
-  pub enough : mostWords ≤ length memory → mostBytes ≤ length b.answers → mostBytes ≤ length b.given → mostBytes ≤ length b.values
-      → hasRoom memory b ≡ true
+  pub enough : most_words ≤ length memory → most_bytes ≤ length b.answers → most_bytes ≤ length b.given → most_bytes ≤ length b.values
+      → has_room memory b ≡ true
   enough m a g w = rw (le-leb _ _ m, le-leb _ _ a, le-leb _ _ g, le-leb _ _ w)
 
-  pub told-short : (f : Files) → hasRoom memory b ≡ false → HasPlayed (playedIn memory b f) (NoRoom tooShort) memory b
-  unfolding playedIn
-  told-short f h = rw h (record { outcome = refl; memory-is = refl; buffers-are = refl })
+  pub told-short : (f : Files) → has_room memory b ≡ false → HasPlayed (played_in memory b f) (NoRoom too_short) memory b
+  unfolding played_in
+  told-short f h = rw h (record { outcome = refl; memory_is = refl; buffers-are = refl })
 
-  pub told_in : (f : Files) {r : FilesPlayed} {memory₂ : List ℕ} {b₂ : Buffers} → hasRoom memory b ≡ true
-      → HasPlayed (playedOn memory b f) r memory₂ b₂ → HasPlayed (playedIn memory b f) r memory₂ b₂
-  unfolding playedIn
+  pub told_in : (f : Files) {r : FilesPlayed} {memory₂ : List ℕ} {b₂ : Buffers} → has_room memory b ≡ true
+      → HasPlayed (played_on memory b f) r memory₂ b₂ → HasPlayed (played_in memory b f) r memory₂ b₂
+  unfolding played_in
   told_in f h w = rw h w
 
   -- what a caller learns who lent enough
-  pub room-told : (f : Files) {r r₂ : FilesPlayed} {memory₂ : List ℕ} {b₂ : Buffers} → hasRoom memory b ≡ true → r ≡ r₂
-      → HasPlayed (playedIn memory b f) r memory₂ b₂ → HasPlayed (playedOn memory b f) r₂ memory₂ b₂
-  unfolding playedIn
+  pub room-told : (f : Files) {r r₂ : FilesPlayed} {memory₂ : List ℕ} {b₂ : Buffers} → has_room memory b ≡ true → r ≡ r₂
+      → HasPlayed (played_in memory b f) r memory₂ b₂ → HasPlayed (played_on memory b f) r₂ memory₂ b₂
+  unfolding played_in
   room-told f h e w = rw e at (rw h at w)
 
 -- ---- which files they were, from what was handed back
@@ -167,62 +167,62 @@ pub record Ran (memory₀ : List ℕ) (b₀ : Buffers) (f : Files) (events words
   pub many : events ≡ length (run_of start).log
   pub long : words ≡ length (run_of start).left.machine.memory
   pub counts : c ≡ (run_of start).left.counts
-  pub memory-is : memory ≡ atFront (run_of start).left.machine.memory (zeroed memory₀)
-  pub buffers-are : b ≡ logIn (run_of start).log b₀
+  pub memory_is : memory ≡ at_front (run_of start).left.machine.memory (zeroed memory₀)
+  pub buffers-are : b ≡ log_in (run_of start).log b₀
 
 module _ (memory₀ : List ℕ) (b₀ : Buffers) {memory : List ℕ} {b : Buffers} where
-  pub table-told : (f : Files) {n : ℕ} → HasPlayed (playedOn memory₀ b₀ f) (TableFault n) memory b → f ≡ tableFault n
-  table-told (tableFault k) w = let o = w.outcome in cc
-  table-told (traceFault k) w = let o = w.outcome in let z : ◌≡◌ {A = ℕ} 0 1 = cc in absurd (omega arith)
+  pub table-told : (f : Files) {n : ℕ} → HasPlayed (played_on memory₀ b₀ f) (TableFault n) memory b → f ≡ table_fault n
+  table-told (table_fault k) w = let o = w.outcome in cc
+  table-told (trace_fault k) w = let o = w.outcome in let z : ◌≡◌ {A = ℕ} 0 1 = cc in absurd (omega arith)
   table-told (run s) w = let o = w.outcome in let z : ◌≡◌ {A = ℕ} 0 1 = cc in absurd (omega arith)
 
-  pub trace-told : (f : Files) {n : ℕ} → HasPlayed (playedOn memory₀ b₀ f) (TraceFault n) memory b → f ≡ traceFault n
-  trace-told (tableFault k) w = let o = w.outcome in let z : ◌≡◌ {A = ℕ} 0 1 = cc in absurd (omega arith)
-  trace-told (traceFault k) w = let o = w.outcome in cc
+  pub trace-told : (f : Files) {n : ℕ} → HasPlayed (played_on memory₀ b₀ f) (TraceFault n) memory b → f ≡ trace_fault n
+  trace-told (table_fault k) w = let o = w.outcome in let z : ◌≡◌ {A = ℕ} 0 1 = cc in absurd (omega arith)
+  trace-told (trace_fault k) w = let o = w.outcome in cc
   trace-told (run s) w = let o = w.outcome in let z : ◌≡◌ {A = ℕ} 0 1 = cc in absurd (omega arith)
 
-  pub run-told : (f : Files) {events words : ℕ} {c : Counts} → HasPlayed (playedOn memory₀ b₀ f) (Run events words c) memory b
+  pub run-told : (f : Files) {events words : ℕ} {c : Counts} → HasPlayed (played_on memory₀ b₀ f) (Run events words c) memory b
       → Ran memory₀ b₀ f events words c memory b
-  run-told (tableFault k) w = let o = w.outcome in let z : ◌≡◌ {A = ℕ} 0 1 = cc in absurd (omega arith)
-  run-told (traceFault k) w = let o = w.outcome in let z : ◌≡◌ {A = ℕ} 0 1 = cc in absurd (omega arith)
+  run-told (table_fault k) w = let o = w.outcome in let z : ◌≡◌ {A = ℕ} 0 1 = cc in absurd (omega arith)
+  run-told (trace_fault k) w = let o = w.outcome in let z : ◌≡◌ {A = ℕ} 0 1 = cc in absurd (omega arith)
   run-told (run s) {events} {words} {c} w =
       let o = w.outcome in
       let many : events ≡ length s.events = cc in
-      let long : words ≡ s.queue.memoryLength = cc in
+      let long : words ≡ s.queue.memory_length = cc in
       record {
         start = s;
         is = refl;
         many = many ∙ sym (run-many s);
         long = long ∙ sym (run_long s);
         counts = cc;
-        memory-is = w.memory-is;
+        memory_is = w.memory_is;
         buffers-are = w.buffers-are;
       }
 
   -- with room for every file, a want of room is never told
-  pub no-room-told : (f : Files) {n : ℕ} → HasPlayed (playedOn memory₀ b₀ f) (NoRoom n) memory b → ⊥
-  no-room-told (tableFault k) w = let o = w.outcome in let z : ◌≡◌ {A = ℕ} 0 1 = cc in omega arith
-  no-room-told (traceFault k) w = let o = w.outcome in let z : ◌≡◌ {A = ℕ} 0 1 = cc in omega arith
+  pub no-room-told : (f : Files) {n : ℕ} → HasPlayed (played_on memory₀ b₀ f) (NoRoom n) memory b → ⊥
+  no-room-told (table_fault k) w = let o = w.outcome in let z : ◌≡◌ {A = ℕ} 0 1 = cc in omega arith
+  no-room-told (trace_fault k) w = let o = w.outcome in let z : ◌≡◌ {A = ℕ} 0 1 = cc in omega arith
   no-room-told (run s) w = let o = w.outcome in let z : ◌≡◌ {A = ℕ} 0 1 = cc in omega arith
 
 -- ---- playing events
 -- what is told of the events, where they were refused and where they were played
 pub record PlaysAs (q : Contents) (trace : List ℕ) (at : ℕ) (memory : List ℕ) (b : Buffers) (words : ℕ) (r : Replayed) (left : List ℕ)
     (b₂ : Buffers) : Type 0 where
-  pub fault : (r.answer ≡ 0 → ⊥) → HasPlayed (playedOn memory b (startFiles (start_of q (eventsFrom trace at)))) (TraceFault r.answer) left b₂
+  pub fault : (r.answer ≡ 0 → ⊥) → HasPlayed (played_on memory b (start_files (start_of q (events_from trace at)))) (TraceFault r.answer) left b₂
   pub well : r.answer ≡ 0
-      → HasPlayed (playedOn memory b (startFiles (start_of q (eventsFrom trace at)))) (Run r.events words r.counts) left b₂
+      → HasPlayed (played_on memory b (start_files (start_of q (events_from trace at)))) (Run r.events words r.counts) left b₂
 
 -- a replay on the memory's front, with room for every event, is refused for an event alone
 module _ (q : Contents) {trace memory : List ℕ} (at : ℕ) {b : Buffers} (words : ℕ) (r : Replayed) (front₂ : List ℕ) (b₂ : Buffers)
-    (lent : Playable q trace memory b) (are : words ≡ q.memoryLength) where
+    (lent : Playable q trace memory b) (are : words ≡ q.memory_length) where
   abbrev Plays : Reply (List Event) → Type 0
-  Plays g = Replays (take words memory) noCounts b (replayFrom q g (take words memory) noCounts b) r front₂ b₂
+  Plays g = Replays (take words memory) no_counts b (replay_from q g (take words memory) no_counts b) r front₂ b₂
 
   abbrev Told : Files → FilesPlayed → Type 0
-  Told f played = HasPlayed (playedOn memory b f) played (front₂ ++ drop words memory) b₂
+  Told f played = HasPlayed (played_on memory b f) played (front₂ ++ drop words memory) b₂
 
-  zeros : take words memory ≡ replicate q.memoryLength 0
+  zeros : take words memory ≡ replicate q.memory_length 0
   zeros =
       let few : words ≤ length memory = omega (arith, lent.memory-few, lent.cleared.room.words, are) in
       take-zeros memory words lent.cleared.zeros few ∙ ap (λ (n : ℕ). replicate n 0) are
@@ -230,36 +230,36 @@ module _ (q : Contents) {trace memory : List ℕ} (at : ℕ) {b : Buffers} (word
   runs : (s : Start) → s.queue ≡ q → ReplayedWell (run_of s) b r front₂ b₂ → Told (run s) (Run r.events words r.counts)
   runs s same w =
       let many = run-many s in
-      let long : length (run_of s).left.machine.memory ≡ words = run_long s ∙ ap (λ (c : Contents). c.memoryLength) same ∙ sym are in
+      let long : length (run_of s).left.machine.memory ≡ words = run_long s ∙ ap (λ (c : Contents). c.memory_length) same ∙ sym are in
       record {
         outcome = rw (w.outcome, many, sym long, run_long s);
-        memory-is = rw (w.memory-is, sym long) (ap (atFront (run_of s).left.machine.memory) lent.cleared.zeros);
+        memory_is = rw (w.memory_is, sym long) (ap (at_front (run_of s).left.machine.memory) lent.cleared.zeros);
         buffers-are = w.buffers-are;
       }
 
-  pub plays : Plays (eventsFrom trace at) → PlaysAs q trace at memory b words r (front₂ ++ drop words memory) b₂
-  plays v = go (eventsFrom trace at) refl v
+  pub plays : Plays (events_from trace at) → PlaysAs q trace at memory b words r (front₂ ++ drop words memory) b₂
+  plays v = go (events_from trace at) refl v
     where
-      go : (g : Reply (List Event)) → eventsFrom trace at ≡ g → Plays g → PlaysAs q trace at memory b words r (front₂ ++ drop words memory) b₂
+      go : (g : Reply (List Event)) → events_from trace at ≡ g → Plays g → PlaysAs q trace at memory b words r (front₂ ++ drop words memory) b₂
       go (refuse n) d v =
           let answer : r.answer ≡ n = ap (λ (x : Replayed). x.answer) v.outcome in
-          let proper = refused-some (eventsFrom trace at) (events-among notZero refl refl refl refl _ (drop at trace)) d in
+          let proper = refused_some (events_from trace at) (events-among not_zero refl refl refl refl _ (drop at trace)) d in
           record {
             fault = λ apart. rw d (record {
-              outcome = ap ofTrace answer;
-              memory-is = rw v.memory-is (take-append-drop words memory);
+              outcome = ap of_trace answer;
+              memory_is = rw v.memory_is (take-append-drop words memory);
               buffers-are = v.buffers-are;
             });
             well = λ nought. absurd (proper (sym answer ∙ nought));
           }
       go (accept es) d v =
-          let few : length es ≤ mostBytes = omega (arith, events-few-from trace at d, lent.short) in
-          let long : length (take words memory) ≡ q.memoryLength = ap length zeros ∙ length-replicate q.memoryLength 0 in
-          let (a, g, w) = room_for mostBytes b lent.cleared.room.places in
+          let few : length es ≤ most_bytes = omega (arith, events_few_from trace at d, lent.short) in
+          let long : length (take words memory) ≡ q.memory_length = ap length zeros ∙ length-replicate q.memory_length 0 in
+          let (a, g, w) = room_for most_bytes b lent.cleared.room.places in
           let fit = long-enough (length es) b (omega (arith, few, a)) (omega (arith, few, g)) (omega (arith, few, w)) in
           let s : Start = record { queue = q; events = es } in
-          let u : ReplayedWell (replayed s (take words memory) noCounts) b r front₂ b₂ =
-          rw (replay-accepted q (accept es) (take words memory) noCounts b refl long fit) at v in
+          let u : ReplayedWell (replayed s (take words memory) no_counts) b r front₂ b₂ =
+          rw (replay-accepted q (accept es) (take words memory) no_counts b refl long fit) at v in
           record {
             fault = λ apart. absurd (apart (ap (λ (x : Replayed). x.answer) u.outcome));
             well = λ nought. rw d (runs s refl (rw zeros at u));

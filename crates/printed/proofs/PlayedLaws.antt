@@ -6,7 +6,7 @@ use Rattle.trace.specs.declared.Event.{Event}
 use Rattle.sequential.specs.Calls.{Call}
 use Rattle.sequential.specs.Answers.{Machine, Response}
 use Rattle.sequential.proofs.Accepted.{Stepped, refused, activated, gave, served, wrote, took, readied, stepped}
-use Rattle.replay.specs.Playing.{Playing, call_of, played, playedAll}
+use Rattle.replay.specs.Playing.{Playing, call_of, played, played_all}
 use Rattle.replay.specs.Replay.{Start}
 use Rattle.replay.proofs.ReplayLaws.{log-many}
 use Rattle.printed.specs.Files.{run_of}
@@ -21,7 +21,7 @@ step-long m (wrote s at w) = length-set m.memory w.put.address w.put.word
 step-long m (took l v at has) = refl
 step-long m (readied n low) = refl
 
-played-long : (p : Playing) (es : List Event) → length (playedAll p es).machine.memory ≡ length p.machine.memory
+played-long : (p : Playing) (es : List Event) → length (played_all p es).machine.memory ≡ length p.machine.memory
 played-long p [] = refl
 played-long p (e ∷ es) = played-long (played p e) es ∙ step-long p.machine (stepped p.machine (call_of p.counts e))
 
@@ -29,5 +29,5 @@ played-long p (e ∷ es) = played-long (played p e) es ∙ step-long p.machine (
 pub run-many : (s : Start) → length (run_of s).log ≡ length s.events
 run-many s = log-many _ s.events
 
-pub run_long : (s : Start) → length (run_of s).left.machine.memory ≡ s.queue.memoryLength
-run_long s = played-long _ s.events ∙ length-replicate s.queue.memoryLength 0
+pub run_long : (s : Start) → length (run_of s).left.machine.memory ≡ s.queue.memory_length
+run_long s = played-long _ s.events ∙ length-replicate s.queue.memory_length 0

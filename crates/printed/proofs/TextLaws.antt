@@ -7,25 +7,25 @@ use native.Mathlib.Nat.{zero-add}
 use lib.ListN.{length, take, drop, length-append, length-map}
 use lib.Seq.{take_at}
 use borrow.Author.Tests.{lt-leb, le-leb}
-use Rattle.number.specs.Refusal.{tooShort}
+use Rattle.number.specs.Refusal.{too_short}
 use Rattle.number.specs.Reply.{accept}
 use Rattle.number.specs.Number.{unwritten, Puts}
 use Rattle.number.proofs.SpliceLaws.{splice_front}
 use Rattle.counts.specs.declared.Counts.{Counts}
 use Rattle.replay.specs.Playing.{Logged, answer_of, given_of, word_of}
 use Rattle.replay.specs.Replay.{Buffers}
-use Rattle.replay.specs.Outcome.{atFront}
+use Rattle.replay.specs.Outcome.{at_front}
 use Rattle.printed.specs.Files.{Files, run_of}
-use Rattle.printed.specs.Text.{runText, filesText, text}
+use Rattle.printed.specs.Text.{run_text, files_text, text}
 use Rattle.printed.specs.Played.{zeroed}
-use Rattle.printed.specs.Outcome.{mostText, printed}
+use Rattle.printed.specs.Outcome.{most_text, printed}
 use Rattle.printed.specs.Internal.{rows}
 use Rattle.printed.proofs.LineLaws.{rows_log}
 use Rattle.printed.proofs.FilesLaws.{Ran}
 
 -- ---- the text of what was played
 -- a list at a buffer's front is no longer than the buffer
-front-few : (f : Logged → ℕ) (l : List Logged) (d : List ℕ) → length l ≤ length (atFront (map f l) d)
+front-few : (f : Logged → ℕ) (l : List Logged) (d : List ℕ) → length l ≤ length (at_front (map f l) d)
 front-few f l d = omega (arith, length-append (map f l) (drop (length (map f l)) d), length-map l f)
 
 -- a run as it was left: it fits in what was lent, and its lines are the text
@@ -34,14 +34,14 @@ pub record RunLeft (f : Files) (events words : ℕ) (c : Counts) (memory : List 
   pub given : events ≤ length b.given
   pub values : events ≤ length b.values
   pub words-few : words ≤ length memory
-  pub text : runText (take events (rows b.answers b.given b.values)) (take words memory) c ≡ filesText f
+  pub text : run_text (take events (rows b.answers b.given b.values)) (take words memory) c ≡ files_text f
 
-pub run-left : {memory₀ : List ℕ} {b₀ : Buffers} {f : Files} {events words : ℕ} {c : Counts} {memory : List ℕ} {b : Buffers}
+pub run_left : {memory₀ : List ℕ} {b₀ : Buffers} {f : Files} {events words : ℕ} {c : Counts} {memory : List ℕ} {b : Buffers}
     → Ran memory₀ b₀ f events words c memory b → RunLeft f events words c memory b
-run-left {memory₀} {b₀} {words = words} w =
+run_left {memory₀} {b₀} {words = words} w =
     let r = run_of w.start in
     let m = r.left.machine.memory in
-    rw (w.is, w.memory-is, w.buffers-are, w.many, w.counts) (record {
+    rw (w.is, w.memory_is, w.buffers-are, w.many, w.counts) (record {
       answers = front-few answer_of r.log b₀.answers;
       given = front-few given_of r.log b₀.given;
       values = front-few word_of r.log b₀.values;
@@ -50,18 +50,18 @@ run-left {memory₀} {b₀} {words = words} w =
     })
 
 -- ---- what printing hands back
-pub printed-short : (table trace out : List ℕ) → length out < mostText → printed table trace out ≡ unwritten tooShort out
+pub printed-short : (table trace out : List ℕ) → length out < most_text → printed table trace out ≡ unwritten too_short out
 unfolding printed
-printed-short table trace out h = rw (lt-leb mostText (length out) h)
+printed-short table trace out h = rw (lt-leb most_text (length out) h)
 
-pub printed-fits : (table trace out : List ℕ) → mostText ≤ length out
+pub printed-fits : (table trace out : List ℕ) → most_text ≤ length out
     → printed table trace out ≡ record {
       answer = accept (length (text table trace));
       buffer =
           text table trace ++ drop (length (text table trace)) out;
     }
 unfolding printed
-printed-fits table trace out h = rw (le-leb mostText (length out) h)
+printed-fits table trace out h = rw (le-leb most_text (length out) h)
 
 pub puts-front : {d bytes : List ℕ} {e : ℕ} {out : List ℕ} → Puts d 0 bytes e out → (e ≡ length bytes) × (out ≡ bytes ++ drop (length bytes) d)
 puts-front {d} {bytes} w = (w.ends ∙ zero-add (length bytes), w.is ∙ splice_front d bytes)

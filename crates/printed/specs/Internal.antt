@@ -6,37 +6,37 @@ use Rattle.number.specs.Texts.{decimal}
 use Rattle.queue.specs.Contents.{Contents}
 use Rattle.replay.specs.Playing.{Logged}
 use Rattle.replay.specs.Replay.{Buffers, fits}
-use Rattle.printed.specs.Files.{mostBytes, mostWords}
+use Rattle.printed.specs.Files.{most_bytes, most_words}
 use Rattle.printed.specs.Played.{zeroed}
-use Rattle.printed.specs.Outcome.{mostText}
+use Rattle.printed.specs.Outcome.{most_text}
 
 -- words, a number, and the byte after it
 abbrev pub item : List ℕ → ℕ → ℕ → List ℕ
 item words n end = words ++ decimal n ++ end ∷ []
 
 -- an event's answer and value, from the three numbers that a replay puts down for it
-abbrev pub loggedAs : ℕ → ℕ → ℕ → Logged
-loggedAs answer given word = record { number = answer; value = pick (eqb given 1) (some word) none }
+abbrev pub logged_as : ℕ → ℕ → ℕ → Logged
+logged_as answer given word = record { number = answer; value = pick (eqb given 1) (some word) none }
 
 abbrev pub rows : List ℕ → List ℕ → List ℕ → List Logged
 rows [] given values = []
 rows (a ∷ answers) [] values = []
 rows (a ∷ answers) (g ∷ given) [] = []
-rows (a ∷ answers) (g ∷ given) (w ∷ values) = loggedAs a g w ∷ rows answers given values
+rows (a ∷ answers) (g ∷ given) (w ∷ values) = logged_as a g w ∷ rows answers given values
 
 -- what a replay put down of so many events, no more than a file has, a memory, and room for their text
 pub record RunFits (count : ℕ) (answers given values memory out : List ℕ) : Type 0 where
-  pub answers-hold : count ≤ length answers
-  pub given-hold : count ≤ length given
-  pub values-hold : count ≤ length values
-  pub few : count ≤ mostBytes
-  pub memory-few : length memory ≤ mostWords
-  pub room : mostText ≤ length out
+  pub answers_hold : count ≤ length answers
+  pub given_hold : count ≤ length given
+  pub values_hold : count ≤ length values
+  pub few : count ≤ most_bytes
+  pub memory-few : length memory ≤ most_words
+  pub room : most_text ≤ length out
 
 -- a memory and buffers that have room for every file
 pub record Room (memory : List ℕ) (b : Buffers) : Type 0 where
-  pub words : mostWords ≤ length memory
-  pub places : fits mostBytes b ≡ true
+  pub words : most_words ≤ length memory
+  pub places : fits most_bytes b ≡ true
 
 -- the same, and the memory is all zero
 pub record Cleared (memory : List ℕ) (b : Buffers) : Type 0 where
@@ -46,5 +46,5 @@ pub record Cleared (memory : List ℕ) (b : Buffers) : Type 0 where
 -- the same, a trace that is no longer than a file, and a queue whose memory has no more words than any
 pub record Playable (q : Contents) (trace memory : List ℕ) (b : Buffers) : Type 0 where
   pub cleared : Cleared memory b
-  pub short : length trace ≤ mostBytes
-  pub memory-few : q.memoryLength ≤ mostWords
+  pub short : length trace ≤ most_bytes
+  pub memory-few : q.memory_length ≤ most_words

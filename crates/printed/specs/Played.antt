@@ -1,17 +1,17 @@
 -- What playing the files hands back, and what it leaves in the memory and the buffers that it is lent.
 use Rattle.std.specs.Prelude.{ℕ, ◌≡◌, Bool, ◌&&◌, List, leb, length, replicate}
 use Rattle.number.specs.Basics.{pick}
-use Rattle.number.specs.Refusal.{tooShort}
+use Rattle.number.specs.Refusal.{too_short}
 use Rattle.counts.specs.declared.Counts.{Counts}
 use Rattle.replay.specs.Replay.{Buffers, fits}
-use Rattle.replay.specs.Outcome.{atFront, logIn}
+use Rattle.replay.specs.Outcome.{at_front, log_in}
 use Rattle.printed.specs.declared.files.FilesPlayed.{FilesPlayed}
 use Rattle.printed.specs.declared.files.FilesPlayed.TheVariants.{TableFault, TraceFault, Run, NoRoom}
-use Rattle.printed.specs.Files.{mostBytes, mostWords, Files, tableFault, traceFault, run, run_of}
+use Rattle.printed.specs.Files.{most_bytes, most_words, Files, table_fault, trace_fault, run, run_of}
 
 -- room for every memory, and in each buffer for every event of a file
-abbrev pub hasRoom : List ℕ → Buffers → Bool
-hasRoom memory b = leb mostWords (length memory) && fits mostBytes b
+abbrev pub has_room : List ℕ → Buffers → Bool
+has_room memory b = leb most_words (length memory) && fits most_bytes b
 
 -- a memory of this length, all zero
 abbrev pub zeroed : List ℕ → List ℕ
@@ -20,17 +20,17 @@ zeroed memory = replicate (length memory) 0
 -- What playing two files answers: the number of a fault of the table, or of the trace; how many events a run has, its memory length, and the
 -- counts that it leaves; or the refusal of what was lent.
 pub data FilesReply : Type 0 where
-  ofTable : ℕ → FilesReply
-  ofTrace : ℕ → FilesReply
+  of_table : ℕ → FilesReply
+  of_trace : ℕ → FilesReply
   ran : ℕ → ℕ → Counts → FilesReply
-  ofLent : ℕ → FilesReply
+  of_lent : ℕ → FilesReply
 
 -- the number and the values of each case of `FilesPlayed`
-abbrev pub filesReply : FilesPlayed → FilesReply
-filesReply (TableFault n) = ofTable n
-filesReply (TraceFault n) = ofTrace n
-filesReply (Run events words counts) = ran events words counts
-filesReply (NoRoom n) = ofLent n
+abbrev pub files_reply : FilesPlayed → FilesReply
+files_reply (TableFault n) = of_table n
+files_reply (TraceFault n) = of_trace n
+files_reply (Run events words counts) = ran events words counts
+files_reply (NoRoom n) = of_lent n
 
 -- what is answered, and the memory and the buffers as they are left
 pub record LeftPlayed : Type 0 where
@@ -40,21 +40,21 @@ pub record LeftPlayed : Type 0 where
 
 -- A fault changes nothing that was lent. A run leaves its memory at the front of the one that was lent, which is 0 in every word behind
 -- it, and each event's answer, 1 or 0 as it gave a value or none, and the value or 0 at the front of the buffers.
-abbrev pub playedOn : List ℕ → Buffers → Files → LeftPlayed
-playedOn memory b (tableFault n) = record { reply = ofTable n; memory = memory; buffers = b }
-playedOn memory b (traceFault n) = record { reply = ofTrace n; memory = memory; buffers = b }
-playedOn memory b (run s) = record {
-  reply = ran (length s.events) s.queue.memoryLength (run_of s).left.counts;
-  memory = atFront (run_of s).left.machine.memory (zeroed memory);
-  buffers = logIn (run_of s).log b;
+abbrev pub played_on : List ℕ → Buffers → Files → LeftPlayed
+played_on memory b (table_fault n) = record { reply = of_table n; memory = memory; buffers = b }
+played_on memory b (trace_fault n) = record { reply = of_trace n; memory = memory; buffers = b }
+played_on memory b (run s) = record {
+  reply = ran (length s.events) s.queue.memory_length (run_of s).left.counts;
+  memory = at_front (run_of s).left.machine.memory (zeroed memory);
+  buffers = log_in (run_of s).log b;
 }
 
 -- 10 where there is not room for every file, and then nothing is changed; else the files are played
-unfoldable pub playedIn : List ℕ → Buffers → Files → LeftPlayed
-playedIn memory b f = pick (hasRoom memory b) (playedOn memory b f) (record { reply = ofLent tooShort; memory = memory; buffers = b })
+unfoldable pub played_in : List ℕ → Buffers → Files → LeftPlayed
+played_in memory b f = pick (has_room memory b) (played_on memory b f) (record { reply = of_lent too_short; memory = memory; buffers = b })
 
 -- a call that plays files: what it hands back, and what it leaves
 pub record HasPlayed (w : LeftPlayed) (r : FilesPlayed) (memory₂ : List ℕ) (b₂ : Buffers) : Type 0 where
-  pub outcome : filesReply r ≡ w.reply
-  pub memory-is : memory₂ ≡ w.memory
+  pub outcome : files_reply r ≡ w.reply
+  pub memory_is : memory₂ ≡ w.memory
   pub buffers-are : b₂ ≡ w.buffers

@@ -3,9 +3,9 @@ use Rattle.std.specs.Prelude.{ℕ, List, [], ◌∷◌, ◌++◌}
 use Rattle.number.specs.Texts.{bytes}
 
 -- "One space parts fields": a line of fields, ended by a line feed.
-abbrev pub moreFields : List (List ℕ) → List ℕ
-moreFields [] = bytes "\n"
-moreFields (f ∷ fs) = bytes " " ++ f ++ moreFields fs
+abbrev pub more_fields : List (List ℕ) → List ℕ
+more_fields [] = bytes "\n"
+more_fields (f ∷ fs) = bytes " " ++ f ++ more_fields fs
 
 abbrev pub line : List ℕ → List (List ℕ) → List ℕ
-line f fs = f ++ moreFields fs
+line f fs = f ++ more_fields fs

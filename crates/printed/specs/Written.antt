@@ -1,10 +1,10 @@
 -- S-4: files that are played are what the writer gives for their run. The proof is proofs/FilesWritten.antt.
 use Rattle.std.specs.Prelude.{ℕ, ◌≡◌, List}
 use Rattle.number.specs.Number.{AreBytes}
-use Rattle.table.specs.TableBytes.{tableBytes}
-use Rattle.trace.specs.Trace.{traceBytes}
+use Rattle.table.specs.TableBytes.{table_bytes}
+use Rattle.trace.specs.Trace.{trace_bytes}
 use Rattle.replay.specs.Replay.{Start}
-use Rattle.replay.specs.Traces.{traceOfRun}
+use Rattle.replay.specs.Traces.{trace_of_run}
 use Rattle.printed.specs.Files.{run, files}
 
 -- "Two stations archive traces by their bytes and found one run under two names": a run's table and trace are the only files that are
@@ -12,4 +12,4 @@ use Rattle.printed.specs.Files.{run, files}
 abbrev pub FilesAreWritten : Type 0
 FilesAreWritten =
     (table trace : List ℕ) (s : Start) → AreBytes table → AreBytes trace → files table trace ≡ run s →
-    (table ≡ tableBytes s.queue.groups) × (trace ≡ traceBytes (traceOfRun s))
+    (table ≡ table_bytes s.queue.groups) × (trace ≡ trace_bytes (trace_of_run s))

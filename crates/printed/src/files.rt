@@ -1,11 +1,11 @@
 // Playing a table file and a trace file: which fault they have, or the run that they are.
 ghost use Rattle.std.specs.Prelude.{◌≡◌, ◌&&◌, leb, length, replicate};
 ghost use Rattle.table.specs.Table.{groups_of};
-ghost use Rattle.queue.specs.Contents.{contentsOf};
-ghost use Rattle.replay.specs.Events.{eventsFrom};
+ghost use Rattle.queue.specs.Contents.{contents_of};
+ghost use Rattle.replay.specs.Events.{events_from};
 ghost use Rattle.replay.specs.Replay.{start_of};
-ghost use Rattle.printed.specs.Files.{mostBytes, mostWords, startFiles, traceFiles, files};
-ghost use Rattle.printed.specs.Played.{playedOn, playedIn, HasPlayed};
+ghost use Rattle.printed.specs.Files.{most_bytes, most_words, start_files, trace_files, files};
+ghost use Rattle.printed.specs.Played.{played_on, played_in, HasPlayed};
 ghost use Rattle.printed.specs.Internal.{Room, Playable};
 
 use counts::Counts;
@@ -39,27 +39,27 @@ pub enum FilesPlayed {
 
 // Buffers with room for an answer to each event of a file, and for its value.
 pub fn no_answers() -> [u8; MOST_BYTES]
-    ensures { result ≡ replicate mostBytes 0 }
+    ensures { result ≡ replicate most_bytes 0 }
 {
     [0; MOST_BYTES]
 }
 
 pub fn no_values() -> [u32; MOST_BYTES]
-    ensures { result ≡ replicate mostBytes 0 }
+    ensures { result ≡ replicate most_bytes 0 }
 {
     [0; MOST_BYTES]
 }
 
 // A memory with room for every other.
 pub fn no_memory() -> [u32; MOST_WORDS]
-    ensures { result ≡ replicate mostWords 0 }
+    ensures { result ≡ replicate most_words 0 }
 {
     [0; MOST_WORDS]
 }
 
 // A memory and buffers of these lengths have room for every file.
 fn have_room(memory: usize, answers: usize, given: usize, values: usize) -> bool
-    ensures { result ≡ leb mostWords memory && (leb mostBytes answers && leb mostBytes given && leb mostBytes values) }
+    ensures { result ≡ leb most_words memory && (leb most_bytes answers && leb most_bytes given && leb most_bytes values) }
 {
     if memory < MOST_WORDS {
         return false;
@@ -94,10 +94,10 @@ fn play_events(
     given: &mut [u8],
     values: &mut [u32],
 ) -> FilesPlayed
-    requires { Playable (contentsOf queue) trace.now memory.old (record { answers = answers.now; given = given.old; values = values.old }) }
-    ensures { HasPlayed (playedOn memory.old
+    requires { Playable (contents_of queue) trace.now memory.old (record { answers = answers.now; given = given.old; values = values.old }) }
+    ensures { HasPlayed (played_on memory.old
         (record { answers = answers.entry.now; given = given.old; values = values.old })
-        (startFiles (start_of (contentsOf queue) (eventsFrom trace.now at)))) result memory.new
+        (start_files (start_of (contents_of queue) (events_from trace.now at)))) result memory.new
         (record { answers = answers.exit.now; given = given.new; values = values.new }) }
 {
     let frame = queue.frame;
@@ -129,9 +129,9 @@ fn play_trace(
     values: &mut [u32],
 ) -> FilesPlayed
     requires { Room memory.old (record { answers = answers.now; given = given.old; values = values.old }) }
-    ensures { HasPlayed (playedOn memory.old
+    ensures { HasPlayed (played_on memory.old
         (record { answers = answers.entry.now; given = given.old; values = values.old })
-        (traceFiles (groups_of table) trace.now)) result memory.new
+        (trace_files (groups_of table) trace.now)) result memory.new
         (record { answers = answers.exit.now; given = given.new; values = values.new }) }
 {
     if MOST_BYTES < trace.len() {
@@ -164,7 +164,7 @@ pub fn play_files(
     given: &mut [u8],
     values: &mut [u32],
 ) -> FilesPlayed
-    ensures { HasPlayed (playedIn memory.old
+    ensures { HasPlayed (played_in memory.old
         (record { answers = answers.entry.now; given = given.old; values = values.old })
         (files table.now trace.now)) result memory.new
         (record { answers = answers.exit.now; given = given.new; values = values.new }) }

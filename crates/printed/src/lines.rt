@@ -1,9 +1,9 @@
 // The lines of the printed run.
 ghost use Rattle.std.specs.Prelude.{◌+◌, ◌*◌, ◌≤◌, length, take};
-ghost use Rattle.printed.specs.Text.{eventLine, eventLines, word_line, wordLines, countsLine, runText};
+ghost use Rattle.printed.specs.Text.{event_line, event_lines, word_line, word_lines, counts_line, run_text};
 ghost use Rattle.number.specs.Number.{Puts, PutIfFits};
-ghost use Rattle.printed.specs.Files.{faultText};
-ghost use Rattle.printed.specs.Internal.{item, loggedAs, rows, RunFits};
+ghost use Rattle.printed.specs.Files.{fault_text};
+ghost use Rattle.printed.specs.Internal.{item, logged_as, rows, RunFits};
 
 use crate::put::put_item;
 use counts::{Counts, share};
@@ -12,7 +12,7 @@ use number::texts::put_bytes;
 // Puts an event's line: its number, its answer, and the value or `-`.
 fn put_event(out: &mut [u8], at: usize, number: u64, answer: u8, given: u8, word: u32) -> usize
     requires { at + 63 ≤ length out.old }
-    ensures { Puts out.old at (eventLine number (loggedAs answer given word)) result out.new }
+    ensures { Puts out.old at (event_line number (logged_as answer given word)) result out.new }
 {
     let place = put_item(out, at, b"", number, 32);
     let place = put_item(out, place, b"", answer as u64, 32);
@@ -26,7 +26,7 @@ fn put_event(out: &mut [u8], at: usize, number: u64, answer: u8, given: u8, word
 fn put_events(out: &mut [u8], answers: &[u8], given: &[u8], values: &[u32], count: usize) -> usize
     requires { (count ≤ length answers.now) × (count ≤ length given.now) × (count ≤ length values.now)
         × (63 * count ≤ length out.old) }
-    ensures { Puts out.old 0 (eventLines 1 (take count (rows answers.now given.now values.now)))
+    ensures { Puts out.old 0 (event_lines 1 (take count (rows answers.now given.now values.now)))
         result out.new }
 {
     let mut place: usize = 0;
@@ -53,7 +53,7 @@ fn put_word(out: &mut [u8], at: usize, address: u64, word: u32) -> usize
 // Puts the lines of a memory's words that are not 0, by address.
 fn put_words(out: &mut [u8], at: usize, memory: &[u32]) -> usize
     requires { at + 47 * length memory.now ≤ length out.old }
-    ensures { Puts out.old at (wordLines 0 memory.now) result out.new }
+    ensures { Puts out.old at (word_lines 0 memory.now) result out.new }
 {
     let mut place = at;
     let mut i: usize = 0;
@@ -67,7 +67,7 @@ fn put_words(out: &mut [u8], at: usize, memory: &[u32]) -> usize
 // Puts the last line.
 fn put_counts(out: &mut [u8], at: usize, counts: Counts) -> usize
     requires { at + 85 ≤ length out.old }
-    ensures { Puts out.old at (countsLine counts) result out.new }
+    ensures { Puts out.old at (counts_line counts) result out.new }
 {
     let place = put_item(out, at, b"loads ", counts.loads as u64, 32);
     let place = put_item(out, place, b"forwarded ", counts.forwarded as u64, 32);
@@ -86,7 +86,7 @@ pub(crate) fn put_run(
 ) -> usize
     requires { RunFits count answers.now given.now values.now memory.now out.old }
     ensures { Puts out.old 0
-        (runText (take count (rows answers.now given.now values.now)) memory.now counts) result out.new }
+        (run_text (take count (rows answers.now given.now values.now)) memory.now counts) result out.new }
 {
     let place = put_events(out, answers, given, values, count);
     let place = put_words(out, place, memory);
@@ -111,7 +111,7 @@ fn put_line(out: &mut [u8], word: &[u8], number: u8) -> usize
 // Puts the line of a fault, of the table or of the trace, at a buffer's front, and says where it ends; where it does not fit,
 // nothing is put. No such line is longer than 10 bytes (`fault-few`).
 pub fn put_fault(out: &mut [u8], of_table: bool, number: u8) -> usize
-    ensures { PutIfFits out.old 0 (faultText of_table number) result out.new }
+    ensures { PutIfFits out.old 0 (fault_text of_table number) result out.new }
 {
     if of_table {
         return put_line(out, b"table ", number);

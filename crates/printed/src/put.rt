@@ -1,6 +1,6 @@
 // Putting bytes at a place of a buffer where they fit. Each function says where they end.
 ghost use Rattle.std.specs.Prelude.{◌+◌, ◌≤◌, ◌<◌, length};
-ghost use Rattle.number.specs.Texts.{digitsUpTo};
+ghost use Rattle.number.specs.Texts.{digits_up_to};
 ghost use Rattle.number.specs.Number.{Puts};
 ghost use Rattle.printed.specs.Internal.{item};
 
@@ -8,8 +8,8 @@ use number::texts::put_bytes;
 
 // Puts a number's digits: one, and up to `more` before it.
 fn put_digits(out: &mut [u8], at: usize, n: u64, more: u32) -> usize
-    requires { at + length (digitsUpTo more n) ≤ length out.old }
-    ensures { Puts out.old at (digitsUpTo more n) result out.new }
+    requires { at + length (digits_up_to more n) ≤ length out.old }
+    ensures { Puts out.old at (digits_up_to more n) result out.new }
 {
     if more == 0 {
         out[at] = (48 + n % 10) as u8;

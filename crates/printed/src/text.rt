@@ -2,7 +2,7 @@
 ghost use Rattle.std.specs.Prelude.{◌≤◌, length};
 ghost use Rattle.number.specs.Number.{HasWritten, Puts};
 ghost use Rattle.printed.specs.Text.{text};
-ghost use Rattle.printed.specs.Outcome.{mostText, printed};
+ghost use Rattle.printed.specs.Outcome.{most_text, printed};
 
 use crate::files::{FilesPlayed, no_answers, no_memory, no_values, play_files};
 use crate::lines::{put_fault, put_run};
@@ -14,7 +14,7 @@ pub const MOST_TEXT: usize = 1224789;
 
 // Puts the text of both files' bytes: the line of the fault that they have, or the lines of the run that they are.
 fn put_text(out: &mut [u8], table: &[u8], trace: &[u8]) -> usize
-    requires { mostText ≤ length out.old }
+    requires { most_text ≤ length out.old }
     ensures { Puts out.old 0 (text table.now trace.now) result out.new }
 {
     let mut memory = no_memory();

@@ -1,12 +1,12 @@
 // What the programs share: how the files of the current folder are read.
 ghost use Rattle.std.specs.Prelude.{◌≡◌, ◌+◌, ◌≤◌, length, replicate};
-ghost use Rattle.printed.specs.Files.{mostBytes};
+ghost use Rattle.printed.specs.Files.{most_bytes};
 
 use printed::files::MOST_BYTES;
 
 // One byte more than a file may have, so that a longer file is seen to be too long.
 pub fn file_buffer() -> [u8; MOST_BYTES + 1]
-    ensures { result ≡ replicate (mostBytes + 1) 0 }
+    ensures { result ≡ replicate (most_bytes + 1) 0 }
 {
     [0; MOST_BYTES + 1]
 }

@@ -4,20 +4,20 @@ use lib.ListN.{length-map}
 use Rattle.table.specs.declared.Span.{Span}
 use Rattle.table.specs.declared.Group.{Group}
 use Rattle.table.specs.Group as T
-use Rattle.table.specs.Group.{GroupPairs, blankPair, list_of, pairsOf, Inside, Access, order, countedPairs}
-use Rattle.table.specs.Table.{groupAt, groups_of}
+use Rattle.table.specs.Group.{GroupPairs, blank_pair, list_of, pairs_of, Inside, Access, order, counted_pairs}
+use Rattle.table.specs.Table.{group_at, groups_of}
 use Rattle.table.proofs.CheckLaws.{view-length, groups-size}
 use Rattle.table.proofs.OrderOffsets.{GroupRight}
 use Rattle.queue.specs.declared.Kind.TheVariants.{Load as load, Store as store}
-use Rattle.queue.specs.Entry.{entryIn}
-use Rattle.queue.specs.Contents.{Contents, contentsOf, ofKind}
+use Rattle.queue.specs.Entry.{entry_in}
+use Rattle.queue.specs.Contents.{Contents, contents_of, of_kind}
 use Rattle.queue.specs.Sound.{sound}
-use Rattle.queue.specs.Activate.{room, withGroup, activate, newEntries, is_of}
-use Rattle.queue.specs.Parts.{queueOf}
-use Rattle.queue.specs.Internal.{entryAfter, PairsFit, Appended, longer, withPairs}
+use Rattle.queue.specs.Activate.{room, with_group, activate, new_entries, is_of}
+use Rattle.queue.specs.Parts.{queue_of}
+use Rattle.queue.specs.Internal.{entry_after, PairsFit, Appended, longer, with_pairs}
 use Rattle.queue.specs.declared.Kind.{Kind}
 use Rattle.queue.specs.declared.Queue.{Queue}
-use Rattle.number.specs.Refusal.{unsound, noGroup, noPlace}
+use Rattle.number.specs.Refusal.{unsound, no_group, no_place}
 use Rattle.number.specs.Reply.{refuse, accept, need}
 use Rattle.number.proofs.Both.{and_left, and_right}
 use Rattle.queue.proofs.ContentsLaws.{getElem?-past, mapped-length}
@@ -25,28 +25,28 @@ use Rattle.queue.proofs.SoundLaws.{depth-most, table-right}
 use Rattle.queue.proofs.GroupLaws.{groups-few, group-getElem?}
 
 -- ---- the new entries by their offsets
-new-counted : (kind : Kind) (n loads stores : ℕ) (xs : List Access)
-    → newEntries kind (n + ofKind kind stores loads) xs ≡ map (entryAfter n) (countedPairs (is_of kind) loads stores xs)
-new-counted kind n l s [] = refl
-new-counted load n l s (T.load p ∷ xs) = rw (new-counted load n (suc l) s xs)
-new-counted load n l s (T.store p ∷ xs) = rw (← add-suc n s) (new-counted load n l (suc s) xs)
-new-counted store n l s (T.load p ∷ xs) = rw (← add-suc n l) (new-counted store n (suc l) s xs)
-new-counted store n l s (T.store p ∷ xs) = rw (new-counted store n l (suc s) xs)
+new_counted : (kind : Kind) (n loads stores : ℕ) (xs : List Access)
+    → new_entries kind (n + of_kind kind stores loads) xs ≡ map (entry_after n) (counted_pairs (is_of kind) loads stores xs)
+new_counted kind n l s [] = refl
+new_counted load n l s (T.load p ∷ xs) = rw (new_counted load n (suc l) s xs)
+new_counted load n l s (T.store p ∷ xs) = rw (← add-suc n s) (new_counted load n l (suc s) xs)
+new_counted store n l s (T.load p ∷ xs) = rw (← add-suc n l) (new_counted store n (suc l) s xs)
+new_counted store n l s (T.store p ∷ xs) = rw (new_counted store n l (suc s) xs)
 
-new-entries : (kind : Kind) (n : ℕ) {g : GroupPairs} → GroupRight g → map (entryAfter n) (ofKind kind g.loads g.stores) ≡ newEntries kind n (order g)
-new-entries load n {g} right =
-    ap (map (entryAfter n)) (sym right.loads-are) ∙ sym (new-counted load n 0 0 (order g)) ∙ ap (λ (m : ℕ). newEntries load m (order g)) (add-zero n)
-new-entries store n {g} right =
-    ap (map (entryAfter n)) (sym right.stores-are) ∙ sym (new-counted store n 0 0 (order g)) ∙ ap (λ (m : ℕ). newEntries store m (order g)) (add-zero n)
+new_entries_lem : (kind : Kind) (n : ℕ) {g : GroupPairs} → GroupRight g → map (entry_after n) (of_kind kind g.loads g.stores) ≡ new_entries kind n (order g)
+new_entries_lem load n {g} right =
+    ap (map (entry_after n)) (sym right.loads-are) ∙ sym (new_counted load n 0 0 (order g)) ∙ ap (λ (m : ℕ). new_entries load m (order g)) (add-zero n)
+new_entries_lem store n {g} right =
+    ap (map (entry_after n)) (sym right.stores-are) ∙ sym (new_counted store n 0 0 (order g)) ∙ ap (λ (m : ℕ). new_entries store m (order g)) (add-zero n)
 
 -- in a right group the offsets say what the order says
-pub with-group-is : (q : Contents) (g : GroupPairs) → GroupRight g → withPairs q g ≡ withGroup q g
-with-group-is q g right = rw (new-entries load (length q.stores.entries) right, new-entries store (length q.loads.entries) right)
+pub with_group_is : (q : Contents) (g : GroupPairs) → GroupRight g → with_pairs q g ≡ with_group q g
+with_group_is q g right = rw (new_entries_lem load (length q.stores.entries) right, new_entries_lem store (length q.loads.entries) right)
 
 -- ---- on the record
 module _ (q : Queue) (g : Group) where
   abbrev chosen : GroupPairs
-  chosen = pairsOf q.frame.table.loads q.frame.table.stores g
+  chosen = pairs_of q.frame.table.loads q.frame.table.stores g
 
   abbrev loads-size : length chosen.loads ≡ g.loads.count
   loads-size = view-length q.frame.table.loads g.loads
@@ -54,13 +54,13 @@ module _ (q : Queue) (g : Group) where
   abbrev stores-size : length chosen.stores ≡ g.stores.count
   stores-size = view-length q.frame.table.stores g.stores
 
-  pub room-record : room (contentsOf q) (pairsOf q.frame.table.loads q.frame.table.stores g) ≡ leb
+  pub room-record : room (contents_of q) (pairs_of q.frame.table.loads q.frame.table.stores g) ≡ leb
       (q.frame.loads.count + g.loads.count) q.frame.loads.depth && leb (q.frame.stores.count + g.stores.count)
       q.frame.stores.depth
-  unfolding contentsOf
+  unfolding contents_of
   room-record = rw (
-    mapped-length entryIn 0 q.frame.loads.count q.load_entries,
-    mapped-length entryIn 0 q.frame.stores.count
+    mapped-length entry_in 0 q.frame.loads.count q.load_entries,
+    mapped-length entry_in 0 q.frame.stores.count
         q.store_entries,
     loads-size,
     stores-size,
@@ -69,19 +69,19 @@ module _ (q : Queue) (g : Group) where
   pub appended-both : {ls ss : List ℕ}
       → Appended q.frame.loads.count q.frame.table.loads g.loads q.frame.stores.count q.load_entries ls
       → Appended q.frame.stores.count q.frame.table.stores g.stores q.frame.loads.count q.store_entries ss
-      → contentsOf (queueOf (record {
+      → contents_of (queue_of (record {
         table = q.frame.table;
         memory_length = q.frame.memory_length;
         loads = longer q.frame.loads g.loads.count;
         stores = longer q.frame.stores g.stores.count;
-      }) ls ss) ≡ withPairs (contentsOf q) (pairsOf q.frame.table.loads q.frame.table.stores g)
-  unfolding contentsOf
+      }) ls ss) ≡ with_pairs (contents_of q) (pairs_of q.frame.table.loads q.frame.table.stores g)
+  unfolding contents_of
   appended-both {ls} {ss} a b =
       rw (
-        mapped-length entryIn 0 q.frame.loads.count q.load_entries,
-        mapped-length entryIn 0 q.frame.stores.count q.store_entries,
-        length-map chosen.loads (entryAfter q.frame.stores.count),
-        length-map chosen.stores (entryAfter q.frame.loads.count),
+        mapped-length entry_in 0 q.frame.loads.count q.load_entries,
+        mapped-length entry_in 0 q.frame.stores.count q.store_entries,
+        length-map chosen.loads (entry_after q.frame.stores.count),
+        length-map chosen.stores (entry_after q.frame.loads.count),
         loads-size,
         stores-size,
         a.holds,
@@ -90,8 +90,8 @@ module _ (q : Queue) (g : Group) where
 
 -- a right group's pairs fit where there is room
 module _ (places : List ℕ) (ps : Span) (inside : Inside ps) (few : length (list_of places ps) ≤ 16) (offset : (i : ℕ) → i < length (list_of places ps)
-    → (get_or (list_of places ps) i blankPair).offset ≤ 16)
-    (port : (i : ℕ) → i < length (list_of places ps) → (get_or (list_of places ps) i blankPair).port ≤ 31) where
+    → (get_or (list_of places ps) i blank_pair).offset ≤ 16)
+    (port : (i : ℕ) → i < length (list_of places ps) → (get_or (list_of places ps) i blank_pair).port ≤ 31) where
   size : length (list_of places ps) ≡ ps.count
   size = view-length places ps
 
@@ -105,9 +105,9 @@ module _ (places : List ℕ) (ps : Span) (inside : Inside ps) (few : length (lis
         ports = λ i k. (let h = port i (rw size k) in omega arith);
       }
 
-pub group-fits : (q : Queue) (g : Group) → Inside g.loads × Inside g.stores → sound (contentsOf q) ≡ true
-    → GroupRight (pairsOf q.frame.table.loads q.frame.table.stores g)
-    → room (contentsOf q) (pairsOf q.frame.table.loads q.frame.table.stores g) ≡ true
+pub group-fits : (q : Queue) (g : Group) → Inside g.loads × Inside g.stores → sound (contents_of q) ≡ true
+    → GroupRight (pairs_of q.frame.table.loads q.frame.table.stores g)
+    → room (contents_of q) (pairs_of q.frame.table.loads q.frame.table.stores g) ≡ true
     → PairsFit q.frame.loads.count q.frame.table.loads g.loads × PairsFit q.frame.stores.count q.frame.table.stores g.stores
 group-fits q g (hl, hs) s right r =
     let loads = leb (q.frame.loads.count + g.loads.count) q.frame.loads.depth in
@@ -124,17 +124,17 @@ pub activate-unsound : (q : Contents) (group : ℕ) → sound q ≡ false → ac
 unfolding activate
 activate-unsound q group s = rw s
 
-module _ (q : Queue) (group : ℕ) (s : sound (contentsOf q) ≡ true) where
-  pub activate-no-group : q.frame.table.count ≤ group → activate (contentsOf q) group ≡ refuse noGroup
-  unfolding activate contentsOf
+module _ (q : Queue) (group : ℕ) (s : sound (contents_of q) ≡ true) where
+  pub activate-no-group : q.frame.table.count ≤ group → activate (contents_of q) group ≡ refuse no_group
+  unfolding activate contents_of
   activate-no-group h =
       let e : length (groups_of q.frame.table) ≤ group = rw (groups-size q.frame.table) h in
       rw (s, getElem?-past (groups_of q.frame.table) group e)
 
-  module _ (k : group < q.frame.table.count) {g : Group} (a : g ≡ groupAt q.frame.table.groups group) where
+  module _ (k : group < q.frame.table.count) {g : Group} (a : g ≡ group_at q.frame.table.groups group) where
     abbrev asked : GroupPairs
-    asked = pairsOf q.frame.table.loads q.frame.table.stores g
+    asked = pairs_of q.frame.table.loads q.frame.table.stores g
 
-    pub activate-group : activate (contentsOf q) group ≡ need (room (contentsOf q) asked) noPlace (accept (withGroup (contentsOf q) asked))
-    unfolding activate contentsOf
+    pub activate-group : activate (contents_of q) group ≡ need (room (contents_of q) asked) no_place (accept (with_group (contents_of q) asked))
+    unfolding activate contents_of
     activate-group = rw (s, group-getElem? q.frame.table (groups-few q.frame.table (table-right q s)) group k a)

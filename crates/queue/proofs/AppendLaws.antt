@@ -27,10 +27,10 @@ module _ {A B : Type 0} {f : A → B} {d : List B} {n : ℕ} {s : List A} where
         rw (w.is, e, take-paste d n (map f s) k hd q, take-map f k s)
 
 -- what the side then holds: `new` is what an entry made by `f` holds, of each that was put there
-pub mapped-appended : {A B C : Type 0} (h : B → C) (blank : B) (f : A → B) (new : A → C) (z : A) {d : List B} {n : ℕ} {s : List A} {j : ℕ} {l : List B}
+pub mapped_appended : {A B C : Type 0} (h : B → C) (blank : B) (f : A → B) (new : A → C) (z : A) {d : List B} {n : ℕ} {s : List A} {j : ℕ} {l : List B}
     → Pasted f d n s j l → (k : ℕ) → j ≡ k → n + k ≤ length d → k ≤ length s → ((i : ℕ) → i < k → h (f (get_or s i z)) ≡ new (get_or s i z))
     → map h (held blank (n + k) l) ≡ map h (held blank n d) ++ map new (take k s)
-mapped-appended {A} {B} {C} h blank f new z {d} {n} {s} {j} {l} w k q hd hs e =
+mapped_appended {A} {B} {C} h blank f new z {d} {n} {s} {j} {l} w k q hd hs e =
     let long : length l ≡ length d = rw (w.is, q) (length-paste d n (map f s) k hd (rw (length-map s f) hs)) in
     let hl : n + k ≤ length l = rw long hd in
     rw (held-few blank (n + k) l hl, held-few blank n d (le_trans (le-add_right n k) hd), pasted-front w k q (le_trans (le-add_right n k) hd) hs)

@@ -9,9 +9,9 @@ use Rattle.queue.specs.declared.Kind.{Kind}
 use Rattle.queue.specs.declared.Kind.TheVariants.{Load as load, Store as store}
 use Rattle.queue.specs.declared.Side.{Side as SideStruct}
 use Rattle.queue.specs.declared.Queue.{Queue}
-use Rattle.queue.specs.Entry.{Entry, entryIn}
-use Rattle.queue.specs.Contents.{entriesHeld, contentsOf, ofKind, side_of, withEntries, updateAt, age, oldest, place_of}
-use Rattle.queue.specs.Parts.{queueOf}
+use Rattle.queue.specs.Entry.{Entry, entry_in}
+use Rattle.queue.specs.Contents.{entries_held, contents_of, of_kind, side_of, with_entries, update_at, age, oldest, place_of}
+use Rattle.queue.specs.Parts.{queue_of}
 use Rattle.queue.specs.Internal.{MadeAnew}
 use Rattle.queue.proofs.Lists.{take-map}
 
@@ -28,7 +28,7 @@ module _ {A : Type 0} where
   getElem?-past (x ∷ l) (suc i) h = getElem?-past l i (le_of_suc-le-suc h)
 
   -- an element made anew is one put in its place
-  pub update-set : (f : A → A) (l : List A) (i : ℕ) (d : A) → updateAt f i l ≡ set l i (f (get_or l i d))
+  pub update-set : (f : A → A) (l : List A) (i : ℕ) (d : A) → update_at f i l ≡ set l i (f (get_or l i d))
   update-set f [] i d = refl
   update-set f (x ∷ l) zero d = refl
   update-set f (x ∷ l) (suc i) d = rw (update-set f l i d)
@@ -84,76 +84,76 @@ module _ {A B : Type 0} (f : A → B) (blank : A) (n : ℕ) (l : List A) where
 
 -- one entry made anew
 pub entries-anew : (n : ℕ) (l : List ℕ) → n ≤ length l → {f : Entry → Entry} (i : ℕ) {left : List ℕ} → i < n → MadeAnew f i l left
-    → entriesHeld n left ≡ updateAt f i (entriesHeld n l)
+    → entries_held n left ≡ update_at f i (entries_held n l)
 entries-anew n l h {f} i k w =
-    let put : entriesHeld n (set l i w.number) ≡ set (entriesHeld n l) i (entryIn w.number) =
-    rw (mapped-few entryIn 0 n (set l i w.number) (rw length-set h), mapped-few entryIn 0 n l h, ← map-set entryIn (take n l) i w.number)
-    (ap (map entryIn) (take-set-lt n l i w.number k)) in
-    ap (entriesHeld n) w.leaves ∙ put ∙ rw (update-set f (entriesHeld n l) i (entryIn 0), mapped_at entryIn 0 n l i k, w.holds)
+    let put : entries_held n (set l i w.number) ≡ set (entries_held n l) i (entry_in w.number) =
+    rw (mapped-few entry_in 0 n (set l i w.number) (rw length-set h), mapped-few entry_in 0 n l h, ← map-set entry_in (take n l) i w.number)
+    (ap (map entry_in) (take-set-lt n l i w.number k)) in
+    ap (entries_held n) w.leaves ∙ put ∙ rw (update-set f (entries_held n l) i (entry_in 0), mapped_at entry_in 0 n l i k, w.holds)
 
 -- ---- a side of a queue, by its kind
 -- its record, and its run of numbers
-abbrev pub countsOf : Kind → Queue → SideStruct
-countsOf kind q = ofKind kind q.frame.loads q.frame.stores
+abbrev pub counts_of : Kind → Queue → SideStruct
+counts_of kind q = of_kind kind q.frame.loads q.frame.stores
 
-abbrev pub numbersOf : Kind → Queue → List ℕ
-numbersOf kind q = ofKind kind q.load_entries q.store_entries
+abbrev pub numbers_of : Kind → Queue → List ℕ
+numbers_of kind q = of_kind kind q.load_entries q.store_entries
 
-abbrev pub withNumbers : Kind → Queue → List ℕ → Queue
-withNumbers load q left = queueOf q.frame left q.store_entries
-withNumbers store q left = queueOf q.frame q.load_entries left
+abbrev pub with_numbers : Kind → Queue → List ℕ → Queue
+with_numbers load q left = queue_of q.frame left q.store_entries
+with_numbers store q left = queue_of q.frame q.load_entries left
 
 abbrev pub opposite : Kind → Kind
 opposite load = store
 opposite store = load
 
-pub same_numbers : (kind : Kind) (q : Queue) → withNumbers kind q (numbersOf kind q) ≡ q
+pub same_numbers : (kind : Kind) (q : Queue) → with_numbers kind q (numbers_of kind q) ≡ q
 same_numbers load q = refl
 same_numbers store q = refl
 
-pub words-held : (q : Queue) → (contentsOf q).memoryLength ≡ q.frame.memory_length
-unfolding contentsOf
+pub words-held : (q : Queue) → (contents_of q).memory_length ≡ q.frame.memory_length
+unfolding contents_of
 words-held q = refl
 
-pub side-held : (kind : Kind) (q : Queue) → (side_of kind (contentsOf q)).entries ≡ entriesHeld (countsOf kind q).count (numbersOf kind q)
-unfolding contentsOf
+pub side-held : (kind : Kind) (q : Queue) → (side_of kind (contents_of q)).entries ≡ entries_held (counts_of kind q).count (numbers_of kind q)
+unfolding contents_of
 side-held load q = refl
 side-held store q = refl
 
-pub side-depth : (kind : Kind) (q : Queue) → (side_of kind (contentsOf q)).depth ≡ (countsOf kind q).depth
-unfolding contentsOf
+pub side-depth : (kind : Kind) (q : Queue) → (side_of kind (contents_of q)).depth ≡ (counts_of kind q).depth
+unfolding contents_of
 side-depth load q = refl
 side-depth store q = refl
 
-pub side-next : (kind : Kind) (q : Queue) → (side_of kind (contentsOf q)).next ≡ (countsOf kind q).next
-unfolding contentsOf
-side-next load q = refl
-side-next store q = refl
+pub side_next : (kind : Kind) (q : Queue) → (side_of kind (contents_of q)).next ≡ (counts_of kind q).next
+unfolding contents_of
+side_next load q = refl
+side_next store q = refl
 
 module _ (kind : Kind) (q : Queue) where
-  pub side-count : length (side_of kind (contentsOf q)).entries ≡ (countsOf kind q).count
-  side-count = ap length (side-held kind q) ∙ mapped-length entryIn 0 (countsOf kind q).count (numbersOf kind q)
+  pub side-count : length (side_of kind (contents_of q)).entries ≡ (counts_of kind q).count
+  side-count = ap length (side-held kind q) ∙ mapped-length entry_in 0 (counts_of kind q).count (numbers_of kind q)
 
   -- the place that a serial names
-  pub side-place : (serial : ℕ) → place_of (side_of kind (contentsOf q)) serial ≡ age (oldest (countsOf kind q).next (countsOf kind q).count) serial
-  side-place serial = ap₂ (λ (next n : ℕ). age (oldest next n) serial) (side-next kind q) side-count
+  pub side-place : (serial : ℕ) → place_of (side_of kind (contents_of q)) serial ≡ age (oldest (counts_of kind q).next (counts_of kind q).count) serial
+  side-place serial = ap₂ (λ (next n : ℕ). age (oldest next n) serial) (side_next kind q) side-count
 
   -- the entry at a place
-  pub side-getElem? : (i : ℕ) → i < (countsOf kind q).count → get_elem? (side_of kind (contentsOf q)).entries i ≡ some (entryIn (get_or (numbersOf kind q) i 0))
+  pub side-getElem? : (i : ℕ) → i < (counts_of kind q).count → get_elem? (side_of kind (contents_of q)).entries i ≡ some (entry_in (get_or (numbers_of kind q) i 0))
   side-getElem? i k =
-      ap (λ (l : List Entry). get_elem? l i) (side-held kind q) ∙ mapped-getElem? entryIn 0 (countsOf kind q).count (numbersOf kind q) i k
+      ap (λ (l : List Entry). get_elem? l i) (side-held kind q) ∙ mapped-getElem? entry_in 0 (counts_of kind q).count (numbers_of kind q) i k
 
-  pub side-past : (i : ℕ) → (countsOf kind q).count ≤ i → get_elem? (side_of kind (contentsOf q)).entries i ≡ none
-  side-past i k = getElem?-past (side_of kind (contentsOf q)).entries i (rw side-count k)
+  pub side-past : (i : ℕ) → (counts_of kind q).count ≤ i → get_elem? (side_of kind (contents_of q)).entries i ≡ none
+  side-past i k = getElem?-past (side_of kind (contents_of q)).entries i (rw side-count k)
 
   -- the oldest entries
-  pub side-take : (m : ℕ) → m ≤ (countsOf kind q).count → take m (side_of kind (contentsOf q)).entries ≡ entriesHeld m (numbersOf kind q)
-  side-take m k = ap (take m) (side-held kind q) ∙ mapped-take entryIn 0 (countsOf kind q).count (numbersOf kind q) m k
+  pub side-take : (m : ℕ) → m ≤ (counts_of kind q).count → take m (side_of kind (contents_of q)).entries ≡ entries_held m (numbers_of kind q)
+  side-take m k = ap (take m) (side-held kind q) ∙ mapped-take entry_in 0 (counts_of kind q).count (numbers_of kind q) m k
 
 -- one entry made anew
-pub side-anew : (kind : Kind) (q : Queue) {f : Entry → Entry} (i : ℕ) {left : List ℕ} → (countsOf kind q).count ≤ length (numbersOf kind q)
-    → i < (countsOf kind q).count → MadeAnew f i (numbersOf kind q) left
-    → contentsOf (withNumbers kind q left) ≡ withEntries kind (contentsOf q) (updateAt f i (side_of kind (contentsOf q)).entries)
-unfolding contentsOf
+pub side-anew : (kind : Kind) (q : Queue) {f : Entry → Entry} (i : ℕ) {left : List ℕ} → (counts_of kind q).count ≤ length (numbers_of kind q)
+    → i < (counts_of kind q).count → MadeAnew f i (numbers_of kind q) left
+    → contents_of (with_numbers kind q left) ≡ with_entries kind (contents_of q) (update_at f i (side_of kind (contents_of q)).entries)
+unfolding contents_of
 side-anew load q i h k w = rw (entries-anew q.frame.loads.count q.load_entries h i k w)
 side-anew store q i h k w = rw (entries-anew q.frame.stores.count q.store_entries h i k w)

@@ -3,10 +3,10 @@ use Rattle.std.proofs.Common.{◌≡◌, ℕ, zero, suc, ◌+◌, ◌*◌, ◌/�
 use mathlib.Core.Option.{none, some}
 use Rattle.number.specs.Basics.{pick, is_some}
 use Rattle.queue.specs.declared.Entry.{Entry as EntryStruct}
-use Rattle.queue.specs.Entry.{Entry, withAddress, withWord, markFinished, entry_of, unpacked, entryIn, bit, number_of, Small, EntriesReadBack}
+use Rattle.queue.specs.Entry.{Entry, with_address, with_word, mark_finished, entry_of, unpacked, entry_in, bit, number_of, Small, EntriesReadBack}
 use Rattle.queue.specs.Entry.{PackedReadBack}
-use Rattle.queue.specs.Touch.{apart, same, isApart}
-use Rattle.queue.specs.Internal.{setAddress, setWord, setFinished}
+use Rattle.queue.specs.Touch.{apart, same, is_apart}
+use Rattle.queue.specs.Internal.{set_address, set_word, set_finished}
 
 -- ---- packing
 pub entry-small : (n : ℕ) → Small (unpacked n)
@@ -83,9 +83,9 @@ module _ (p a f d b x w : ℕ) where
       rw (e, above4294967296 (p % 32 + 32 * a + 64 * f + 128 * d + 256 * b + 65536 * x) w (omega arith)) (omega arith)
 
 -- an entry whose fields have room is the one that its number holds
-pub entry-number : (e : EntryStruct) → Small e → unpacked (number_of e) ≡ e
+pub entry_number : (e : EntryStruct) → Small e → unpacked (number_of e) ≡ e
 unfolding unpacked number_of
-entry-number e s =
+entry_number e s =
     let a : ℕ = bit e.addressed in
     let f : ℕ = bit e.filled in
     let d : ℕ = bit e.finished in
@@ -105,8 +105,8 @@ entry-number e s =
       bit-eqb e.finished,
     )
 
-pub entries-read-back : EntriesReadBack
-entries-read-back = entry-number
+pub entries_read_back : EntriesReadBack
+entries_read_back = entry_number
 
 -- a number is its lowest bits and what lies above them
 bits-eqb : (n : ℕ) → n < 2 → bit (eqb n 1) ≡ n
@@ -145,9 +145,9 @@ join : (p a a₀ f f₀ d d₀ b b₀ x x₀ w n : ℕ) → n ≡ p + 32 * a →
     → p + (32 * a₀ + 64 * f₀ + 128 * d₀) + 256 * b₀ + 65536 * x₀ + 4294967296 * w ≡ n
 join p a a₀ f f₀ d d₀ b b₀ x x₀ w n e1 e2 e3 e4 e5 e6 = omega arith
 
-pub packed-read-back : PackedReadBack
+pub packed_read_back : PackedReadBack
 unfolding unpacked number_of
-packed-read-back n h =
+packed_read_back n h =
     let e1 : bit (eqb (n / 32 % 2) 1) ≡ n / 32 % 2 = bits-eqb (n / 32 % 2) (omega arith) in
     let e2 : bit (eqb (n / 64 % 2) 1) ≡ n / 64 % 2 = bits-eqb (n / 64 % 2) (omega arith) in
     let e3 : bit (eqb (n / 128 % 2) 1) ≡ n / 128 % 2 = bits-eqb (n / 128 % 2) (omega arith) in
@@ -170,28 +170,28 @@ packed-read-back n h =
 
 -- ---- an entry made anew: its record is packed again
 -- `f` makes the record anew, `g` what it holds
-pub anew-number : (f : EntryStruct → EntryStruct) (g : Entry → Entry) → ((s : EntryStruct) → entry_of (f s) ≡ g (entry_of s)) → (n : ℕ)
-    → (Small (unpacked n) → Small (f (unpacked n))) → {x : ℕ} → x ≡ number_of (f (unpacked n)) → entryIn x ≡ g (entryIn n)
-anew-number f g alike n small e =
-    ap entryIn e ∙ ap entry_of (entry-number (f (unpacked n)) (small (entry-small n))) ∙ alike (unpacked n)
+pub anew_number : (f : EntryStruct → EntryStruct) (g : Entry → Entry) → ((s : EntryStruct) → entry_of (f s) ≡ g (entry_of s)) → (n : ℕ)
+    → (Small (unpacked n) → Small (f (unpacked n))) → {x : ℕ} → x ≡ number_of (f (unpacked n)) → entry_in x ≡ g (entry_in n)
+anew_number f g alike n small e =
+    ap entry_in e ∙ ap entry_of (entry_number (f (unpacked n)) (small (entry-small n))) ∙ alike (unpacked n)
 
-pub finished-number : (n : ℕ) {x : ℕ} → x ≡ number_of (setFinished (unpacked n)) → entryIn x ≡ markFinished (entryIn n)
-finished-number n =
-    anew-number setFinished markFinished (λ s. refl) n (λ k. record { port = k.port; before = k.before; address = k.address; word = k.word })
+pub finished_number : (n : ℕ) {x : ℕ} → x ≡ number_of (set_finished (unpacked n)) → entry_in x ≡ mark_finished (entry_in n)
+finished_number n =
+    anew_number set_finished mark_finished (λ s. refl) n (λ k. record { port = k.port; before = k.before; address = k.address; word = k.word })
 
-pub word_number : (w n : ℕ) → w < 4294967296 → {x : ℕ} → x ≡ number_of (setWord w (unpacked n)) → entryIn x ≡ withWord w (entryIn n)
+pub word_number : (w n : ℕ) → w < 4294967296 → {x : ℕ} → x ≡ number_of (set_word w (unpacked n)) → entry_in x ≡ with_word w (entry_in n)
 word_number w n low =
-    anew-number (setWord w) (withWord w) (λ s. refl) n (λ k. record { port = k.port; before = k.before; address = k.address; word = low })
+    anew_number (set_word w) (with_word w) (λ s. refl) n (λ k. record { port = k.port; before = k.before; address = k.address; word = low })
 
-pub address-number : (a n : ℕ) → a < 65536 → {x : ℕ} → x ≡ number_of (setAddress a (unpacked n)) → entryIn x ≡ withAddress a (entryIn n)
-address-number a n low =
-    anew-number (setAddress a) (withAddress a) (λ s. refl) n (λ k. record { port = k.port; before = k.before; address = low; word = k.word })
+pub address_number : (a n : ℕ) → a < 65536 → {x : ℕ} → x ≡ number_of (set_address a (unpacked n)) → entry_in x ≡ with_address a (entry_in n)
+address_number a n low =
+    anew_number (set_address a) (with_address a) (λ s. refl) n (λ k. record { port = k.port; before = k.before; address = low; word = k.word })
 
 -- ---- marks
 pub marked : (mark : Bool) (a : ℕ) → is_some (pick mark (some a) none) ≡ mark
 marked true a = refl
 marked false a = refl
 
-pub apart-picked : (t : Bool) → not t ≡ isApart (pick t same apart)
-apart-picked true = refl
-apart-picked false = refl
+pub apart_picked : (t : Bool) → not t ≡ is_apart (pick t same apart)
+apart_picked true = refl
+apart_picked false = refl

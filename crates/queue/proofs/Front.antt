@@ -22,8 +22,8 @@ use denote.Slice.{slice_val, MutSlice, heres, Room, mut_slice_at, coded_holeys}
 use borrow.Table.Elements.{map_app, take-le}
 use borrow.Rule.Slice.Handed.{takes_front}
 
-pub room-front : (R : RattleType) (k : ℕ) (ys : List R.Denot) → Room R (length ys) → Room R (length (take k ys))
-room-front R k ys room = (lt_of_le_of_lt (take-le k ys) room.0, lt_of_le_of_lt (mul-le-mul_right (mem R).size (take-le k ys)) room.1)
+pub room_front : (R : RattleType) (k : ℕ) (ys : List R.Denot) → Room R (length ys) → Room R (length (take k ys))
+room_front R k ys room = (lt_of_le_of_lt (take-le k ys) room.0, lt_of_le_of_lt (mul-le-mul_right (mem R).size (take-le k ys)) room.1)
 
 module _ (R : RattleType) (κ : Lft) (q : Share) (γ : GName) (b o : ℕ) where
   abbrev at-list : GName → List R.Denot → MutBor (List R.Denot)
@@ -49,5 +49,5 @@ module _ (R : RattleType) (κ : Lft) (q : Share) (γ : GName) (b o : ℕ) where
         -- [the borrow; the token; obs]
         rewrite ! 0 (λ (j : ℕ). ‵ (fbor κ (Body (Arr (Holey (mem R)) j) b o γ'))) (length-map (take k ys) (here (mem R))) refl $
         move ! (2 ∷ 0 ∷ []) $ fjoin !
-        $ pure_i ! (mut_slice_at R (at-list γ' (take k ys)) (vals (take k ys))) (tt, (tt, tt)) (refl, room-front R k ys p.1) $ fjoin ! $
+        $ pure_i ! (mut_slice_at R (at-list γ' (take k ys)) (vals (take k ys))) (tt, (tt, tt)) (refl, room_front R k ys p.1) $ fjoin ! $
         at_once ! $ show ! (λ (g : GName). sep 𝓤 (sem 𝓛 ((MutSlice ℓ' κ R).own_val (at-list g (take k ys)) (vals (take k ys)))) (A.lft κ q)) γ' $ done !))

@@ -5,54 +5,54 @@ use lib.ListN.{get_elem?}
 use Rattle.table.specs.declared.Span.{Span}
 use Rattle.table.specs.declared.Group.{Group}
 use Rattle.table.specs.declared.Table.{Table}
-use Rattle.table.specs.Packed.{pairIn}
-use Rattle.table.specs.Group.{GroupPairs, blankPair, list_of, pairsOf}
-use Rattle.table.specs.Table.{meantIn, groupAt, groups_of, checkTable}
+use Rattle.table.specs.Packed.{pair_in}
+use Rattle.table.specs.Group.{GroupPairs, blank_pair, list_of, pairs_of}
+use Rattle.table.specs.Table.{meant_in, group_at, groups_of, check_table}
 use Rattle.table.proofs.CheckLaws.{view-length, view-at, groups-size, group_at}
-use Rattle.table.proofs.OrderOffsets.{GroupRight, table-groups-few, table-group-right}
-use Rattle.queue.specs.Open.{groupFits}
+use Rattle.table.proofs.OrderOffsets.{GroupRight, table_groups_few, table_group_right}
+use Rattle.queue.specs.Open.{group_fits}
 use Rattle.queue.proofs.ContentsLaws.{mapped-getElem?, mapped-here, mapped_end}
 use Rattle.number.specs.Reply.{passed}
 
 -- the pairs from the ith on: what a walk over them comes to
-pub pairs-here : (places : List ℕ) (ps : Span) (i : ℕ) → i < ps.count
-    → drop i (list_of places ps) ≡ pairIn (get_or places (ps.first + i) 0) ∷ drop (i + 1) (list_of places ps)
-pairs-here places ps i k =
+pub pairs_here : (places : List ℕ) (ps : Span) (i : ℕ) → i < ps.count
+    → drop i (list_of places ps) ≡ pair_in (get_or places (ps.first + i) 0) ∷ drop (i + 1) (list_of places ps)
+pairs_here places ps i k =
     rw (add-one, ← view-at places ps i k)
-    (drop-cons (list_of places ps) i blankPair (rw (view-length places ps) k))
+    (drop-cons (list_of places ps) i blank_pair (rw (view-length places ps) k))
 
 pub pairs_end : (places : List ℕ) (ps : Span) (i : ℕ) → ps.count ≤ i → drop i (list_of places ps) ≡ []
 pairs_end places ps i k =
     let e : length (list_of places ps) ≤ i = rw (view-length places ps) k in
     drop_of_length-le (list_of places ps) e
 
-pub fits-record : (loadDepth storeDepth : ℕ) (loads stores : List ℕ) (g : Group)
-    → groupFits loadDepth storeDepth (pairsOf loads stores g) ≡ leb g.loads.count loadDepth && leb g.stores.count storeDepth
-fits-record loadDepth storeDepth loads stores g = rw (view-length loads g.loads, view-length stores g.stores)
+pub fits_record : (load_depth store_depth : ℕ) (loads stores : List ℕ) (g : Group)
+    → group_fits load_depth store_depth (pairs_of loads stores g) ≡ leb g.loads.count load_depth && leb g.stores.count store_depth
+fits_record load_depth store_depth loads stores g = rw (view-length loads g.loads, view-length stores g.stores)
 
 -- a right table has at most 16 groups
-pub groups-few : (t : Table) → checkTable (groups_of t) ≡ passed → t.count ≤ 16
-groups-few t e = rw (groups-size t) at (table-groups-few (groups_of t) e)
+pub groups-few : (t : Table) → check_table (groups_of t) ≡ passed → t.count ≤ 16
+groups-few t e = rw (groups-size t) at (table_groups_few (groups_of t) e)
 
 -- its groups, where a walk comes to them
-module _ (t : Table) (few : t.count ≤ 16) (i : ℕ) (k : i < t.count) {g : Group} (a : g ≡ groupAt t.groups i) where
+module _ (t : Table) (few : t.count ≤ 16) (i : ℕ) (k : i < t.count) {g : Group} (a : g ≡ group_at t.groups i) where
   abbrev here : GroupPairs
-  here = pairsOf t.loads t.stores g
+  here = pairs_of t.loads t.stores g
 
-  is-here : meantIn t.loads t.stores (get_or t.groups i 0) ≡ here
-  unfolding groupAt
+  is-here : meant_in t.loads t.stores (get_or t.groups i 0) ≡ here
+  unfolding group_at
   is-here =
       let e : get_or t.groups i 0 ≡ get_or (take 16 t.groups) i 0 = sym (get_or-take 16 t.groups i 0 (le_trans k few)) in
-      ap (meantIn t.loads t.stores) e ∙ ap (pairsOf t.loads t.stores) (sym a)
+      ap (meant_in t.loads t.stores) e ∙ ap (pairs_of t.loads t.stores) (sym a)
 
-  pub groups-here : drop i (groups_of t) ≡ pairsOf t.loads t.stores g ∷ drop (i + 1) (groups_of t)
-  groups-here = mapped-here (meantIn t.loads t.stores) 0 t.count t.groups i k ∙ ap (λ (x : GroupPairs). x ∷ drop (i + 1) (groups_of t)) is-here
+  pub groups-here : drop i (groups_of t) ≡ pairs_of t.loads t.stores g ∷ drop (i + 1) (groups_of t)
+  groups-here = mapped-here (meant_in t.loads t.stores) 0 t.count t.groups i k ∙ ap (λ (x : GroupPairs). x ∷ drop (i + 1) (groups_of t)) is-here
 
-  pub group-getElem? : get_elem? (groups_of t) i ≡ some (pairsOf t.loads t.stores g)
-  group-getElem? = mapped-getElem? (meantIn t.loads t.stores) 0 t.count t.groups i k ∙ ap (λ (x : GroupPairs). some x) is-here
+  pub group-getElem? : get_elem? (groups_of t) i ≡ some (pairs_of t.loads t.stores g)
+  group-getElem? = mapped-getElem? (meant_in t.loads t.stores) 0 t.count t.groups i k ∙ ap (λ (x : GroupPairs). some x) is-here
 
-  pub group-right : checkTable (groups_of t) ≡ passed → GroupRight (pairsOf t.loads t.stores g)
-  group-right right = rw (group_at t few i k here a) at (table-group-right (groups_of t) right i here (rw (groups-size t) k))
+  pub group-right : check_table (groups_of t) ≡ passed → GroupRight (pairs_of t.loads t.stores g)
+  group-right right = rw (group_at t few i k here a) at (table_group_right (groups_of t) right i here (rw (groups-size t) k))
 
-pub groups-end : (t : Table) (i : ℕ) → t.count ≤ i → drop i (groups_of t) ≡ []
-groups-end t i k = mapped_end (meantIn t.loads t.stores) 0 t.count t.groups i k
+pub groups_end : (t : Table) (i : ℕ) → t.count ≤ i → drop i (groups_of t) ≡ []
+groups_end t i k = mapped_end (meant_in t.loads t.stores) 0 t.count t.groups i k

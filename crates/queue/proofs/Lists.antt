@@ -6,9 +6,9 @@ use mathlib.Core.List.{head-eq_of_cons-eq, tail-eq_of_cons-eq}
 use mathlib.Core.Option.{Option, none, some}
 use lib.ListN.{get_elem?}
 use Rattle.number.proofs.Both.{and_left, and_right}
-use Rattle.number.specs.Basics.{pick, any_of, all_of, countWhere, frontWhile, afterWhile}
+use Rattle.number.specs.Basics.{pick, any_of, all_of, count_where, front_while, after_while}
 use Rattle.number.specs.Basics.{is_some}
-use Rattle.queue.specs.Contents.{updateAt, firstPlace}
+use Rattle.queue.specs.Contents.{update_at, first_place}
 
 -- ---- Bool
 
@@ -89,50 +89,50 @@ module _ {A : Type 0} where
   all_map p q f e [] = refl
   all_map p q f e (x ∷ xs) = rw (e x, all_map p q f e xs)
 
-  pub count-append : (p : A → Bool) (xs ys : List A) → countWhere p (xs ++ ys) ≡ countWhere p xs + countWhere p ys
-  count-append p [] ys = sym (zero-add (countWhere p ys))
+  pub count-append : (p : A → Bool) (xs ys : List A) → count_where p (xs ++ ys) ≡ count_where p xs + count_where p ys
+  count-append p [] ys = sym (zero-add (count_where p ys))
   count-append p (x ∷ xs) ys = go (p x) (count-append p xs ys)
     where
-      go : (b : Bool) → countWhere p (xs ++ ys) ≡ countWhere p xs + countWhere p ys
-          → pick b (suc (countWhere p (xs ++ ys))) (countWhere p (xs ++ ys)) ≡ pick b (suc (countWhere p xs)) (countWhere p xs) + countWhere p ys
+      go : (b : Bool) → count_where p (xs ++ ys) ≡ count_where p xs + count_where p ys
+          → pick b (suc (count_where p (xs ++ ys))) (count_where p (xs ++ ys)) ≡ pick b (suc (count_where p xs)) (count_where p xs) + count_where p ys
       go true h = omega arith
       go false h = h
 
   -- ---- frontWhile, afterWhile
 
-  pub all-frontWhile : (p : A → Bool) (xs : List A) → all_of p (frontWhile p xs) ≡ true
+  pub all-frontWhile : (p : A → Bool) (xs : List A) → all_of p (front_while p xs) ≡ true
   all-frontWhile p [] = refl
   all-frontWhile p (x ∷ xs) = go (p x) refl (all-frontWhile p xs)
     where
-      go : (b : Bool) → p x ≡ b → all_of p (frontWhile p xs) ≡ true → all_of p (pick b (x ∷ frontWhile p xs) []) ≡ true
+      go : (b : Bool) → p x ≡ b → all_of p (front_while p xs) ≡ true → all_of p (pick b (x ∷ front_while p xs) []) ≡ true
       go true e h = and_both e h
       go false e h = refl
 
   pub afterWhile-map : {B : Type 0} (p : B → Bool) (q : A → Bool) (f : A → B) → ((x : A) → p (f x) ≡ q x) → (xs : List A)
-      → afterWhile p (map f xs) ≡ map f (afterWhile q xs)
+      → after_while p (map f xs) ≡ map f (after_while q xs)
   afterWhile-map p q f e [] = refl
   afterWhile-map {B} p q f e (x ∷ xs) = rw (e x) (go (q x) (afterWhile-map p q f e xs))
     where
-      go : (b : Bool) → afterWhile p (map f xs) ≡ map f (afterWhile q xs)
-          → pick b (afterWhile p (map f xs)) (f x ∷ map f xs) ≡ map f (pick b (afterWhile q xs) (x ∷ xs))
+      go : (b : Bool) → after_while p (map f xs) ≡ map f (after_while q xs)
+          → pick b (after_while p (map f xs)) (f x ∷ map f xs) ≡ map f (pick b (after_while q xs) (x ∷ xs))
       go true h = h
       go false h = refl
 
   pub length-frontWhile-map : {B : Type 0} (p : B → Bool) (q : A → Bool) (f : A → B) → ((x : A) → p (f x) ≡ q x) → (xs : List A)
-      → length (frontWhile p (map f xs)) ≡ length (frontWhile q xs)
+      → length (front_while p (map f xs)) ≡ length (front_while q xs)
   length-frontWhile-map p q f e [] = refl
   length-frontWhile-map {B} p q f e (x ∷ xs) = rw (e x) (go (q x) (length-frontWhile-map p q f e xs))
     where
-      go : (b : Bool) → length (frontWhile p (map f xs)) ≡ length (frontWhile q xs)
-          → length (pick b (f x ∷ frontWhile p (map f xs)) []) ≡ length (pick b (x ∷ frontWhile q xs) [])
+      go : (b : Bool) → length (front_while p (map f xs)) ≡ length (front_while q xs)
+          → length (pick b (f x ∷ front_while p (map f xs)) []) ≡ length (pick b (x ∷ front_while q xs) [])
       go true h = ap suc h
       go false h = refl
 
-  pub length-afterWhile : (p : A → Bool) (xs : List A) → length (afterWhile p xs) ≤ length xs
+  pub length-afterWhile : (p : A → Bool) (xs : List A) → length (after_while p xs) ≤ length xs
   length-afterWhile p [] = omega arith
   length-afterWhile p (x ∷ xs) = go (p x) (length-afterWhile p xs)
     where
-      go : (b : Bool) → length (afterWhile p xs) ≤ length xs → length (pick b (afterWhile p xs) (x ∷ xs)) ≤ length (x ∷ xs)
+      go : (b : Bool) → length (after_while p xs) ≤ length xs → length (pick b (after_while p xs) (x ∷ xs)) ≤ length (x ∷ xs)
       go true h = omega arith
       go false h = omega arith
 
@@ -183,41 +183,41 @@ module _ {A : Type 0} where
   getElem?-seam [] x ys = refl
   getElem?-seam (y ∷ xs) x ys = getElem?-seam xs x ys
 
-  pub updateAt-seam : (f : A → A) (xs : List A) (x : A) (ys : List A) → updateAt f (length xs) (xs ++ x ∷ ys) ≡ xs ++ f x ∷ ys
+  pub updateAt-seam : (f : A → A) (xs : List A) (x : A) (ys : List A) → update_at f (length xs) (xs ++ x ∷ ys) ≡ xs ++ f x ∷ ys
   updateAt-seam f [] x ys = refl
   updateAt-seam f (y ∷ xs) x ys = ap (λ (l : List A). y ∷ l) (updateAt-seam f xs x ys)
 
-  pub length-updateAt : (f : A → A) (i : ℕ) (xs : List A) → length (updateAt f i xs) ≡ length xs
+  pub length-updateAt : (f : A → A) (i : ℕ) (xs : List A) → length (update_at f i xs) ≡ length xs
   length-updateAt f zero [] = refl
   length-updateAt f (suc i) [] = refl
   length-updateAt f zero (x ∷ xs) = refl
   length-updateAt f (suc i) (x ∷ xs) = ap suc (length-updateAt f i xs)
 
   -- an element at the first place passes, and those before it do not
-  pub first_passes : (p : A → Bool) (xs : List A) {x : A} → get_elem? xs (firstPlace p xs) ≡ some x → p x ≡ true
+  pub first_passes : (p : A → Bool) (xs : List A) {x : A} → get_elem? xs (first_place p xs) ≡ some x → p x ≡ true
   first_passes p [] h = let e : false ≡ true = cc in false-true e
   first_passes p (y ∷ xs) {x} h = go (p y) refl h (λ k. first_passes p xs k)
     where
-      go : (b : Bool) → p y ≡ b → get_elem? (y ∷ xs) (pick b 0 (suc (firstPlace p xs))) ≡ some x
-          → (get_elem? xs (firstPlace p xs) ≡ some x → p x ≡ true) → p x ≡ true
+      go : (b : Bool) → p y ≡ b → get_elem? (y ∷ xs) (pick b 0 (suc (first_place p xs))) ≡ some x
+          → (get_elem? xs (first_place p xs) ≡ some x → p x ≡ true) → p x ≡ true
       go true e k rec = let same : y ≡ x = cc in (rw same at e)
       go false e k rec = rec k
 
-  pub first-before : (p : A → Bool) (xs : List A) → all_of (λ x. not (p x)) (take (firstPlace p xs) xs) ≡ true
+  pub first-before : (p : A → Bool) (xs : List A) → all_of (λ x. not (p x)) (take (first_place p xs) xs) ≡ true
   first-before p [] = refl
   first-before p (y ∷ xs) = go (p y) refl (first-before p xs)
     where
-      go : (b : Bool) → p y ≡ b → all_of (λ x. not (p x)) (take (firstPlace p xs) xs) ≡ true
-          → all_of (λ x. not (p x)) (take (pick b 0 (suc (firstPlace p xs))) (y ∷ xs)) ≡ true
+      go : (b : Bool) → p y ≡ b → all_of (λ x. not (p x)) (take (first_place p xs) xs) ≡ true
+          → all_of (λ x. not (p x)) (take (pick b 0 (suc (first_place p xs))) (y ∷ xs)) ≡ true
       go true e h = refl
       go false e h = and_both {a = not (p y)} (rw e) h
 
-  pub any-first : (p : A → Bool) (xs : List A) → any_of p xs ≡ true → (x : A) × (get_elem? xs (firstPlace p xs) ≡ some x)
+  pub any-first : (p : A → Bool) (xs : List A) → any_of p xs ≡ true → (x : A) × (get_elem? xs (first_place p xs) ≡ some x)
   any-first p [] h = false-true h
   any-first p (y ∷ xs) h = go (p y) h (λ k. any-first p xs k)
     where
-      go : (b : Bool) → b || any_of p xs ≡ true → (any_of p xs ≡ true → (x : A) × (get_elem? xs (firstPlace p xs) ≡ some x))
-          → (x : A) × (get_elem? (y ∷ xs) (pick b 0 (suc (firstPlace p xs))) ≡ some x)
+      go : (b : Bool) → b || any_of p xs ≡ true → (any_of p xs ≡ true → (x : A) × (get_elem? xs (first_place p xs) ≡ some x))
+          → (x : A) × (get_elem? (y ∷ xs) (pick b 0 (suc (first_place p xs))) ≡ some x)
       go true k rec = (y, refl)
       go false k rec = rec k
 

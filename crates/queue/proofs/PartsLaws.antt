@@ -7,17 +7,17 @@ use Rattle.queue.specs.declared.Frame.{Frame}
 use Rattle.queue.specs.declared.opening.OpenedFrame.{OpenedFrame}
 use Rattle.number.specs.Refusal.{unsound}
 use Rattle.number.specs.Reply.{Reply, refuse, accept, need}
-use Rattle.queue.specs.Contents.{Contents, contentsOf}
+use Rattle.queue.specs.Contents.{Contents, contents_of}
 use Rattle.queue.specs.Sound.{sound}
-use Rattle.queue.specs.Open.{freshQueue, noQueue}
+use Rattle.queue.specs.Open.{fresh_queue, no_queue}
 use Rattle.queue.specs.Outcome.{Opens}
-use Rattle.queue.specs.Parts.{whole, onParts, OnWholeRuns, OpensFrame}
+use Rattle.queue.specs.Parts.{whole, on_parts, OnWholeRuns, OpensFrame}
 use Rattle.number.proofs.Both.{and_left, and_right}
 use Rattle.queue.proofs.SoundLaws.{count_most}
 
 -- ---- the lengths of two runs
 module _ (l s : List ℕ) where
-  -- then a rule on the runs is the queue's own rule: `onParts` goes away
+  -- then a rule on the runs is the queue's own rule: `on_parts` goes away
   pub both-whole : length l ≡ 64 → length s ≡ 64 → whole l s ≡ true
   unfolding whole
   both-whole a b = rw (eq-eqb _ _ a, eq-eqb _ _ b)
@@ -30,18 +30,18 @@ module _ (l s : List ℕ) where
   unfolding whole
   stores-not-whole a n = rw (eq-eqb _ _ a, ne_eqb _ _ n)
 
-pub on-whole-runs : OnWholeRuns
-on-whole-runs A l s rule a b = rw (both-whole l s a b)
+pub on_whole_runs : OnWholeRuns
+on_whole_runs A l s rule a b = rw (both-whole l s a b)
 
 -- ---- the check of a queue's parts
 -- both runs are whole and the queue is sound, so each run has room for what its side holds
 pub record PartsFit (q : Queue) : Type 0 where
   pub full : whole q.load_entries q.store_entries ≡ true
-  pub right : sound (contentsOf q) ≡ true
+  pub right : sound (contents_of q) ≡ true
   pub loads-whole : length q.load_entries ≡ 64
   pub stores-whole : length q.store_entries ≡ 64
-  pub loads-room : q.frame.loads.count ≤ length q.load_entries
-  pub stores-room : q.frame.stores.count ≤ length q.store_entries
+  pub loads_room : q.frame.loads.count ≤ length q.load_entries
+  pub stores_room : q.frame.stores.count ≤ length q.store_entries
 
 module _ (q : Queue) where
   whole-loads : whole q.load_entries q.store_entries ≡ true → length q.load_entries ≡ 64
@@ -53,36 +53,36 @@ module _ (q : Queue) where
   whole-stores h = eqb-true _ 64 (and_right (eqb (length q.load_entries) 64) (eqb (length q.store_entries) 64) h)
 
   -- the check answered b, and the test of it was left behind
-  pub fit : {b : Bool} → b ≡ (whole q.load_entries q.store_entries && sound (contentsOf q)) → not b ≡ false → PartsFit q
+  pub fit : {b : Bool} → b ≡ (whole q.load_entries q.store_entries && sound (contents_of q)) → not b ≡ false → PartsFit q
   fit {b} e left =
-      let both : (whole q.load_entries q.store_entries && sound (contentsOf q)) ≡ true = sym e ∙ not-false b left in
+      let both : (whole q.load_entries q.store_entries && sound (contents_of q)) ≡ true = sym e ∙ not-false b left in
       let full : whole q.load_entries q.store_entries ≡ true =
-      and_left (whole q.load_entries q.store_entries) (sound (contentsOf q)) both in
-      let right : sound (contentsOf q) ≡ true = and_right (whole q.load_entries q.store_entries) (sound (contentsOf q)) both in
+      and_left (whole q.load_entries q.store_entries) (sound (contents_of q)) both in
+      let right : sound (contents_of q) ≡ true = and_right (whole q.load_entries q.store_entries) (sound (contents_of q)) both in
       record {
         full = full;
         right = right;
         loads-whole = whole-loads full;
         stores-whole = whole-stores full;
-        loads-room = omega (arith, count_most q right load, whole-loads full);
-        stores-room = omega (arith, count_most q right store, whole-stores full);
+        loads_room = omega (arith, count_most q right load, whole-loads full);
+        stores_room = omega (arith, count_most q right store, whole-stores full);
       }
 
   -- the test of it was taken: the runs are no queue's, or the queue is unsound, and that is 40 either way
-  pub unfit : {b : Bool} {A : Type 0} (rule : Reply A) → b ≡ (whole q.load_entries q.store_entries && sound (contentsOf q)) → not b ≡ true
-      → (sound (contentsOf q) ≡ false → rule ≡ refuse unsound) → onParts q.load_entries q.store_entries rule ≡ refuse unsound
+  pub unfit : {b : Bool} {A : Type 0} (rule : Reply A) → b ≡ (whole q.load_entries q.store_entries && sound (contents_of q)) → not b ≡ true
+      → (sound (contents_of q) ≡ false → rule ≡ refuse unsound) → on_parts q.load_entries q.store_entries rule ≡ refuse unsound
   unfit {b} {A} rule e taken h = go (whole q.load_entries q.store_entries) (sym e ∙ not-true b taken)
     where
-      go : (w : Bool) → (w && sound (contentsOf q)) ≡ false → need w unsound rule ≡ refuse unsound
+      go : (w : Bool) → (w && sound (contents_of q)) ≡ false → need w unsound rule ≡ refuse unsound
       go true z = h z
       go false z = refl
 
 -- ---- an opened frame is an opened queue, with two runs of zeros
 pub opens : (fresh : Frame) (rule : Reply Contents) (r : OpenedFrame) → OpensFrame fresh rule r
-    → Opens noQueue rule (record { answer = r.answer; queue = freshQueue r.frame })
-opens fresh (refuse n) r e = ap (λ (o : OpenedFrame). record { answer = o.answer; queue = freshQueue o.frame }) e
+    → Opens no_queue rule (record { answer = r.answer; queue = fresh_queue r.frame })
+opens fresh (refuse n) r e = ap (λ (o : OpenedFrame). record { answer = o.answer; queue = fresh_queue o.frame }) e
 opens fresh (accept q) r e = (
   ap (λ (o : OpenedFrame). o.answer) e.0,
-  ap (λ (o : OpenedFrame). contentsOf (freshQueue o.frame)) e.0
+  ap (λ (o : OpenedFrame). contents_of (fresh_queue o.frame)) e.0
       ∙ e.1 (replicate 64 0) (replicate 64 0),
 )

@@ -5,129 +5,129 @@ use native.Mathlib.Nat.{sub-zero}
 use mathlib.Core.Option.{Option, none, some}
 use lib.ListN.{length-replicate, get_elem?}
 use lib.Seq.{take-append_seam}
-use Rattle.number.specs.Basics.{pick, keepWhere}
+use Rattle.number.specs.Basics.{pick, keep_where}
 use Rattle.queue.specs.declared.Kind.{Kind}
 use Rattle.queue.specs.declared.Kind.TheVariants.{Load as load, Store as store}
 use Rattle.queue.specs.declared.ready.Serials.{Serials}
 use Rattle.queue.specs.declared.ready.ReadyCount.{ReadyCount}
 use Rattle.queue.specs.declared.Queue.{Queue}
 use Rattle.queue.specs.declared.Readied.{Readied}
-use Rattle.number.specs.Refusal.{tooShort, unsound, noSerial}
+use Rattle.number.specs.Refusal.{too_short, unsound, no_serial}
 use Rattle.number.specs.Reply.{Reply, refuse, accept, need, have, and_then, number, accepted}
-use Rattle.queue.specs.Entry.{Entry, entryIn, unpacked, served}
-use Rattle.queue.specs.Contents.{Contents, contentsOf, after, age, oldest, place_of, entriesHeld, othersBefore}
+use Rattle.queue.specs.Entry.{Entry, entry_in, unpacked, served}
+use Rattle.queue.specs.Contents.{Contents, contents_of, after, age, oldest, place_of, entries_held, others_before}
 use Rattle.queue.specs.Sound.{sound}
-use Rattle.queue.specs.Serve.{unsettled, Source, fromStore, fromMemory, source, loadedFrom, mayServe, servedWith, serveAt, serve}
-use Rattle.queue.specs.Write.{may_write, writtenWith, writeAt, write}
-use Rattle.queue.specs.Ready.{serials, count_of, oldestOf, answerTo, anyMemory, would, readySerials, ready, Readies, Fronts}
-use Rattle.queue.specs.Parts.{readiedOf}
-use Rattle.queue.specs.Internal.{mayWriteAt, loadReady, readyAt, InReach, serialsListed, Noted, Lists, HandedOut}
-use Rattle.queue.proofs.ContentsLaws.{countsOf, side-next, side-count, side-getElem?, side-take}
-use Rattle.number.proofs.ReplyLaws.{accepted-number}
-use Rattle.queue.proofs.Refusals.{need-same, have-same, may-write-proper, serve-proper, write-proper}
-use Rattle.queue.proofs.Serials.{place-of-serial, oldest-small}
+use Rattle.queue.specs.Serve.{unsettled, Source, from_store, from_memory, source, loaded_from, may_serve, served_with, serve_at, serve}
+use Rattle.queue.specs.Write.{may_write, written_with, write_at, write}
+use Rattle.queue.specs.Ready.{serials, count_of, oldest_of, answer_to, any_memory, would, ready_serials, ready, Readies, Fronts}
+use Rattle.queue.specs.Parts.{readied_of}
+use Rattle.queue.specs.Internal.{may_write_at, load_ready, ready_at, InReach, serials_listed, Noted, Lists, HandedOut}
+use Rattle.queue.proofs.ContentsLaws.{counts_of, side_next, side-count, side-getElem?, side-take}
+use Rattle.number.proofs.ReplyLaws.{accepted_number}
+use Rattle.queue.proofs.Refusals.{need_same, have_same, may_write_proper, serve_proper, write_proper}
+use Rattle.queue.proofs.Serials.{place_of_serial, oldest-small}
 use Rattle.queue.proofs.SoundLaws.{count_most, before-held}
-use Rattle.queue.proofs.ServeLaws.{serve-by-place}
-use Rattle.queue.proofs.WriteLaws.{write-by-place, write-held}
+use Rattle.queue.proofs.ServeLaws.{serve_by_place}
+use Rattle.queue.proofs.WriteLaws.{write_by_place, write-held}
 
 -- ---- serving
-abbrev pub readyIn : Contents → Option Entry → Bool
-readyIn q none = false
-readyIn q (some l) = loadReady (othersBefore q.stores l) l
+abbrev pub ready_in : Contents → Option Entry → Bool
+ready_in q none = false
+ready_in q (some l) = load_ready (others_before q.stores l) l
 
-then-accepts : {A B : Type 0} (x : Reply A) (f : A → B) → accepted (and_then x λ a. accept (f a)) ≡ accepted x
-then-accepts (refuse n) f = refl
-then-accepts (accept a) f = refl
+then_accepts : {A B : Type 0} (x : Reply A) (f : A → B) → accepted (and_then x λ a. accept (f a)) ≡ accepted x
+then_accepts (refuse n) f = refl
+then_accepts (accept a) f = refl
 
 -- memory's words do not matter to what is accepted
 module _ (m m' : List ℕ) where
-  loaded-any : (a : ℕ) (x : Source) → accepted (loadedFrom m a x) ≡ accepted (loadedFrom m' a x)
+  loaded-any : (a : ℕ) (x : Source) → accepted (loaded_from m a x) ≡ accepted (loaded_from m' a x)
   loaded-any a unsettled = refl
-  loaded-any a (fromStore none) = refl
-  loaded-any a (fromStore (some w)) = refl
-  loaded-any a fromMemory = refl
+  loaded-any a (from_store none) = refl
+  loaded-any a (from_store (some w)) = refl
+  loaded-any a from_memory = refl
 
-  may-any : (ss : List Entry) (l : Entry) → accepted (mayServe m ss l) ≡ accepted (mayServe m' ss l)
-  may-any ss l = need-same (not (served l)) _ _ _ (have-same l.address _ _ _ λ a. loaded-any a (source a ss))
+  may-any : (ss : List Entry) (l : Entry) → accepted (may_serve m ss l) ≡ accepted (may_serve m' ss l)
+  may-any ss l = need_same (not (served l)) _ _ _ (have_same l.address _ _ _ λ a. loaded-any a (source a ss))
 
-serve-accepts-ready : (q : Contents) (memory : List ℕ) (place : ℕ) → accepted (serveAt q memory place) ≡ readyIn q (get_elem? q.loads.entries place)
-serve-accepts-ready q memory place = go (get_elem? q.loads.entries place)
+serve_accepts_ready : (q : Contents) (memory : List ℕ) (place : ℕ) → accepted (serve_at q memory place) ≡ ready_in q (get_elem? q.loads.entries place)
+serve_accepts_ready q memory place = go (get_elem? q.loads.entries place)
   where
     go : (o : Option Entry)
-        → accepted (have o noSerial λ l. and_then (mayServe memory (othersBefore q.stores l) l) λ v. accept (servedWith q place v)) ≡ readyIn q o
+        → accepted (have o no_serial λ l. and_then (may_serve memory (others_before q.stores l) l) λ v. accept (served_with q place v)) ≡ ready_in q o
     go none = refl
-    go (some l) = then-accepts (mayServe memory (othersBefore q.stores l) l) (servedWith q place) ∙ may-any memory [] (othersBefore q.stores l) l
+    go (some l) = then_accepts (may_serve memory (others_before q.stores l) l) (served_with q place) ∙ may-any memory [] (others_before q.stores l) l
 
 -- ---- writing
-abbrev pub writableIn : Contents → ℕ → Option Entry → Bool
-writableIn q place none = false
-writableIn q place (some s) = accepted (may_write (take s.before q.loads.entries) (take place q.stores.entries) s)
+abbrev pub writable_in : Contents → ℕ → Option Entry → Bool
+writable_in q place none = false
+writable_in q place (some s) = accepted (may_write (take s.before q.loads.entries) (take place q.stores.entries) s)
 
-write-accepts-ready : (q : Contents) (memory : List ℕ) (place : ℕ) → accepted (writeAt q memory place) ≡ writableIn q place (get_elem? q.stores.entries place)
-write-accepts-ready q memory place = go (get_elem? q.stores.entries place)
+write_accepts_ready : (q : Contents) (memory : List ℕ) (place : ℕ) → accepted (write_at q memory place) ≡ writable_in q place (get_elem? q.stores.entries place)
+write_accepts_ready q memory place = go (get_elem? q.stores.entries place)
   where
     go : (o : Option Entry)
-        → accepted (have o noSerial λ s.
-        and_then (may_write (take s.before q.loads.entries) (take place q.stores.entries) s) λ p. accept (writtenWith q memory place p))
-        ≡ writableIn q place o
+        → accepted (have o no_serial λ s.
+        and_then (may_write (take s.before q.loads.entries) (take place q.stores.entries) s) λ p. accept (written_with q memory place p))
+        ≡ writable_in q place o
     go none = refl
-    go (some s) = then-accepts (may_write (take s.before q.loads.entries) (take place q.stores.entries) s) (writtenWith q memory place)
+    go (some s) = then_accepts (may_write (take s.before q.loads.entries) (take place q.stores.entries) s) (written_with q memory place)
 
 -- ---- either: what stands at a serial's place decides, whatever the memory's words
-pub write-fault-ready : (loads stores : List ℕ) (i : ℕ) → eqb (number (mayWriteAt loads stores i)) 0 ≡ accepted (mayWriteAt loads stores i)
-write-fault-ready loads stores i =
-    accepted-number (mayWriteAt loads stores i)
-    (may-write-proper (entriesHeld (unpacked (get_or stores i 0)).before loads) (entriesHeld i stores) (entryIn (get_or stores i 0)))
+pub write_fault_ready : (loads stores : List ℕ) (i : ℕ) → eqb (number (may_write_at loads stores i)) 0 ≡ accepted (may_write_at loads stores i)
+write_fault_ready loads stores i =
+    accepted_number (may_write_at loads stores i)
+    (may_write_proper (entries_held (unpacked (get_or stores i 0)).before loads) (entries_held i stores) (entry_in (get_or stores i 0)))
 
-abbrev pub standsReady : Kind → Contents → ℕ → Bool
-standsReady load q place = readyIn q (get_elem? q.loads.entries place)
-standsReady store q place = writableIn q place (get_elem? q.stores.entries place)
+abbrev pub stands_ready : Kind → Contents → ℕ → Bool
+stands_ready load q place = ready_in q (get_elem? q.loads.entries place)
+stands_ready store q place = writable_in q place (get_elem? q.stores.entries place)
 
 module _ (q : Contents) (right : sound q ≡ true) (serial : ℕ) where
-  pub answer-ready : (kind : Kind) (memory : List ℕ) → length memory ≡ q.memoryLength
-      → eqb (answerTo kind q memory serial) 0 ≡ standsReady kind q (age (oldestOf kind q) serial)
+  pub answer-ready : (kind : Kind) (memory : List ℕ) → length memory ≡ q.memory_length
+      → eqb (answer_to kind q memory serial) 0 ≡ stands_ready kind q (age (oldest_of kind q) serial)
   answer-ready load memory e =
-      accepted-number (serve q memory serial) (serve-proper q memory serial)
-      ∙ ap accepted (serve-by-place q memory serial right e)
-      ∙ serve-accepts-ready q memory (place_of q.loads serial)
+      accepted_number (serve q memory serial) (serve_proper q memory serial)
+      ∙ ap accepted (serve_by_place q memory serial right e)
+      ∙ serve_accepts_ready q memory (place_of q.loads serial)
   answer-ready store memory e =
-      accepted-number (write q memory serial) (write-proper q memory serial)
-      ∙ ap accepted (write-by-place q memory serial right e)
-      ∙ write-accepts-ready q memory (place_of q.stores serial)
+      accepted_number (write q memory serial) (write_proper q memory serial)
+      ∙ ap accepted (write_by_place q memory serial right e)
+      ∙ write_accepts_ready q memory (place_of q.stores serial)
 
-  pub would-ready : (kind : Kind) → would kind q serial ≡ standsReady kind q (age (oldestOf kind q) serial)
-  would-ready kind = answer-ready kind (anyMemory q) (length-replicate q.memoryLength 0)
+  pub would-ready : (kind : Kind) → would kind q serial ≡ stands_ready kind q (age (oldest_of kind q) serial)
+  would-ready kind = answer-ready kind (any_memory q) (length-replicate q.memory_length 0)
 
 -- ---- the entry at a place of a record
-pub oldest-in : (kind : Kind) (q : Queue) → oldestOf kind (contentsOf q) ≡ oldest (countsOf kind q).next (countsOf kind q).count
-oldest-in kind q = ap₂ oldest (side-next kind q) (side-count kind q)
+pub oldest_in : (kind : Kind) (q : Queue) → oldest_of kind (contents_of q) ≡ oldest (counts_of kind q).next (counts_of kind q).count
+oldest_in kind q = ap₂ oldest (side_next kind q) (side-count kind q)
 
-module _ (q : Queue) (right : sound (contentsOf q) ≡ true) where
+module _ (q : Queue) (right : sound (contents_of q) ≡ true) where
   pub in_reach : length q.load_entries ≡ 64 → length q.store_entries ≡ 64
-      → (kind : Kind) (i : ℕ) → i < (countsOf kind q).count → InReach kind q.load_entries q.store_entries i
+      → (kind : Kind) (i : ℕ) → i < (counts_of kind q).count → InReach kind q.load_entries q.store_entries i
   in_reach l s load i k =
       (omega (arith, l, count_most q right load), le_trans (before-held q right load i k) (omega (arith, s, count_most q right store)))
   in_reach l s store i k =
       (omega (arith, s, count_most q right store), le_trans (before-held q right store i k) (omega (arith, l, count_most q right load)))
 
-  pub would-at : (kind : Kind) (i : ℕ) → i < (countsOf kind q).count
-      → would kind (contentsOf q) (after (oldestOf kind (contentsOf q)) i) ≡ readyAt kind q.load_entries q.store_entries i
+  pub would-at : (kind : Kind) (i : ℕ) → i < (counts_of kind q).count
+      → would kind (contents_of q) (after (oldest_of kind (contents_of q)) i) ≡ ready_at kind q.load_entries q.store_entries i
   would-at kind i k =
-      let from : ℕ = oldestOf kind (contentsOf q) in
-      would-ready (contentsOf q) right (after from i) kind
-      ∙ ap (standsReady kind (contentsOf q)) (place-of-serial from i (oldest-small _ _) (omega (arith, count_most q right kind)))
+      let from : ℕ = oldest_of kind (contents_of q) in
+      would-ready (contents_of q) right (after from i) kind
+      ∙ ap (stands_ready kind (contents_of q)) (place_of_serial from i (oldest-small _ _) (omega (arith, count_most q right kind)))
       ∙ here kind k
     where
-      here : (kind : Kind) → i < (countsOf kind q).count → standsReady kind (contentsOf q) i ≡ readyAt kind q.load_entries q.store_entries i
+      here : (kind : Kind) → i < (counts_of kind q).count → stands_ready kind (contents_of q) i ≡ ready_at kind q.load_entries q.store_entries i
       here load k =
-          let e : Entry = entryIn (get_or q.load_entries i 0) in
-          ap (readyIn (contentsOf q)) (side-getElem? load q i k)
-          ∙ ap (λ (l : List Entry). loadReady l e) (side-take store q e.before (before-held q right load i k))
+          let e : Entry = entry_in (get_or q.load_entries i 0) in
+          ap (ready_in (contents_of q)) (side-getElem? load q i k)
+          ∙ ap (λ (l : List Entry). load_ready l e) (side-take store q e.before (before-held q right load i k))
       here store k =
-          let m : List ℕ = anyMemory (contentsOf q) in
-          sym (write-accepts-ready (contentsOf q) m i)
+          let m : List ℕ = any_memory (contents_of q) in
+          sym (write_accepts_ready (contents_of q) m i)
           ∙ ap accepted (write-held q m i k (before-held q right store i k))
-          ∙ then-accepts (mayWriteAt q.load_entries q.store_entries i) (writtenWith (contentsOf q) m i)
+          ∙ then_accepts (may_write_at q.load_entries q.store_entries i) (written_with (contents_of q) m i)
 
 -- ---- the serials that pass: i of n places have been looked at, `serial` is the next, and `s` has those that are ready. What
 -- passes is any test that says of a serial what `ready` says of its place.
@@ -136,13 +136,13 @@ pub record ReadyGathering (ready : ℕ → Bool) (from n i serial : ℕ) (s : Se
   pub long : length s.numbers ≡ 64
   pub next : serial ≡ after from i
   pub are : (p : ℕ → Bool) → ((j : ℕ) → j < n → p (after from j) ≡ ready j)
-      → keepWhere p (serials from n) ≡ serialsListed s ++ keepWhere p (serials serial (n - i))
+      → keep_where p (serials from n) ≡ serials_listed s ++ keep_where p (serials serial (n - i))
 
-pub gathering-none : {ready : ℕ → Bool} {from n : ℕ} (numbers : List ℕ) → length numbers ≡ 64 → from < 2 ^ 32
+pub gathering_none : {ready : ℕ → Bool} {from n : ℕ} (numbers : List ℕ) → length numbers ≡ 64 → from < 2 ^ 32
     → ReadyGathering ready from n 0 from (record { count = 0; numbers = numbers })
-gathering-none {ready} {from} {n} numbers e h = record { few = omega arith; long = e; next = omega arith; are = λ p e. rw (sub-zero n) (front p numbers) }
+gathering_none {ready} {from} {n} numbers e h = record { few = omega arith; long = e; next = omega arith; are = λ p e. rw (sub-zero n) (front p numbers) }
   where
-    front : (p : ℕ → Bool) (l : List ℕ) → keepWhere p (serials from n) ≡ take 0 l ++ keepWhere p (serials from n)
+    front : (p : ℕ → Bool) (l : List ℕ) → keep_where p (serials from n) ≡ take 0 l ++ keep_where p (serials from n)
     front p [] = refl
     front p (x ∷ l) = refl
 
@@ -156,22 +156,22 @@ module _ {ready : ℕ → Bool} {from n i serial : ℕ} {s : Serials} (w : Ready
       record { few = omega arith; long = c.long ∙ w.long; next = omega arith; are = are }
     where
       pass : (p : ℕ → Bool) (t : Bool)
-          → pick t (serial ∷ keepWhere p (serials (after serial 1) (n - (i + 1)))) (keepWhere p (serials (after serial 1) (n - (i + 1))))
-          ≡ pick t (serial ∷ []) [] ++ keepWhere p (serials (after serial 1) (n - (i + 1)))
+          → pick t (serial ∷ keep_where p (serials (after serial 1) (n - (i + 1)))) (keep_where p (serials (after serial 1) (n - (i + 1))))
+          ≡ pick t (serial ∷ []) [] ++ keep_where p (serials (after serial 1) (n - (i + 1)))
       pass p true = refl
       pass p false = refl
 
       are : (p : ℕ → Bool) → ((j : ℕ) → j < n → p (after from j) ≡ ready j)
-          → keepWhere p (serials from n) ≡ serialsListed r ++ keepWhere p (serials next (n - (i + 1)))
+          → keep_where p (serials from n) ≡ serials_listed r ++ keep_where p (serials next (n - (i + 1)))
       are p agrees =
           let m : n - i ≡ suc (n - (i + 1)) = omega arith in
           let k : p serial ≡ now = ap p w.next ∙ agrees i h ∙ sym e in
-          let split : keepWhere p (serials serial (n - i)) ≡ pick now (serial ∷ []) [] ++ keepWhere p (serials next (n - (i + 1))) =
+          let split : keep_where p (serials serial (n - i)) ≡ pick now (serial ∷ []) [] ++ keep_where p (serials next (n - (i + 1))) =
           rw (m, d, ← k) (pass p (p serial)) in
-          w.are p agrees ∙ rw (split, c.are) (sym (append_assoc (serialsListed s) (pick now (serial ∷ []) []) (keepWhere p (serials next (n - (i + 1))))))
+          w.are p agrees ∙ rw (split, c.are) (sym (append_assoc (serials_listed s) (pick now (serial ∷ []) []) (keep_where p (serials next (n - (i + 1))))))
 
   pub gathering-end : n ≤ i → (p : ℕ → Bool) → ((j : ℕ) → j < n → p (after from j) ≡ ready j)
-      → serialsListed s ≡ keepWhere p (serials from n)
+      → serials_listed s ≡ keep_where p (serials from n)
   gathering-end h p agrees =
       let m : n - i ≡ 0 = omega arith in
       sym (w.are p agrees ∙ rw (m, append-nil))
@@ -180,12 +180,12 @@ module _ {ready : ℕ → Bool} {from n i serial : ℕ} {s : Serials} (w : Ready
 pub record Copied (source old : List ℕ) (j : ℕ) (l : List ℕ) : Type 0 where
   pub is : l ≡ take j source ++ drop j old
 
-copy-set : (source old : List ℕ) (j z : ℕ) → j < length old → j < length source
+copy_set : (source old : List ℕ) (j z : ℕ) → j < length old → j < length source
     → set (take j source ++ drop j old) j (get_or source j z) ≡ take (suc j) source ++ drop (suc j) old
-copy-set [] old j z h k = absurd (not-suc-le-zero k)
-copy-set (x ∷ s) [] j z h k = absurd (not-suc-le-zero h)
-copy-set (x ∷ s) (y ∷ old) zero z h k = refl
-copy-set (x ∷ s) (y ∷ old) (suc j) z h k = rw (copy-set s old j z (le_of_suc-le-suc h) (le_of_suc-le-suc k))
+copy_set [] old j z h k = absurd (not-suc-le-zero k)
+copy_set (x ∷ s) [] j z h k = absurd (not-suc-le-zero h)
+copy_set (x ∷ s) (y ∷ old) zero z h k = refl
+copy_set (x ∷ s) (y ∷ old) (suc j) z h k = rw (copy_set s old j z (le_of_suc-le-suc h) (le_of_suc-le-suc k))
 
 pub copied_none : {source old : List ℕ} → Copied source old 0 old
 copied_none {source} {old} = record { is = front source old }
@@ -199,21 +199,21 @@ module _ {source old : List ℕ} {j : ℕ} {l : List ℕ} (w : Copied source old
   copied-length h k = ap length w.is ∙ rw (length-append, length-take-le j source h, length-drop) (omega arith)
 
   pub copied_more : (z : ℕ) → j < length old → j < length source → Copied source old (j + 1) (set l j (get_or source j z))
-  copied_more z h k = record { is = rw (w.is, add-one) (copy-set source old j z h k) }
+  copied_more z h k = record { is = rw (w.is, add-one) (copy_set source old j z h k) }
 
   pub copied-whole : (n : ℕ) → j ≡ n → l ≡ take n source ++ drop n old
   copied-whole n e = rw e at w.is
 
 -- ---- the serials of a record, once all of a kind's places have been looked at
-module _ (kind : Kind) (q : Queue) (right : sound (contentsOf q) ≡ true) where
-  pub gathered : {from n i serial : ℕ} {s : Serials} → ReadyGathering (readyAt kind q.load_entries q.store_entries) from n i serial s
-      → from ≡ oldestOf kind (contentsOf q) → n ≡ (countsOf kind q).count → i ≤ n → n ≤ i → Lists (readySerials kind (contentsOf q)) s
-  unfolding readySerials
+module _ (kind : Kind) (q : Queue) (right : sound (contents_of q) ≡ true) where
+  pub gathered : {from n i serial : ℕ} {s : Serials} → ReadyGathering (ready_at kind q.load_entries q.store_entries) from n i serial s
+      → from ≡ oldest_of kind (contents_of q) → n ≡ (counts_of kind q).count → i ≤ n → n ≤ i → Lists (ready_serials kind (contents_of q)) s
+  unfolding ready_serials
   gathered {from} {n} {i} {serial} {s} w e d most end =
       let few : s.count ≤ 64 = omega (arith, w.few, count_most q right kind) in
-      let passed = gathering-end w end (would kind (contentsOf q)) (λ j k. rw e (would-at q right kind j (rw d at k))) in
-      let are : serialsListed s ≡ keepWhere (would kind (contentsOf q)) (serials (oldestOf kind (contentsOf q)) (count_of kind (contentsOf q))) =
-      passed ∙ ap₂ (λ (x y : ℕ). keepWhere (would kind (contentsOf q)) (serials x y)) e (d ∙ sym (side-count kind q)) in
+      let passed = gathering-end w end (would kind (contents_of q)) (λ j k. rw e (would-at q right kind j (rw d at k))) in
+      let are : serials_listed s ≡ keep_where (would kind (contents_of q)) (serials (oldest_of kind (contents_of q)) (count_of kind (contents_of q))) =
+      passed ∙ ap₂ (λ (x y : ℕ). keep_where (would kind (contents_of q)) (serials x y)) e (d ∙ sym (side-count kind q)) in
       record { few = few; size = sym (length-take-le s.count s.numbers (omega (arith, w.long))) ∙ ap length are; are = are }
 
 -- ---- 40 and 10
@@ -222,29 +222,29 @@ module _ (kind : Kind) (q : Contents) (run : List ℕ) where
   unfolding ready
   ready-unsound e = rw e
 
-  pub ready-sound : sound q ≡ true → ready kind q run ≡ need (leb (length (readySerials kind q)) (length run)) tooShort (accept (readySerials kind q))
+  pub ready-sound : sound q ≡ true → ready kind q run ≡ need (leb (length (ready_serials kind q)) (length run)) too_short (accept (ready_serials kind q))
   unfolding ready
   ready-sound right = rw right
 
 -- serials that were handed out are what the rule gives
 pub handed : (q : Queue) {found lent run : List ℕ} {s : Serials} {r : ReadyCount} → Lists found s → HandedOut s lent r run
-    → Readies q lent (need (leb (length found) (length lent)) tooShort (accept found)) (readiedOf r q) run
+    → Readies q lent (need (leb (length found) (length lent)) too_short (accept found)) (readied_of r q) run
 handed q {found} {lent} {run} {s} {r} l h = rw (← l.size) (go (leb s.count (length lent)) h.gives h.leaves)
   where
-    go : (room : Bool) → r ≡ pick room (record { answer = 0; count = s.count }) (record { answer = tooShort; count = 0 })
-        → run ≡ pick room (serialsListed s ++ drop s.count lent) lent
-        → Readies q lent (need room tooShort (accept found)) (readiedOf r q) run
+    go : (room : Bool) → r ≡ pick room (record { answer = 0; count = s.count }) (record { answer = too_short; count = 0 })
+        → run ≡ pick room (serials_listed s ++ drop s.count lent) lent
+        → Readies q lent (need room too_short (accept found)) (readied_of r q) run
     go true e d = record { outcome = rw (e, l.size); run_is = d ∙ rw (l.are, l.size) }
     go false e d = record { outcome = rw e; run_is = d }
 
 -- the front part that is handed back
 pub fronts : (q : Queue) (lent : List ℕ) (rule : Reply (List ℕ)) (r : Readied) (run : List ℕ) → Readies q lent rule r run
     → (r.count ≤ length run) × Fronts q rule r.answer (take r.count run) r.queue
-fronts q lent (refuse n) r run w = rw w.outcome (omega arith, record { answer-is = refl; serials-are = none run; queue-is = refl })
+fronts q lent (refuse n) r run w = rw w.outcome (omega arith, record { answer_is = refl; serials-are = none run; queue_is = refl })
   where
     none : (l : List ℕ) → take 0 l ≡ []
     none [] = refl
     none (x ∷ l) = refl
 fronts q lent (accept found) r run w =
     rw (w.outcome, w.run_is)
-    (simp length-append (omega arith), record { answer-is = refl; serials-are = take-append_seam found (drop (length found) lent); queue-is = refl })
+    (simp length-append (omega arith), record { answer_is = refl; serials-are = take-append_seam found (drop (length found) lent); queue_is = refl })

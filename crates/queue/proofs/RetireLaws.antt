@@ -4,32 +4,32 @@ use native.Mathlib.Nat.{sub-zero, zero-sub, suc-sub-suc}
 use mathlib.Core.List.{map-map}
 use lib.ListN.{length-map}
 use lib.Seq.{take-nil}
-use Rattle.number.specs.Basics.{pick, held, frontWhile, afterWhile}
+use Rattle.number.specs.Basics.{pick, held, front_while, after_while}
 use Rattle.queue.specs.declared.Frame.{Frame}
-use Rattle.queue.specs.Entry.{Entry, unpacked, entryIn, number_of}
-use Rattle.queue.specs.Contents.{entriesHeld, contentsOf}
-use Rattle.queue.specs.Retire.{finished, retiring, afterRetiring, retire}
-use Rattle.queue.specs.Parts.{queueOf}
-use Rattle.queue.specs.Internal.{setBefore, Shifted, shorter, frameWithSides}
+use Rattle.queue.specs.Entry.{Entry, unpacked, entry_in, number_of}
+use Rattle.queue.specs.Contents.{entries_held, contents_of}
+use Rattle.queue.specs.Retire.{finished, retiring, after_retiring, retire}
+use Rattle.queue.specs.Parts.{queue_of}
+use Rattle.queue.specs.Internal.{set_before, Shifted, shorter, frame_with_sides}
 use Rattle.queue.proofs.Lists.{map_same}
 use Rattle.queue.proofs.ContentsLaws.{mapped-few, mapped-length}
-use Rattle.queue.proofs.EntryLaws.{anew-number}
+use Rattle.queue.proofs.EntryLaws.{anew_number}
 
 -- ---- how many leave
-pub retiring-most : (l : List Entry) → retiring l ≤ length l
-retiring-most [] = omega arith
-retiring-most (x ∷ xs) = go (finished x) (retiring-most xs)
+pub retiring_most : (l : List Entry) → retiring l ≤ length l
+retiring_most [] = omega arith
+retiring_most (x ∷ xs) = go (finished x) (retiring_most xs)
   where
-    go : (t : Bool) → retiring xs ≤ length xs → length (pick t (x ∷ frontWhile finished xs) []) ≤ suc (length xs)
+    go : (t : Bool) → retiring xs ≤ length xs → length (pick t (x ∷ front_while finished xs) []) ≤ suc (length xs)
     go true h = omega arith
     go false h = omega arith
 
-drop-retiring : (l : List Entry) → drop (retiring l) l ≡ afterWhile finished l
+drop-retiring : (l : List Entry) → drop (retiring l) l ≡ after_while finished l
 drop-retiring [] = refl
 drop-retiring (x ∷ xs) = go (finished x) (drop-retiring xs)
   where
-    go : (t : Bool) → drop (retiring xs) xs ≡ afterWhile finished xs
-        → drop (length (pick t (x ∷ frontWhile finished xs) [])) (x ∷ xs) ≡ pick t (afterWhile finished xs) (x ∷ xs)
+    go : (t : Bool) → drop (retiring xs) xs ≡ after_while finished xs
+        → drop (length (pick t (x ∷ front_while finished xs) [])) (x ∷ xs) ≡ pick t (after_while finished xs) (x ∷ xs)
     go true h = h
     go false h = refl
 
@@ -98,30 +98,30 @@ module _ {A : Type 0} {g : A → A} {k : ℕ} {old : List A} where
         (map_same (λ (x : A). f (g x)) (λ (x : A). h (f x)) same (drop k (take n old)))
 
 -- the number of an entry that remembers fewer of the other kind
-abbrev pub loweredIn : ℕ → ℕ → ℕ
-loweredIn others n = number_of (setBefore ((unpacked n).before - others) (unpacked n))
+abbrev pub lowered_in : ℕ → ℕ → ℕ
+lowered_in others n = number_of (set_before ((unpacked n).before - others) (unpacked n))
 
-pub lowered-number : (others n : ℕ) → entryIn (loweredIn others n) ≡ afterRetiring others (entryIn n)
-lowered-number others n =
-    anew-number (λ s. setBefore (s.before - others) s) (afterRetiring others) (λ s. refl) n
+pub lowered_number : (others n : ℕ) → entry_in (lowered_in others n) ≡ after_retiring others (entry_in n)
+lowered_number others n =
+    anew_number (λ s. set_before (s.before - others) s) (after_retiring others) (λ s. refl) n
     (λ k. record { port = k.port; before = omega (arith, k.before); address = k.address; word = k.word }) refl
 
 -- ---- both sides
-pub entries-retiring : (n : ℕ) (l : List ℕ) → retiring (entriesHeld n l) ≤ n
-entries-retiring n l = omega (arith, retiring-most (entriesHeld n l), mapped-length entryIn 0 n l)
+pub entries-retiring : (n : ℕ) (l : List ℕ) → retiring (entries_held n l) ≤ n
+entries-retiring n l = omega (arith, retiring_most (entries_held n l), mapped-length entry_in 0 n l)
 
 -- a side once its finished entries have left
-side-retired : (others n l : ℕ) {old new : List ℕ} → l ≡ retiring (entriesHeld n old) → Shifted l (n - l) others old new
-    → entriesHeld (n - l) new ≡ map (afterRetiring others) (afterWhile finished (entriesHeld n old))
+side-retired : (others n l : ℕ) {old new : List ℕ} → l ≡ retiring (entries_held n old) → Shifted l (n - l) others old new
+    → entries_held (n - l) new ≡ map (after_retiring others) (after_while finished (entries_held n old))
 side-retired others n l {old} {new} e w =
     let k : l + (n - l) ≡ n = (let m : l ≤ n = rw e (entries-retiring n old) in omega arith) in
-    w.holds ∙ rw (k, e, drop-retiring (entriesHeld n old))
+    w.holds ∙ rw (k, e, drop-retiring (entries_held n old))
 
 pub retire-sides : (frame : Frame) {loads stores ls ss : List ℕ} {l s : ℕ}
-    → l ≡ retiring (entriesHeld frame.loads.count loads) → s ≡ retiring (entriesHeld frame.stores.count stores)
+    → l ≡ retiring (entries_held frame.loads.count loads) → s ≡ retiring (entries_held frame.stores.count stores)
     → Shifted l (frame.loads.count - l) s loads ls → Shifted s (frame.stores.count - s) l stores ss
-    → contentsOf (queueOf (frameWithSides frame (record { loads = shorter frame.loads l; stores = shorter frame.stores s })) ls ss)
-    ≡ retire (contentsOf (queueOf frame loads stores))
-unfolding contentsOf
+    → contents_of (queue_of (frame_with_sides frame (record { loads = shorter frame.loads l; stores = shorter frame.stores s })) ls ss)
+    ≡ retire (contents_of (queue_of frame loads stores))
+unfolding contents_of
 retire-sides frame {loads} {stores} {ls} {ss} {l} {s} el es ml ms =
     rw (side-retired s frame.loads.count l el ml, side-retired l frame.stores.count s es ms, ← el, ← es)

@@ -6,76 +6,76 @@ use Rattle.queue.specs.declared.Kind.TheVariants.{Load as load, Store as store}
 use Rattle.queue.specs.declared.Entry.{Entry as EntryStruct}
 use Rattle.queue.specs.declared.Queue.{Queue}
 use Rattle.queue.specs.declared.serving.Service.{Service}
-use Rattle.number.specs.Refusal.{unsound, wrongMemory, noSerial, alreadyDone, noAddress}
+use Rattle.number.specs.Refusal.{unsound, wrong_memory, no_serial, already_done, no_address}
 use Rattle.number.specs.Reply.{refuse, accept, have, and_then}
-use Rattle.queue.specs.Entry.{Entry, entry_of, unpacked, withWord}
-use Rattle.queue.specs.Contents.{Contents, contentsOf, age, oldest, place_of, othersBefore}
+use Rattle.queue.specs.Entry.{Entry, entry_of, unpacked, with_word}
+use Rattle.queue.specs.Contents.{Contents, contents_of, age, oldest, place_of, others_before}
 use Rattle.queue.specs.Sound.{sound}
-use Rattle.queue.specs.Serve.{Source, source, loadedFrom, mayServe, servedWith, serveAt, serve}
-use Rattle.queue.specs.Outcome.{valueIn, ServedWell}
-use Rattle.queue.specs.Parts.{queueOf, countedOf}
-use Rattle.queue.specs.Internal.{Has64, mayServeAt, servedAs, MadeAnew}
+use Rattle.queue.specs.Serve.{Source, source, loaded_from, may_serve, served_with, serve_at, serve}
+use Rattle.queue.specs.Outcome.{value_in, ServedWell}
+use Rattle.queue.specs.Parts.{queue_of, counted_of}
+use Rattle.queue.specs.Internal.{Has64, may_serve_at, served_as, MadeAnew}
 use Rattle.queue.proofs.ContentsLaws.{side-past, side-getElem?, side-take, side-place, side-anew, words-held}
 
 -- ---- 26, 27, and then by the source
 module _ (memory : List ℕ) (ss : List Entry) (e : EntryStruct) where
-  pub may-again : e.filled ≡ true → mayServe memory ss (entry_of e) ≡ refuse alreadyDone
+  pub may-again : e.filled ≡ true → may_serve memory ss (entry_of e) ≡ refuse already_done
   may-again f = rw f
 
   module _ (f : e.filled ≡ false) where
-    pub may-no-address : e.addressed ≡ false → mayServe memory ss (entry_of e) ≡ refuse noAddress
+    pub may-no-address : e.addressed ≡ false → may_serve memory ss (entry_of e) ≡ refuse no_address
     may-no-address a = rw (f, a)
 
     pub may_load : e.addressed ≡ true → {found : Source} → found ≡ source e.address ss
-        → mayServe memory ss (entry_of e) ≡ loadedFrom memory e.address found
+        → may_serve memory ss (entry_of e) ≡ loaded_from memory e.address found
     may_load a s = rw (f, a, s)
 
 module _ (q : Queue) (memory : List ℕ) (place : ℕ) where
-  pub serve-none : q.frame.loads.count ≤ place → serveAt (contentsOf q) memory place ≡ refuse noSerial
+  pub serve-none : q.frame.loads.count ≤ place → serve_at (contents_of q) memory place ≡ refuse no_serial
   serve-none h = rw (side-past load q place h)
 
   module _ (k : place < q.frame.loads.count) (b : (unpacked (get_or q.load_entries place 0)).before ≤ q.frame.stores.count) where
-    pub serve-held : serveAt (contentsOf q) memory place
-        ≡ and_then (mayServeAt memory q.load_entries q.store_entries place) λ v. accept (servedWith (contentsOf q) place v)
+    pub serve-held : serve_at (contents_of q) memory place
+        ≡ and_then (may_serve_at memory q.load_entries q.store_entries place) λ v. accept (served_with (contents_of q) place v)
     serve-held =
         let e : EntryStruct = unpacked (get_or q.load_entries place 0) in
-        ap (λ (o : Option Entry). have o noSerial λ l.
-        and_then (mayServe memory (othersBefore (contentsOf q).stores l) l) λ v. accept (servedWith (contentsOf q) place v)) (side-getElem? load q place k)
-        ∙ ap (λ (l : List Entry). and_then (mayServe memory l (entry_of e)) λ v. accept (servedWith (contentsOf q) place v)) (side-take store q e.before b)
+        ap (λ (o : Option Entry). have o no_serial λ l.
+        and_then (may_serve memory (others_before (contents_of q).stores l) l) λ v. accept (served_with (contents_of q) place v)) (side-getElem? load q place k)
+        ∙ ap (λ (l : List Entry). and_then (may_serve memory l (entry_of e)) λ v. accept (served_with (contents_of q) place v)) (side-take store q e.before b)
 
 -- ---- an accepted serve: the load at the place has its value
 pub served-well : (q : Queue) (counts : Counts) (place word : ℕ) (forwarded : Bool) {r : Service} {left : List ℕ} → Has64 q.load_entries
     → q.frame.loads.count ≤ 64 → place < q.frame.loads.count
-    → r ≡ servedAs word forwarded counts → MadeAnew (withWord word) place q.load_entries left
-    → ServedWell (servedWith (contentsOf q) place (record { value = word; forwarded = forwarded })) counts
-    (countedOf r (queueOf q.frame left q.store_entries))
+    → r ≡ served_as word forwarded counts → MadeAnew (with_word word) place q.load_entries left
+    → ServedWell (served_with (contents_of q) place (record { value = word; forwarded = forwarded })) counts
+    (counted_of r (queue_of q.frame left q.store_entries))
 served-well q counts place word forwarded {r} {left} whole few k e f =
     let w : q.frame.loads.count ≤ length q.load_entries = rw whole few in
     record {
       answer = ap (λ (s : Service). s.answer) e;
-      gives = ap (λ (s : Service). valueIn s.value) e;
+      gives = ap (λ (s : Service). value_in s.value) e;
       holds = side-anew load q place w k f;
       counts = ap (λ (s : Service). s.counts) e;
     }
 
 -- ---- 40 and 30, and the place that a serial names
-pub serve-by-place : (q : Contents) (memory : List ℕ) (serial : ℕ) → sound q ≡ true → length memory ≡ q.memoryLength
-    → serve q memory serial ≡ serveAt q memory (place_of q.loads serial)
+pub serve_by_place : (q : Contents) (memory : List ℕ) (serial : ℕ) → sound q ≡ true → length memory ≡ q.memory_length
+    → serve q memory serial ≡ serve_at q memory (place_of q.loads serial)
 unfolding serve
-serve-by-place q memory serial right e = rw (right, eq-eqb (length memory) q.memoryLength e)
+serve_by_place q memory serial right e = rw (right, eq-eqb (length memory) q.memory_length e)
 
 module _ (q : Queue) (memory : List ℕ) (serial : ℕ) where
-  pub serve-unsound : sound (contentsOf q) ≡ false → serve (contentsOf q) memory serial ≡ refuse unsound
+  pub serve-unsound : sound (contents_of q) ≡ false → serve (contents_of q) memory serial ≡ refuse unsound
   unfolding serve
   serve-unsound e = rw e
 
-  module _ (right : sound (contentsOf q) ≡ true) where
-    pub serve-memory : (length memory ≡ q.frame.memory_length → ⊥) → serve (contentsOf q) memory serial ≡ refuse wrongMemory
+  module _ (right : sound (contents_of q) ≡ true) where
+    pub serve-memory : (length memory ≡ q.frame.memory_length → ⊥) → serve (contents_of q) memory serial ≡ refuse wrong_memory
     unfolding serve
     serve-memory e = rw (right, words-held q, ne_eqb (length memory) q.frame.memory_length e)
 
     pub serve-place : length memory ≡ q.frame.memory_length
-        → serve (contentsOf q) memory serial ≡ serveAt (contentsOf q) memory (age (oldest q.frame.loads.next q.frame.loads.count) serial)
+        → serve (contents_of q) memory serial ≡ serve_at (contents_of q) memory (age (oldest q.frame.loads.next q.frame.loads.count) serial)
     serve-place e =
-        serve-by-place (contentsOf q) memory serial right (e ∙ sym (words-held q))
-        ∙ ap (serveAt (contentsOf q) memory) (side-place load q serial)
+        serve_by_place (contents_of q) memory serial right (e ∙ sym (words-held q))
+        ∙ ap (serve_at (contents_of q) memory) (side-place load q serial)

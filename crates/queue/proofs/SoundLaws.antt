@@ -4,38 +4,38 @@ use mathlib.Core.Option.{none, some}
 use Rattle.number.specs.Basics.{pick, all_of, within}
 use Rattle.number.specs.Reply.{accepted, passed}
 use Rattle.number.proofs.Both.{and_left, and_right}
-use Rattle.number.proofs.AllLaws.{all-at}
+use Rattle.number.proofs.AllLaws.{all_at}
 use Rattle.number.proofs.ReplyLaws.{accepted-passed}
-use Rattle.table.specs.Table.{groups_of, checkTable}
+use Rattle.table.specs.Table.{groups_of, check_table}
 use Rattle.queue.specs.declared.Kind.{Kind}
 use Rattle.queue.specs.declared.Kind.TheVariants.{Load as load, Store as store}
 use Rattle.queue.specs.declared.Queue.{Queue}
-use Rattle.queue.specs.Entry.{unpacked, entryIn}
-use Rattle.queue.specs.Contents.{Side, Contents, entriesHeld, contentsOf, side_of}
-use Rattle.queue.specs.Sound.{depthRight, memoryRight, addressRight, entryRight, sideRight, sound}
+use Rattle.queue.specs.Entry.{unpacked, entry_in}
+use Rattle.queue.specs.Contents.{Side, Contents, entries_held, contents_of, side_of}
+use Rattle.queue.specs.Sound.{depth_right, memory_right, address_right, entry_right, side_right, sound}
 use Rattle.queue.proofs.Lists.{false-true}
-use Rattle.queue.proofs.ContentsLaws.{mapped-length, mapped_at, countsOf, numbersOf, opposite, side-held, side-depth, side-count, words-held}
+use Rattle.queue.proofs.ContentsLaws.{mapped-length, mapped_at, counts_of, numbers_of, opposite, side-held, side-depth, side-count, words-held}
 
 pub within-least : (lo hi n : ℕ) → within lo hi n ≡ true → lo ≤ n
 within-least lo hi n h = leb-true lo n (and_left (leb lo n) (leb n hi) h)
 
-pub within-most : (lo hi n : ℕ) → within lo hi n ≡ true → n ≤ hi
-within-most lo hi n h = leb-true n hi (and_right (leb lo n) (leb n hi) h)
+pub within_most : (lo hi n : ℕ) → within lo hi n ≡ true → n ≤ hi
+within_most lo hi n h = leb-true n hi (and_right (leb lo n) (leb n hi) h)
 
 -- ---- the parts of the check
 pub record SideSound (words : ℕ) (s other : Side) : Type 0 where
-  pub depth : depthRight s.depth ≡ true
+  pub depth : depth_right s.depth ≡ true
   pub few : leb (length s.entries) s.depth ≡ true
-  pub entries : all_of (entryRight words (length other.entries)) s.entries ≡ true
+  pub entries : all_of (entry_right words (length other.entries)) s.entries ≡ true
 
 pub record Sound (q : Contents) : Type 0 where
-  pub words : memoryRight q.memoryLength ≡ true
-  pub sides : (kind : Kind) → SideSound q.memoryLength (side_of kind q) (side_of (opposite kind) q)
-  pub table : accepted (checkTable q.groups) ≡ true
+  pub words : memory_right q.memory_length ≡ true
+  pub sides : (kind : Kind) → SideSound q.memory_length (side_of kind q) (side_of (opposite kind) q)
+  pub table : accepted (check_table q.groups) ≡ true
 
-side-parts : (words : ℕ) (s other : Side) → sideRight words s other ≡ true → SideSound words s other
+side-parts : (words : ℕ) (s other : Side) → side_right words s other ≡ true → SideSound words s other
 side-parts words s other h =
-    let d = depthRight s.depth in
+    let d = depth_right s.depth in
     let f = leb (length s.entries) s.depth in
     let both = and_left (d && f) _ h in
     record { depth = and_left d f both; few = and_right d f both; entries = and_right (d && f) _ h }
@@ -43,20 +43,20 @@ side-parts words s other h =
 pub sound-parts : (q : Contents) → sound q ≡ true → Sound q
 unfolding sound
 sound-parts q h =
-    let m = memoryRight q.memoryLength in
-    let l = sideRight q.memoryLength q.loads q.stores in
-    let s = sideRight q.memoryLength q.stores q.loads in
+    let m = memory_right q.memory_length in
+    let l = side_right q.memory_length q.loads q.stores in
+    let s = side_right q.memory_length q.stores q.loads in
     let three = and_left (m && l && s) _ h in
     let two = and_left (m && l) s three in
-    let loads = side-parts q.memoryLength q.loads q.stores (and_right m l two) in
-    let stores = side-parts q.memoryLength q.stores q.loads (and_right (m && l) s three) in
+    let loads = side-parts q.memory_length q.loads q.stores (and_right m l two) in
+    let stores = side-parts q.memory_length q.stores q.loads (and_right (m && l) s three) in
     record {
       words = and_left m l two;
       sides = elim [ load ↦ loads | store ↦ stores ];
       table = and_right (m && l && s) _ h;
     }
 
-parts-side : (words : ℕ) (s other : Side) → SideSound words s other → sideRight words s other ≡ true
+parts-side : (words : ℕ) (s other : Side) → SideSound words s other → side_right words s other ≡ true
 parts-side words s other p = rw (p.depth, p.few, p.entries)
 
 pub parts-sound : (q : Contents) → Sound q → sound q ≡ true
@@ -64,8 +64,8 @@ unfolding sound
 parts-sound q p =
     rw (
       p.words,
-      parts-side q.memoryLength q.loads q.stores (p.sides load),
-      parts-side q.memoryLength q.stores q.loads (p.sides store),
+      parts-side q.memory_length q.loads q.stores (p.sides load),
+      parts-side q.memory_length q.stores q.loads (p.sides store),
       p.table,
     )
 
@@ -80,74 +80,74 @@ regroup false true e false f = refl
 regroup false false e b f = refl
 
 pub sound-sides : (q : Queue) →
-    sound (contentsOf q) ≡
-    ((depthRight q.frame.loads.depth && leb q.frame.loads.count q.frame.loads.depth)
-    && (depthRight q.frame.stores.depth && leb q.frame.stores.count q.frame.stores.depth)
-    && memoryRight q.frame.memory_length
-    && all_of (entryRight q.frame.memory_length q.frame.stores.count) (entriesHeld q.frame.loads.count q.load_entries)
-    && all_of (entryRight q.frame.memory_length q.frame.loads.count) (entriesHeld q.frame.stores.count q.store_entries)
-    && accepted (checkTable (groups_of q.frame.table)))
-unfolding sound contentsOf
+    sound (contents_of q) ≡
+    ((depth_right q.frame.loads.depth && leb q.frame.loads.count q.frame.loads.depth)
+    && (depth_right q.frame.stores.depth && leb q.frame.stores.count q.frame.stores.depth)
+    && memory_right q.frame.memory_length
+    && all_of (entry_right q.frame.memory_length q.frame.stores.count) (entries_held q.frame.loads.count q.load_entries)
+    && all_of (entry_right q.frame.memory_length q.frame.loads.count) (entries_held q.frame.stores.count q.store_entries)
+    && accepted (check_table (groups_of q.frame.table)))
+unfolding sound contents_of
 sound-sides q =
     let words : ℕ = q.frame.memory_length in
     let n : ℕ = q.frame.loads.count in
     let m : ℕ = q.frame.stores.count in
-    rw (mapped-length entryIn 0 n q.load_entries, mapped-length entryIn 0 m q.store_entries)
-    (ap (λ (b : Bool). b && accepted (checkTable (groups_of q.frame.table)))
-    (regroup (memoryRight words) (depthRight q.frame.loads.depth && leb n q.frame.loads.depth)
-    (all_of (entryRight words m) (entriesHeld n q.load_entries))
-    (depthRight q.frame.stores.depth && leb m q.frame.stores.depth)
-    (all_of (entryRight words n) (entriesHeld m q.store_entries))))
+    rw (mapped-length entry_in 0 n q.load_entries, mapped-length entry_in 0 m q.store_entries)
+    (ap (λ (b : Bool). b && accepted (check_table (groups_of q.frame.table)))
+    (regroup (memory_right words) (depth_right q.frame.loads.depth && leb n q.frame.loads.depth)
+    (all_of (entry_right words m) (entries_held n q.load_entries))
+    (depth_right q.frame.stores.depth && leb m q.frame.stores.depth)
+    (all_of (entry_right words n) (entries_held m q.store_entries))))
 
 -- a side whose depth is right and that holds no more
-pub side-few : (depth n : ℕ) → (depthRight depth && leb n depth) ≡ true → n ≤ 64
-side-few depth n h = le_trans (leb-true n depth (and_right (depthRight depth) (leb n depth) h))
-    (within-most 1 64 depth (and_left (depthRight depth) (leb n depth) h))
+pub side-few : (depth n : ℕ) → (depth_right depth && leb n depth) ≡ true → n ≤ 64
+side-few depth n h = le_trans (leb-true n depth (and_right (depth_right depth) (leb n depth) h))
+    (within_most 1 64 depth (and_left (depth_right depth) (leb n depth) h))
 
 -- an address that is filled in
-filled_in : (words a : ℕ) (addressed : Bool) → addressRight words (pick addressed (some a) none) ≡ true → addressed ≡ true → a < words
+filled_in : (words a : ℕ) (addressed : Bool) → address_right words (pick addressed (some a) none) ≡ true → addressed ≡ true → a < words
 filled_in words a true h e = ltb-true a words h
 filled_in words a false h e = false-true e
 
 -- ---- a sound queue's record
-module _ (q : Queue) (s : sound (contentsOf q) ≡ true) where
+module _ (q : Queue) (s : sound (contents_of q) ≡ true) where
   pub words-most : q.frame.memory_length ≤ 4096
-  words-most = within-most 1 4096 q.frame.memory_length (rw (words-held q) at (sound-parts (contentsOf q) s).words)
+  words-most = within_most 1 4096 q.frame.memory_length (rw (words-held q) at (sound-parts (contents_of q) s).words)
 
-  pub table-right : checkTable (groups_of q.frame.table) ≡ passed
-  unfolding contentsOf
-  table-right = accepted-passed _ (sound-parts (contentsOf q) s).table
+  pub table-right : check_table (groups_of q.frame.table) ≡ passed
+  unfolding contents_of
+  table-right = accepted-passed _ (sound-parts (contents_of q) s).table
 
   module _ (kind : Kind) where
-    side-sound : SideSound (contentsOf q).memoryLength (side_of kind (contentsOf q)) (side_of (opposite kind) (contentsOf q))
-    side-sound = (sound-parts (contentsOf q) s).sides kind
+    side-sound : SideSound (contents_of q).memory_length (side_of kind (contents_of q)) (side_of (opposite kind) (contents_of q))
+    side-sound = (sound-parts (contents_of q) s).sides kind
 
-    pub depth-most : (countsOf kind q).depth ≤ 64
-    depth-most = within-most 1 64 (countsOf kind q).depth (rw (side-depth kind q) at side-sound.depth)
+    pub depth-most : (counts_of kind q).depth ≤ 64
+    depth-most = within_most 1 64 (counts_of kind q).depth (rw (side-depth kind q) at side-sound.depth)
 
-    pub count-in-depth : (countsOf kind q).count ≤ (countsOf kind q).depth
+    pub count-in-depth : (counts_of kind q).count ≤ (counts_of kind q).depth
     count-in-depth = leb-true _ _ (rw (side-count kind q, side-depth kind q) at side-sound.few)
 
-    pub count_most : (countsOf kind q).count ≤ 64
+    pub count_most : (counts_of kind q).count ≤ 64
     count_most = le_trans count-in-depth depth-most
 
-    module _ (i : ℕ) (k : i < (countsOf kind q).count) where
-      entry-right-at : entryRight q.frame.memory_length (countsOf (opposite kind) q).count (entryIn (get_or (numbersOf kind q) i 0)) ≡ true
+    module _ (i : ℕ) (k : i < (counts_of kind q).count) where
+      entry-right-at : entry_right q.frame.memory_length (counts_of (opposite kind) q).count (entry_in (get_or (numbers_of kind q) i 0)) ≡ true
       entry-right-at =
-          let all : all_of (entryRight q.frame.memory_length (countsOf (opposite kind) q).count)
-          (entriesHeld (countsOf kind q).count (numbersOf kind q)) ≡ true =
+          let all : all_of (entry_right q.frame.memory_length (counts_of (opposite kind) q).count)
+          (entries_held (counts_of kind q).count (numbers_of kind q)) ≡ true =
           rw (words-held q, side-count (opposite kind) q, side-held kind q) at side-sound.entries in
-          ap (entryRight q.frame.memory_length (countsOf (opposite kind) q).count)
-          (sym (mapped_at entryIn 0 (countsOf kind q).count (numbersOf kind q) i k))
-          ∙ all-at _ (entriesHeld (countsOf kind q).count (numbersOf kind q)) i (entryIn 0) all
-          (rw (mapped-length entryIn 0 (countsOf kind q).count (numbersOf kind q)) k)
+          ap (entry_right q.frame.memory_length (counts_of (opposite kind) q).count)
+          (sym (mapped_at entry_in 0 (counts_of kind q).count (numbers_of kind q) i k))
+          ∙ all_at _ (entries_held (counts_of kind q).count (numbers_of kind q)) i (entry_in 0) all
+          (rw (mapped-length entry_in 0 (counts_of kind q).count (numbers_of kind q)) k)
 
       -- it remembers no more of the other kind than are held
-      pub before-held : (unpacked (get_or (numbersOf kind q) i 0)).before ≤ (countsOf (opposite kind) q).count
+      pub before-held : (unpacked (get_or (numbers_of kind q) i 0)).before ≤ (counts_of (opposite kind) q).count
       before-held = leb-true _ _
-          (and_left (leb (unpacked (get_or (numbersOf kind q) i 0)).before (countsOf (opposite kind) q).count) _ entry-right-at)
+          (and_left (leb (unpacked (get_or (numbers_of kind q) i 0)).before (counts_of (opposite kind) q).count) _ entry-right-at)
 
-      pub address-low : (unpacked (get_or (numbersOf kind q) i 0)).addressed ≡ true
-          → (unpacked (get_or (numbersOf kind q) i 0)).address < q.frame.memory_length
-      address-low e = filled_in q.frame.memory_length _ (unpacked (get_or (numbersOf kind q) i 0)).addressed
-          (and_right (leb (unpacked (get_or (numbersOf kind q) i 0)).before (countsOf (opposite kind) q).count) _ entry-right-at) e
+      pub address-low : (unpacked (get_or (numbers_of kind q) i 0)).addressed ≡ true
+          → (unpacked (get_or (numbers_of kind q) i 0)).address < q.frame.memory_length
+      address-low e = filled_in q.frame.memory_length _ (unpacked (get_or (numbers_of kind q) i 0)).addressed
+          (and_right (leb (unpacked (get_or (numbers_of kind q) i 0)).before (counts_of (opposite kind) q).count) _ entry-right-at) e

@@ -3,7 +3,7 @@
 use Rattle.std.proofs.Common.{◌≡◌, ℕ, ◌+◌, Bool, true, false, List, [], ◌∷◌, drop, sym, refl, ◌∙◌, add-zero, add-suc, suc-add, zero-add, add-one}
 use Rattle.number.specs.Basics.{any_of, all_of}
 use Rattle.queue.specs.Entry.{Entry}
-use Rattle.queue.specs.Contents.{firstPlace}
+use Rattle.queue.specs.Contents.{first_place}
 use Rattle.queue.specs.Retire.{finished, retiring}
 
 -- ---- every entry passes
@@ -28,8 +28,8 @@ module _ {B : Type 0} {p : B → Bool} {l : List B} {i : ℕ} (w : AllYet p l i)
 pub record NoneYet {B : Type 0} (p : B → Bool) (l : List B) (i : ℕ) : Type 0 where
   pub is : any_of p l ≡ any_of p (drop i l)
 
-pub none-none : {B : Type 0} {p : B → Bool} {l : List B} → NoneYet p l 0
-none-none = record { is = refl }
+pub none_none : {B : Type 0} {p : B → Bool} {l : List B} → NoneYet p l 0
+none_none = record { is = refl }
 
 module _ {B : Type 0} {p : B → Bool} {l : List B} {i : ℕ} (w : NoneYet p l i) where
   module _ {x : B} (here : drop i l ≡ x ∷ drop (i + 1) l) where
@@ -44,28 +44,28 @@ module _ {B : Type 0} {p : B → Bool} {l : List B} {i : ℕ} (w : NoneYet p l i
 
 -- ---- the first entry that passes
 pub record Seeking {B : Type 0} (p : B → Bool) (l : List B) (i : ℕ) : Type 0 where
-  pub is : firstPlace p l ≡ i + firstPlace p (drop i l)
+  pub is : first_place p l ≡ i + first_place p (drop i l)
 
-pub seeking-none : {B : Type 0} {p : B → Bool} {l : List B} → Seeking p l 0
-seeking-none = record { is = sym (zero-add _) }
+pub seeking_none : {B : Type 0} {p : B → Bool} {l : List B} → Seeking p l 0
+seeking_none = record { is = sym (zero-add _) }
 
 module _ {B : Type 0} {p : B → Bool} {l : List B} {i : ℕ} (w : Seeking p l i) where
   module _ {x : B} (here : drop i l ≡ x ∷ drop (i + 1) l) where
     pub seeking-on : p x ≡ false → Seeking p l (i + 1)
     seeking-on e = record { is = w.is ∙ rw (here, e, add-one, add-suc, suc-add) }
 
-    pub seeking-stop : p x ≡ true → i ≡ firstPlace p l
+    pub seeking-stop : p x ≡ true → i ≡ first_place p l
     seeking-stop e = rw (w.is, here, e) (sym (add-zero i))
 
-  pub seeking-end : drop i l ≡ [] → i ≡ firstPlace p l
+  pub seeking-end : drop i l ≡ [] → i ≡ first_place p l
   seeking-end e = rw (w.is, e) (sym (add-zero i))
 
 -- ---- finished entries at the oldest end
 pub record Retiring (l : List Entry) (i : ℕ) : Type 0 where
   pub is : retiring l ≡ i + retiring (drop i l)
 
-pub retiring-none : {l : List Entry} → Retiring l 0
-retiring-none = record { is = sym (zero-add _) }
+pub retiring_none : {l : List Entry} → Retiring l 0
+retiring_none = record { is = sym (zero-add _) }
 
 module _ {l : List Entry} {i : ℕ} (w : Retiring l i) where
   module _ {e : Entry} (here : drop i l ≡ e ∷ drop (i + 1) l) where

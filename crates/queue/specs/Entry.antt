@@ -36,26 +36,26 @@ abbrev pub written : Entry → Bool
 written s = s.finished
 
 -- an entry of the port that does not pass the test
-abbrev pub ofPortWithout : (Entry → Bool) → ℕ → Entry → Bool
-ofPortWithout test port e = e.port == port && not (test e)
+abbrev pub of_port_without : (Entry → Bool) → ℕ → Entry → Bool
+of_port_without test port e = e.port == port && not (test e)
 
 -- the entry of a pair, which has nothing yet, with `before` of the other kind before it
-abbrev pub newEntry : Pair → ℕ → Entry
-newEntry p before = entry p.port none none false before
+abbrev pub new_entry : Pair → ℕ → Entry
+new_entry p before = entry p.port none none false before
 
 -- an entry made anew: its port, which its pair gave it, stays
 abbrev pub anew : Entry → Option ℕ → Option ℕ → Bool → ℕ → Entry
 anew e address word finished before = entry e.port address word finished before
 
 -- with an address; with a word; finished; remembering n of the other kind
-abbrev pub withAddress : ℕ → Entry → Entry
-withAddress a e = anew e (some a) e.word e.finished e.before
+abbrev pub with_address : ℕ → Entry → Entry
+with_address a e = anew e (some a) e.word e.finished e.before
 
-abbrev pub withWord : ℕ → Entry → Entry
-withWord w e = anew e e.address (some w) e.finished e.before
+abbrev pub with_word : ℕ → Entry → Entry
+with_word w e = anew e e.address (some w) e.finished e.before
 
-abbrev pub markFinished : Entry → Entry
-markFinished e = anew e e.address e.word true e.before
+abbrev pub mark_finished : Entry → Entry
+mark_finished e = anew e e.address e.word true e.before
 
 abbrev pub with_before : ℕ → Entry → Entry
 with_before n e = anew e e.address e.word e.finished n
@@ -79,8 +79,8 @@ unpacked n = record {
 }
 
 -- Every record of an entry but that one is built by this.
-abbrev pub entryStruct : ℕ → Bool → ℕ → Bool → ℕ → Bool → ℕ → EntryStruct
-entryStruct port addressed address filled word finished before = record {
+abbrev pub entry_struct : ℕ → Bool → ℕ → Bool → ℕ → Bool → ℕ → EntryStruct
+entry_struct port addressed address filled word finished before = record {
   port = port;
   before = before;
   addressed = addressed;
@@ -91,8 +91,8 @@ entryStruct port addressed address filled word finished before = record {
 }
 
 -- what a number of a queue's record holds
-abbrev pub entryIn : ℕ → Entry
-entryIn n = entry_of (unpacked n)
+abbrev pub entry_in : ℕ → Entry
+entry_in n = entry_of (unpacked n)
 
 abbrev pub bit : Bool → ℕ
 bit true = 1

@@ -2,14 +2,14 @@
 use Rattle.std.specs.Prelude.{◌≡◌, ℕ, ◌+◌, ◌-◌, ◌<◌, ◌≤◌, Bool, true, false, List, [], ◌∷◌, ◌++◌, map, length, take, drop, nat_le, nat_lt, slice_index, slice_index_or, slice_set}
 use Rattle.std.proofs.Math.Option.{none, some}
 use Rattle.number.specs.Basics.{pick, is_some}
-use Rattle.number.specs.Refusal.{noneWaits, tooShort}
+use Rattle.number.specs.Refusal.{none_waits, too_short}
 use Rattle.number.specs.Reply.{Reply, accepted}
 use Rattle.counts.specs.declared.Counts.{Counts}
 use Rattle.counts.specs.Counts.{counted}
 use Rattle.table.specs.declared.Table.{Table}
 use Rattle.table.specs.declared.Pair.{Pair}
 use Rattle.table.specs.declared.Span.{Span}
-use Rattle.table.specs.Group.{GroupPairs, blankPair, list_of, Inside}
+use Rattle.table.specs.Group.{GroupPairs, blank_pair, list_of, Inside}
 use Rattle.queue.specs.declared.Entry.{Entry as EntryStruct}
 use Rattle.queue.specs.declared.Side.{Side as SideStruct}
 use Rattle.queue.specs.declared.Frame.{Frame}
@@ -28,20 +28,20 @@ use Rattle.queue.specs.declared.serving.Source.TheVariants.{Unknown, NoData, For
 use Rattle.queue.specs.declared.serving.Service.{Service}
 use Rattle.queue.specs.declared.ready.Serials.{Serials}
 use Rattle.queue.specs.declared.ready.ReadyCount.{ReadyCount}
-use Rattle.queue.specs.Entry.{entryStruct, ofPortWithout, Entry, newEntry, data_of, written, entryIn}
-use Rattle.queue.specs.Contents.{Contents, contentsOf, entriesHeld, withSides, after, firstPlace}
+use Rattle.queue.specs.Entry.{entry_struct, of_port_without, Entry, new_entry, data_of, written, entry_in}
+use Rattle.queue.specs.Contents.{Contents, contents_of, entries_held, with_sides, after, first_place}
 use Rattle.queue.specs.Touch.{same}
 use Rattle.queue.specs.Sound.{sound}
 use Rattle.queue.specs.Activate.{joined}
-use Rattle.queue.specs.Arguments.{withArgument}
-use Rattle.queue.specs.Serve.{Source, unsettled, fromStore, fromMemory, decided, Loaded, mayServe}
+use Rattle.queue.specs.Arguments.{with_argument}
+use Rattle.queue.specs.Serve.{Source, unsettled, from_store, from_memory, decided, Loaded, may_serve}
 use Rattle.queue.specs.Write.{WordPut, may_write}
-use Rattle.queue.specs.Retire.{afterRetiring}
-use Rattle.queue.specs.Parts.{queueOf}
+use Rattle.queue.specs.Retire.{after_retiring}
+use Rattle.queue.specs.Parts.{queue_of}
 
 -- ---- what a call on the parts gives where it is refused
-abbrev pub refusedStep : ℕ → Outline → Step
-refusedStep n outline = record { answer = n; value = Nothing; loads = outline.loads; stores = outline.stores }
+abbrev pub refused_step : ℕ → Outline → Step
+refused_step n outline = record { answer = n; value = Nothing; loads = outline.loads; stores = outline.stores }
 
 -- a run of entries, with just as many numbers as a side has places
 abbrev pub Has64 : List ℕ → Type 0
@@ -49,34 +49,34 @@ Has64 l = length l ≡ 64
 
 -- ---- functions that do not read the table
 -- an outline, with a table
-abbrev pub frameWith : Table → Outline → Frame
-frameWith table outline = record { table = table; memory_length = outline.memory_length; loads = outline.loads; stores = outline.stores }
+abbrev pub frame_with : Table → Outline → Frame
+frame_with table outline = record { table = table; memory_length = outline.memory_length; loads = outline.loads; stores = outline.stores }
 
 -- the check is behind them: both runs are whole, and with some table the queue is sound
 pub record Checked (outline : Outline) (loads stores : List ℕ) : Type 0 where
   pub table : Table
-  pub right : sound (contentsOf (queueOf (frameWith table outline) loads stores)) ≡ true
+  pub right : sound (contents_of (queue_of (frame_with table outline) loads stores)) ≡ true
   pub loads-whole : Has64 loads
   pub stores-whole : Has64 stores
 
 -- ---- the record of an entry, made anew
-abbrev pub setAddress : ℕ → EntryStruct → EntryStruct
-setAddress a s = entryStruct s.port true a s.filled s.word s.finished s.before
+abbrev pub set_address : ℕ → EntryStruct → EntryStruct
+set_address a s = entry_struct s.port true a s.filled s.word s.finished s.before
 
-abbrev pub setWord : ℕ → EntryStruct → EntryStruct
-setWord w s = entryStruct s.port s.addressed s.address true w s.finished s.before
+abbrev pub set_word : ℕ → EntryStruct → EntryStruct
+set_word w s = entry_struct s.port s.addressed s.address true w s.finished s.before
 
-abbrev pub setFinished : EntryStruct → EntryStruct
-setFinished s = entryStruct s.port s.addressed s.address s.filled s.word true s.before
+abbrev pub set_finished : EntryStruct → EntryStruct
+set_finished s = entry_struct s.port s.addressed s.address s.filled s.word true s.before
 
-abbrev pub setBefore : ℕ → EntryStruct → EntryStruct
-setBefore n s = entryStruct s.port s.addressed s.address s.filled s.word s.finished n
+abbrev pub set_before : ℕ → EntryStruct → EntryStruct
+set_before n s = entry_struct s.port s.addressed s.address s.filled s.word s.finished n
 
 -- ---- one entry of a run of numbers
 -- the one at a place is made anew by `f`, and nothing else is changed
 pub record MadeAnew (f : Entry → Entry) (at : ℕ) (l left : List ℕ) : Type 0 where
   pub number : ℕ
-  pub holds : entryIn number ≡ f (entryIn (slice_index l at))
+  pub holds : entry_in number ≡ f (entry_in (slice_index l at))
   pub leaves : left ≡ slice_set l at number
 
 -- ---- what an entry may have, or be
@@ -86,42 +86,42 @@ has Filled e = is_some e.word
 has Finished e = e.finished
 
 -- an entry of the port, without the mark
-abbrev pub lacksMark : Mark → ℕ → Entry → Bool
-lacksMark mark = ofPortWithout (has mark)
+abbrev pub lacks_mark : Mark → ℕ → Entry → Bool
+lacks_mark mark = of_port_without (has mark)
 
 -- ---- activation by offsets
 -- Activation by offsets: what the functions that put a group's entries behind those held promise each other. In a right group
 -- an entry's offset is the number of the other kind before it in the group, so this is what the program order gives.
 
 -- the entry of a pair, where this many of the other kind are held
-abbrev pub entryAfter : ℕ → Pair → Entry
-entryAfter others p = newEntry p (others + p.offset)
+abbrev pub entry_after : ℕ → Pair → Entry
+entry_after others p = new_entry p (others + p.offset)
 
 -- `held` entries are held, there is place for the pairs, and what their entries hold has room in a number
 pub record PairsFit (held : ℕ) (places : List ℕ) (ps : Span) : Type 0 where
   pub inside : Inside ps
   pub few : ps.count ≤ 16
   pub room : held + ps.count ≤ 64
-  pub offsets : (i : ℕ) → i < ps.count → (slice_index_or (list_of places ps) i blankPair).offset ≤ 16
-  pub ports : (i : ℕ) → i < ps.count → (slice_index_or (list_of places ps) i blankPair).port < 32
+  pub offsets : (i : ℕ) → i < ps.count → (slice_index_or (list_of places ps) i blank_pair).offset ≤ 16
+  pub ports : (i : ℕ) → i < ps.count → (slice_index_or (list_of places ps) i blank_pair).port < 32
 
 -- the record of a pair's entry
-abbrev pub structAfter : ℕ → Pair → EntryStruct
-structAfter others p = entryStruct p.port false 0 false 0 false (others + p.offset)
+abbrev pub struct_after : ℕ → Pair → EntryStruct
+struct_after others p = entry_struct p.port false 0 false 0 false (others + p.offset)
 
 -- the pairs' entries stand behind those held
 pub record Appended (held : ℕ) (places : List ℕ) (ps : Span) (others : ℕ) (l left : List ℕ) : Type 0 where
-  pub holds : entriesHeld (held + ps.count) left ≡ entriesHeld held l ++ map (entryAfter others) (list_of places ps)
+  pub holds : entries_held (held + ps.count) left ≡ entries_held held l ++ map (entry_after others) (list_of places ps)
 
 -- a side with `more` entries behind those held
 abbrev pub longer : SideStruct → ℕ → SideStruct
 longer side more = record { depth = side.depth; count = side.count + more; next = after side.next more }
 
 -- a queue with a group's entries, by their offsets
-abbrev pub withPairs : Contents → GroupPairs → Contents
-withPairs q g =
-    withSides q (joined q.loads (map (entryAfter (length q.stores.entries)) g.loads))
-    (joined q.stores (map (entryAfter (length q.loads.entries)) g.stores))
+abbrev pub with_pairs : Contents → GroupPairs → Contents
+with_pairs q g =
+    with_sides q (joined q.loads (map (entry_after (length q.stores.entries)) g.loads))
+    (joined q.stores (map (entry_after (length q.loads.entries)) g.stores))
 
 -- ---- arguments
 -- Giving an argument to the port's oldest entry that lacks it, whichever its side.
@@ -131,108 +131,108 @@ mark_of LoadAddress = Addressed
 mark_of StoreAddress = Addressed
 mark_of StoreData = Filled
 
-abbrev pub setArgument : Argument → ℕ → EntryStruct → EntryStruct
-setArgument LoadAddress a s = setAddress a s
-setArgument StoreAddress a s = setAddress a s
-setArgument StoreData w s = setWord w s
+abbrev pub set_argument : Argument → ℕ → EntryStruct → EntryStruct
+set_argument LoadAddress a s = set_address a s
+set_argument StoreAddress a s = set_address a s
+set_argument StoreData w s = set_word w s
 
 -- the place of the entry that it goes to, or the count where none waits
-abbrev pub waitingAt : ℕ → ℕ → Argument → List ℕ → ℕ
-waitingAt n port argument l = firstPlace (lacksMark (mark_of argument) port) (entriesHeld n l)
+abbrev pub waiting_at : ℕ → ℕ → Argument → List ℕ → ℕ
+waiting_at n port argument l = first_place (lacks_mark (mark_of argument) port) (entries_held n l)
 
 -- what is left where some entry waits, and where none does
 abbrev pub GivenAt : Bool → Argument → ℕ → ℕ → List ℕ → List ℕ → Type 0
-GivenAt true argument x at l left = MadeAnew (withArgument argument x) at l left
+GivenAt true argument x at l left = MadeAnew (with_argument argument x) at l left
 GivenAt false argument x at l left = left ≡ l
 
 pub record Given (n port : ℕ) (argument : Argument) (x : ℕ) (l : List ℕ) (answer : ℕ) (left : List ℕ) : Type 0 where
-  pub answers : answer ≡ pick (nat_lt (waitingAt n port argument l) n) 0 noneWaits
-  pub leaves : GivenAt (nat_lt (waitingAt n port argument l) n) argument x (waitingAt n port argument l) l left
+  pub answers : answer ≡ pick (nat_lt (waiting_at n port argument l) n) 0 none_waits
+  pub leaves : GivenAt (nat_lt (waiting_at n port argument l) n) argument x (waiting_at n port argument l) l left
 
 -- ---- serving
 -- What the code that serves a load is written with, said by the definitions of Serve.
 
 -- the source that each case of the code's enum is
-abbrev pub sourceIn : coded.Source → Source
-sourceIn Unknown = unsettled
-sourceIn NoData = fromStore none
-sourceIn (Forwarded w) = fromStore (some w)
-sourceIn Memory = fromMemory
+abbrev pub source_in : coded.Source → Source
+source_in Unknown = unsettled
+source_in NoData = from_store none
+source_in (Forwarded w) = from_store (some w)
+source_in Memory = from_memory
 
 -- it is what a store to the load's address gives, whatever lies farther back
 abbrev pub Decides : Entry → coded.Source → Type 0
-Decides s found = (farther : Source) → sourceIn found ≡ decided same (written s) (data_of s) farther
+Decides s found = (farther : Source) → source_in found ≡ decided same (written s) (data_of s) farther
 
 -- what the load at a place gets
-abbrev pub mayServeAt : List ℕ → List ℕ → List ℕ → ℕ → Reply Loaded
-mayServeAt memory loads stores at = mayServe memory (entriesHeld (entryIn (slice_index loads at)).before stores) (entryIn (slice_index loads at))
+abbrev pub may_serve_at : List ℕ → List ℕ → List ℕ → ℕ → Reply Loaded
+may_serve_at memory loads stores at = may_serve memory (entries_held (entry_in (slice_index loads at)).before stores) (entry_in (slice_index loads at))
 
 -- a refused serve, and an accepted one
-abbrev pub serveRefused : ℕ → Counts → Service
-serveRefused n counts = record { answer = n; value = Nothing; counts = counts }
+abbrev pub serve_refused : ℕ → Counts → Service
+serve_refused n counts = record { answer = n; value = Nothing; counts = counts }
 
-abbrev pub servedAs : ℕ → Bool → Counts → Service
-servedAs word forwarded counts = record { answer = 0; value = Word word; counts = counted forwarded counts }
+abbrev pub served_as : ℕ → Bool → Counts → Service
+served_as word forwarded counts = record { answer = 0; value = Word word; counts = counted forwarded counts }
 
 -- ---- writing
 -- What the code that writes a store is written with.
 
 -- what writing the store at a place puts where
-abbrev pub mayWriteAt : List ℕ → List ℕ → ℕ → Reply WordPut
-mayWriteAt loads stores at =
-    may_write (entriesHeld (entryIn (slice_index stores at)).before loads) (entriesHeld at stores) (entryIn (slice_index stores at))
+abbrev pub may_write_at : List ℕ → List ℕ → ℕ → Reply WordPut
+may_write_at loads stores at =
+    may_write (entries_held (entry_in (slice_index stores at)).before loads) (entries_held at stores) (entry_in (slice_index stores at))
 
 -- ---- retiring
 -- What the code by which finished entries retire is written with.
 
 -- the `left` entries behind the first `gone` stand at the front, after `others` of the other kind have retired
 pub record Shifted (gone left others : ℕ) (l after : List ℕ) : Type 0 where
-  pub holds : entriesHeld left after ≡ map (afterRetiring others) (drop gone (entriesHeld (gone + left) l))
+  pub holds : entries_held left after ≡ map (after_retiring others) (drop gone (entries_held (gone + left) l))
 
 -- a side after `gone` of its entries have retired
 abbrev pub shorter : SideStruct → ℕ → SideStruct
 shorter side gone = record { depth = side.depth; count = side.count - gone; next = side.next }
 
 -- a frame with these sides
-abbrev pub frameWithSides : Frame → Sides → Frame
-frameWithSides frame sides = record { table = frame.table; memory_length = frame.memory_length; loads = sides.loads; stores = sides.stores }
+abbrev pub frame_with_sides : Frame → Sides → Frame
+frame_with_sides frame sides = record { table = frame.table; memory_length = frame.memory_length; loads = sides.loads; stores = sides.stores }
 
 -- ---- ready
 -- What the code that gathers ready serials is written with.
 
 -- would the load be served, with these stores before it; memory's words do not matter to this
-abbrev pub loadReady : List Entry → Entry → Bool
-loadReady stores l = accepted (mayServe [] stores l)
+abbrev pub load_ready : List Entry → Entry → Bool
+load_ready stores l = accepted (may_serve [] stores l)
 
 -- the load, or the store, at a place: would it be served, or written
-abbrev pub readyAt : Kind → List ℕ → List ℕ → ℕ → Bool
-readyAt load loads stores i = accepted (mayServeAt [] loads stores i)
-readyAt store loads stores i = accepted (mayWriteAt loads stores i)
+abbrev pub ready_at : Kind → List ℕ → List ℕ → ℕ → Bool
+ready_at load loads stores i = accepted (may_serve_at [] loads stores i)
+ready_at store loads stores i = accepted (may_write_at loads stores i)
 
 -- the place is within its own array, and as many of the other kind as the entry remembers are within theirs
 abbrev pub Reaches : List ℕ → List ℕ → ℕ → Type 0
-Reaches own others i = (i < length own) × ((entryIn (slice_index own i)).before ≤ length others)
+Reaches own others i = (i < length own) × ((entry_in (slice_index own i)).before ≤ length others)
 
 abbrev pub InReach : Kind → List ℕ → List ℕ → ℕ → Type 0
 InReach load loads stores i = Reaches loads stores i
 InReach store loads stores i = Reaches stores loads i
 
 -- serials in an array
-abbrev pub serialsListed : Serials → List ℕ
-serialsListed s = take s.count s.numbers
+abbrev pub serials_listed : Serials → List ℕ
+serials_listed s = take s.count s.numbers
 
 -- one more serial, where it is ready
 pub record Noted (s : Serials) (serial : ℕ) (ready : Bool) (r : Serials) : Type 0 where
   pub few : r.count ≤ s.count + 1
   pub long : length r.numbers ≡ length s.numbers
-  pub are : serialsListed r ≡ serialsListed s ++ pick ready (serial ∷ []) []
+  pub are : serials_listed r ≡ serials_listed s ++ pick ready (serial ∷ []) []
 
 pub record Lists (l : List ℕ) (r : Serials) : Type 0 where
   pub few : r.count ≤ 64
   pub size : r.count ≡ length l
-  pub are : serialsListed r ≡ l
+  pub are : serials_listed r ≡ l
 
 -- the serials stand at the front of a run that has room for them
 pub record HandedOut (s : Serials) (lent : List ℕ) (r : ReadyCount) (run : List ℕ) : Type 0 where
-  pub gives : r ≡ pick (nat_le s.count (length lent)) (record { answer = 0; count = s.count }) (record { answer = tooShort; count = 0 })
-  pub leaves : run ≡ pick (nat_le s.count (length lent)) (serialsListed s ++ drop s.count lent) lent
+  pub gives : r ≡ pick (nat_le s.count (length lent)) (record { answer = 0; count = s.count }) (record { answer = too_short; count = 0 })
+  pub leaves : run ≡ pick (nat_le s.count (length lent)) (serials_listed s ++ drop s.count lent) lent

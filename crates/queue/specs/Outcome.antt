@@ -12,16 +12,16 @@ use Rattle.queue.specs.declared.Outcome.{Outcome}
 use Rattle.queue.specs.declared.Opened.{Opened}
 use Rattle.queue.specs.declared.Counted.{Counted}
 use Rattle.number.specs.Reply.{Reply, refuse, accept}
-use Rattle.queue.specs.Contents.{Contents, contentsOf}
+use Rattle.queue.specs.Contents.{Contents, contents_of}
 use Rattle.queue.specs.Serve.{Served}
 use Rattle.queue.specs.Write.{Written}
 use Rattle.queue.specs.Take.{Taken}
 
 -- "When an answer is an enum, a definition gives this paper's number and values for each enum case": the value of each case of
 -- `Value`, or none.
-abbrev pub valueIn : Value → Option ℕ
-valueIn (Word w) = some w
-valueIn Nothing = none
+abbrev pub value_in : Value → Option ℕ
+value_in (Word w) = some w
+value_in Nothing = none
 
 -- what a call hands back in the paper's terms: its number, its value or none, and the queue that follows
 pub record Handed : Type 0 where
@@ -30,33 +30,33 @@ pub record Handed : Type 0 where
   pub queue : Queue
 
 abbrev pub handed : Outcome → Handed
-handed r = record { answer = r.answer; value = valueIn r.value; queue = r.queue }
+handed r = record { answer = r.answer; value = value_in r.value; queue = r.queue }
 
 -- this number, no value, and this very queue: what a refused call hands back, and every ready call
-abbrev pub noValue : ℕ → Queue → Handed
-noValue n q = record { answer = n; value = none; queue = q }
+abbrev pub no_value : ℕ → Queue → Handed
+no_value n q = record { answer = n; value = none; queue = q }
 
 -- an accepted call, which gives this value, or none, and a queue that holds this
 pub record Accepted (value : Option ℕ) (queue : Contents) (r : Outcome) : Type 0 where
   pub answer : r.answer ≡ 0
-  pub gives : valueIn r.value ≡ value
-  pub holds : contentsOf r.queue ≡ queue
+  pub gives : value_in r.value ≡ value
+  pub holds : contents_of r.queue ≡ queue
 
 -- a call that gives no value: activate and the three argument calls
 abbrev pub Moves : Queue → Reply Contents → Outcome → Type 0
-Moves q (refuse n) r = handed r ≡ noValue n q
+Moves q (refuse n) r = handed r ≡ no_value n q
 Moves q (accept next) r = Accepted none next r
 
 -- take
 abbrev pub Takes : Queue → Reply Taken → Outcome → Type 0
-Takes q (refuse n) r = handed r ≡ noValue n q
+Takes q (refuse n) r = handed r ≡ no_value n q
 Takes q (accept t) r = Accepted (some t.value) t.queue r
 
 -- serve, with the counts that were lent
 pub record ServedWell (s : Served) (c : Counts) (r : Counted) : Type 0 where
   pub answer : r.answer ≡ 0
-  pub gives : valueIn r.value ≡ some s.value
-  pub holds : contentsOf r.queue ≡ s.queue
+  pub gives : value_in r.value ≡ some s.value
+  pub holds : contents_of r.queue ≡ s.queue
   pub counts : r.counts ≡ counted s.forwarded c
 
 -- what a serve hands back in the same terms, with the counts that follow
@@ -64,28 +64,28 @@ pub record HandedCounts : Type 0 where
   pub outcome : Handed
   pub counts : Counts
 
-abbrev pub handedCounts : Counted → HandedCounts
-handedCounts r = record { outcome = record { answer = r.answer; value = valueIn r.value; queue = r.queue }; counts = r.counts }
+abbrev pub handed_counts : Counted → HandedCounts
+handed_counts r = record { outcome = record { answer = r.answer; value = value_in r.value; queue = r.queue }; counts = r.counts }
 
 abbrev pub Serves : Queue → Counts → Reply Served → Counted → Type 0
-Serves q c (refuse n) r = handedCounts r ≡ record { outcome = noValue n q; counts = c }
+Serves q c (refuse n) r = handed_counts r ≡ record { outcome = no_value n q; counts = c }
 Serves q c (accept s) r = ServedWell s c r
 
 -- what a serve hands back where the counts are lent by reference, beside the counts that it leaves
-abbrev pub withCounts : Outcome → Counts → Counted
-withCounts r counts = record { answer = r.answer; value = r.value; queue = r.queue; counts = counts }
+abbrev pub with_counts : Outcome → Counts → Counted
+with_counts r counts = record { answer = r.answer; value = r.value; queue = r.queue; counts = counts }
 
-abbrev pub withoutCounts : Counted → Outcome
-withoutCounts k = record { answer = k.answer; value = k.value; queue = k.queue }
+abbrev pub without_counts : Counted → Outcome
+without_counts k = record { answer = k.answer; value = k.value; queue = k.queue }
 
 -- write, with the memory as it was lent and as it is left
 pub record WrittenWell (w : Written) (r : Outcome) (memory : List ℕ) : Type 0 where
   pub outcome : Accepted none w.queue r
-  pub memory-is : memory ≡ w.memory
+  pub memory_is : memory ≡ w.memory
 
 pub record Unwritten (q : Queue) (n : ℕ) (lent : List ℕ) (r : Outcome) (memory : List ℕ) : Type 0 where
-  pub outcome : handed r ≡ noValue n q
-  pub memory-is : memory ≡ lent
+  pub outcome : handed r ≡ no_value n q
+  pub memory_is : memory ≡ lent
 
 abbrev pub Writes : Queue → List ℕ → Reply Written → Outcome → List ℕ → Type 0
 Writes q lent (refuse n) r memory = Unwritten q n lent r memory
@@ -94,4 +94,4 @@ Writes q lent (accept w) r memory = WrittenWell w r memory
 -- opening; a refused one hands back the queue of no table, which means nothing
 abbrev pub Opens : Queue → Reply Contents → Opened → Type 0
 Opens blank (refuse n) r = r ≡ record { answer = n; queue = blank }
-Opens blank (accept q) r = (r.answer ≡ 0) × (contentsOf r.queue ≡ q)
+Opens blank (accept q) r = (r.answer ≡ 0) × (contents_of r.queue ≡ q)

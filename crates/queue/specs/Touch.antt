@@ -15,12 +15,12 @@ touch a none = unknown
 touch a (some b) = pick (b == a) same apart
 
 -- is it known to have another address; has it this one
-abbrev pub isApart : Touch → Bool
-isApart apart = true
-isApart unknown = false
-isApart same = false
+abbrev pub is_apart : Touch → Bool
+is_apart apart = true
+is_apart unknown = false
+is_apart same = false
 
-abbrev pub isSame : Touch → Bool
-isSame apart = false
-isSame unknown = false
-isSame same = true
+abbrev pub is_same : Touch → Bool
+is_same apart = false
+is_same unknown = false
+is_same same = true

@@ -1,9 +1,9 @@
 // Activation: "gives the group's loads the next load serials and its stores the next store serials".
 ghost use Rattle.std.specs.Prelude.{◌≡◌, ◌+◌, ◌≤◌, ◌&&◌, nat_le};
-ghost use Rattle.queue.specs.Contents.{contentsOf};
+ghost use Rattle.queue.specs.Contents.{contents_of};
 ghost use Rattle.queue.specs.Activate.{activate};
 ghost use Rattle.queue.specs.Outcome.{Moves};
-ghost use Rattle.queue.specs.Parts.{frame_of, queueOf, outcomeOf, onParts};
+ghost use Rattle.queue.specs.Parts.{frame_of, queue_of, outcome_of, on_parts};
 ghost use Rattle.queue.specs.Internal.{Has64};
 ghost use Rattle.queue.specs.Internal.{PairsFit, Appended, longer};
 
@@ -83,10 +83,10 @@ pub fn activate_in<'a>(
     group: u32,
 ) -> Step
     ensures { let frame = frame_of outline groups.now load_places.now store_places.now in
-        Moves (queueOf frame load_entries.old store_entries.old)
-        (onParts load_entries.old store_entries.old
-        (activate (contentsOf (queueOf frame load_entries.old store_entries.old)) group))
-        (outcomeOf frame result load_entries.new store_entries.new) }
+        Moves (queue_of frame load_entries.old store_entries.old)
+        (on_parts load_entries.old store_entries.old
+        (activate (contents_of (queue_of frame load_entries.old store_entries.old)) group))
+        (outcome_of frame result load_entries.new store_entries.new) }
 {
     if !sound_in(
         outline,
@@ -132,7 +132,7 @@ pub fn activate_in<'a>(
 impl Queue {
     // Queues the group's accesses, with no argument yet.
     pub fn activate(self, group: u32) -> Outcome
-        ensures { Moves self (activate (contentsOf self) group) result }
+        ensures { Moves self (activate (contents_of self) group) result }
     {
         let frame = self.frame;
         let mut load_entries = self.load_entries;

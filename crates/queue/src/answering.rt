@@ -1,9 +1,9 @@
 // What the calls on a queue's parts are handed and hand back: they are handed the outline, and the table's arrays and both runs
 // of entries are lent to them. A frame handed over would be copied at every call, and most of its bytes are the arrays.
 ghost use Rattle.std.specs.Prelude.{◌≡◌};
-ghost use Rattle.queue.specs.Contents.{ofKind};
-ghost use Rattle.queue.specs.Parts.{outlineOf, frameAfter};
-ghost use Rattle.queue.specs.Internal.{refusedStep};
+ghost use Rattle.queue.specs.Contents.{of_kind};
+ghost use Rattle.queue.specs.Parts.{outline_of, frame_after};
+ghost use Rattle.queue.specs.Internal.{refused_step};
 
 use crate::{Frame, Kind, Outline, Side, Value};
 
@@ -26,7 +26,7 @@ pub struct Step {
 
 // A refused call gives back the very sides that it was handed.
 pub(crate) fn refused(answer: u8, outline: Outline) -> Step
-    ensures { result ≡ refusedStep answer outline }
+    ensures { result ≡ refused_step answer outline }
 {
     let loads = outline.loads;
     let stores = outline.stores;
@@ -52,7 +52,7 @@ pub(crate) fn accepted(value: Value, loads: Side, stores: Side) -> Step
 
 // A frame's outline.
 pub fn outline_of(frame: Frame) -> Outline
-    ensures { result ≡ outlineOf frame }
+    ensures { result ≡ outline_of frame }
 {
     let loads = frame.loads;
     let stores = frame.stores;
@@ -66,7 +66,7 @@ pub fn outline_of(frame: Frame) -> Outline
 
 // The side of a kind.
 pub(crate) fn side_of(kind: Kind, outline: Outline) -> Side
-    ensures { result ≡ ofKind kind outline.loads outline.stores }
+    ensures { result ≡ of_kind kind outline.loads outline.stores }
 {
     let loads = outline.loads;
     let stores = outline.stores;
@@ -78,7 +78,7 @@ pub(crate) fn side_of(kind: Kind, outline: Outline) -> Side
 
 // The frame that follows a call.
 pub(crate) fn frame_after(frame: Frame, step: Step) -> Frame
-    ensures { result ≡ frameAfter frame step }
+    ensures { result ≡ frame_after frame step }
 {
     let table = frame.table;
     let loads = step.loads;

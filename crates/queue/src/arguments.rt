@@ -1,10 +1,10 @@
 // Arguments: "an argument goes to its port's oldest entry that lacks it".
 ghost use Rattle.std.specs.Prelude.{◌≡◌, ◌≤◌, true, length};
-ghost use Rattle.queue.specs.Contents.{contentsOf};
-ghost use Rattle.queue.specs.Arguments.{kind_of, in_range, give, loadAddress, storeAddress, storeData};
+ghost use Rattle.queue.specs.Contents.{contents_of};
+ghost use Rattle.queue.specs.Arguments.{kind_of, in_range, give, load_address, store_address, store_data};
 ghost use Rattle.queue.specs.Outcome.{Moves};
-ghost use Rattle.queue.specs.Parts.{frame_of, queueOf, queueOfKind, answered, onParts};
-ghost use Rattle.queue.specs.Internal.{mark_of, setArgument, Given};
+ghost use Rattle.queue.specs.Parts.{frame_of, queue_of, queue_of_kind, answered, on_parts};
+ghost use Rattle.queue.specs.Internal.{mark_of, set_argument, Given};
 
 use crate::answering::{outline_of, side_of};
 use crate::entries::{Mark, oldest_without, pack, unpack, with_address, with_word};
@@ -57,7 +57,7 @@ fn in_range(argument: Argument, memory_length: u16, number: u32) -> bool
 // The entry with the argument.
 fn with_argument(entry: Entry, argument: Argument, number: u32) -> Entry
     requires { in_range argument 65536 number ≡ true }
-    ensures { result ≡ setArgument argument number entry }
+    ensures { result ≡ set_argument argument number entry }
 {
     match argument {
         Argument::LoadAddress => with_address(entry, number as u16),
@@ -96,9 +96,9 @@ pub fn give_in<'a>(
     number: u32,
 ) -> u8
     ensures { let frame = frame_of outline groups.now load_places.now store_places.now in
-        let q = queueOfKind (kind_of argument) frame own_entries.old other_entries.now in
-        Moves q (onParts q.load_entries q.store_entries (give argument (contentsOf q) port number))
-        (answered result (queueOfKind (kind_of argument) frame own_entries.new other_entries.now)) }
+        let q = queue_of_kind (kind_of argument) frame own_entries.old other_entries.now in
+        Moves q (on_parts q.load_entries q.store_entries (give argument (contents_of q) port number))
+        (answered result (queue_of_kind (kind_of argument) frame own_entries.new other_entries.now)) }
 {
     let kind = kind_of(argument);
     if !sound_of(
@@ -124,7 +124,7 @@ pub fn give_in<'a>(
 
 // What an argument call hands back.
 fn given(answer: u8, frame: Frame, load_entries: [u64; 64], store_entries: [u64; 64]) -> Outcome
-    ensures { result ≡ answered answer (queueOf frame load_entries store_entries) }
+    ensures { result ≡ answered answer (queue_of frame load_entries store_entries) }
 {
     let queue = Queue {
         frame,
@@ -140,7 +140,7 @@ fn given(answer: u8, frame: Frame, load_entries: [u64; 64], store_entries: [u64;
 
 // Gives an argument to the port's oldest entry of its kind that lacks it.
 fn give(queue: Queue, argument: Argument, port: u32, number: u32) -> Outcome
-    ensures { Moves queue (give argument (contentsOf queue) port number) result }
+    ensures { Moves queue (give argument (contents_of queue) port number) result }
 {
     let frame = queue.frame;
     let mut load_entries = queue.load_entries;
@@ -181,21 +181,21 @@ fn give(queue: Queue, argument: Argument, port: u32, number: u32) -> Outcome
 impl Queue {
     // Gives an address to the port's oldest load that has none.
     pub fn load_address(self, port: u32, address: u32) -> Outcome
-        ensures { Moves self (loadAddress (contentsOf self) port address) result }
+        ensures { Moves self (load_address (contents_of self) port address) result }
     {
         give(self, Argument::LoadAddress, port, address)
     }
 
     // Gives an address to the port's oldest store that has none.
     pub fn store_address(self, port: u32, address: u32) -> Outcome
-        ensures { Moves self (storeAddress (contentsOf self) port address) result }
+        ensures { Moves self (store_address (contents_of self) port address) result }
     {
         give(self, Argument::StoreAddress, port, address)
     }
 
     // Gives data to the port's oldest store that has none.
     pub fn store_data(self, port: u32, word: u32) -> Outcome
-        ensures { Moves self (storeData (contentsOf self) port word) result }
+        ensures { Moves self (store_data (contents_of self) port word) result }
     {
         give(self, Argument::StoreData, port, word)
     }

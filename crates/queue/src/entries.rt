@@ -1,8 +1,8 @@
 // Entries: the number that one is packed into, and the oldest that lacks something.
 ghost use Rattle.std.specs.Prelude.{◌≡◌, ◌≤◌, length};
 ghost use Rattle.queue.specs.Entry.{entry_of, bit, unpacked, number_of};
-ghost use Rattle.queue.specs.Contents.{entriesHeld, firstPlace};
-ghost use Rattle.queue.specs.Internal.{setAddress, setWord, has, lacksMark};
+ghost use Rattle.queue.specs.Contents.{entries_held, first_place};
+ghost use Rattle.queue.specs.Internal.{set_address, set_word, has, lacks_mark};
 
 use crate::Entry;
 
@@ -50,7 +50,7 @@ pub fn pack(entry: Entry) -> u64
 
 // The entry with an address.
 pub(crate) fn with_address(mut entry: Entry, address: u16) -> Entry
-    ensures { result ≡ setAddress address entry }
+    ensures { result ≡ set_address address entry }
 {
     entry.addressed = true;
     entry.address = address;
@@ -59,7 +59,7 @@ pub(crate) fn with_address(mut entry: Entry, address: u16) -> Entry
 
 // The entry with a word: the value of a served load, a store's data.
 pub(crate) fn with_word(mut entry: Entry, word: u32) -> Entry
-    ensures { result ≡ setWord word entry }
+    ensures { result ≡ set_word word entry }
 {
     entry.filled = true;
     entry.word = word;
@@ -79,7 +79,7 @@ pub(crate) fn has(entry: Entry, mark: Mark) -> bool
 
 // Is it an entry of the port, without the mark?
 fn lacks(entry: Entry, port: u32, mark: Mark) -> bool
-    ensures { result ≡ lacksMark mark port (entry_of entry) }
+    ensures { result ≡ lacks_mark mark port (entry_of entry) }
 {
     if entry.port as u32 != port {
         return false;
@@ -90,7 +90,7 @@ fn lacks(entry: Entry, port: u32, mark: Mark) -> bool
 // The place of the port's oldest entry without the mark, or the count where there is none.
 pub(crate) fn oldest_without(entries: &[u64], held: u8, port: u32, mark: Mark) -> usize
     requires { held ≤ length entries.now }
-    ensures { result ≡ firstPlace (lacksMark mark port) (entriesHeld held entries.now) }
+    ensures { result ≡ first_place (lacks_mark mark port) (entries_held held entries.now) }
 {
     let count = held as usize;
     let mut i: usize = 0;

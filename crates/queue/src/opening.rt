@@ -2,7 +2,7 @@
 ghost use Rattle.std.specs.Prelude.{◌≡◌, ◌≤◌, ◌&&◌, nat_le};
 ghost use Rattle.number.specs.Basics.{all_of};
 ghost use Rattle.table.specs.Table.{groups_of};
-ghost use Rattle.queue.specs.Open.{groupFits, openQueue, freshFrame, noFrame, noQueue};
+ghost use Rattle.queue.specs.Open.{group_fits, open_queue, fresh_frame, no_frame, no_queue};
 ghost use Rattle.queue.specs.Outcome.{Opens};
 ghost use Rattle.queue.specs.Parts.{OpensFrame};
 
@@ -29,7 +29,7 @@ fn fresh_frame(
     first: u32,
     memory_length: u16,
 ) -> Frame
-    ensures { result ≡ freshFrame table load_depth store_depth first memory_length }
+    ensures { result ≡ fresh_frame table load_depth store_depth first memory_length }
 {
     let loads = Side {
         depth: load_depth,
@@ -51,7 +51,7 @@ fn fresh_frame(
 
 // A refused opening has no frame to hand back: its frame means nothing.
 fn refused(answer: u8) -> OpenedFrame
-    ensures { result ≡ record { answer = answer; frame = noFrame } }
+    ensures { result ≡ record { answer = answer; frame = no_frame } }
 {
     let table = no_table();
     let frame = fresh_frame(table, 0, 0, 0, 0);
@@ -72,7 +72,7 @@ fn group_fits(group: Group, load_depth: u32, store_depth: u32) -> bool
 
 fn groups_fit(table: Table, load_depth: u32, store_depth: u32) -> bool
     requires { table.count ≤ 16 }
-    ensures { result ≡ all_of (groupFits load_depth store_depth) (groups_of table) }
+    ensures { result ≡ all_of (group_fits load_depth store_depth) (groups_of table) }
 {
     let count = table.count as usize;
     let mut i: usize = 0;
@@ -95,8 +95,8 @@ pub fn open_in(
     first: u32,
     memory_length: u32,
 ) -> OpenedFrame
-    ensures { OpensFrame (freshFrame table load_depth store_depth first memory_length)
-        (openQueue (groups_of table) load_depth store_depth first memory_length) result }
+    ensures { OpensFrame (fresh_frame table load_depth store_depth first memory_length)
+        (open_queue (groups_of table) load_depth store_depth first memory_length) result }
 {
     let fault = table_fault(table);
     if fault != 0 {
@@ -133,7 +133,7 @@ impl Queue {
         first: u32,
         memory_length: u32,
     ) -> Opened
-        ensures { Opens noQueue (openQueue (groups_of table) load_depth store_depth first memory_length) result }
+        ensures { Opens no_queue (open_queue (groups_of table) load_depth store_depth first memory_length) result }
     {
         let opened = open_in(table, load_depth, store_depth, first, memory_length);
         let frame = opened.frame;

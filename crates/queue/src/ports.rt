@@ -1,9 +1,9 @@
 // Which ports a table names: load ports and store ports are two separate series.
 ghost use Rattle.std.specs.Prelude.{◌≡◌, ◌≤◌};
 ghost use Rattle.number.specs.Basics.{any_of};
-ghost use Rattle.table.specs.Group.{list_of, pairsOf, Inside};
-ghost use Rattle.table.specs.Table.{groupsIn};
-ghost use Rattle.queue.specs.Arguments.{isPort, namesPort};
+ghost use Rattle.table.specs.Group.{list_of, pairs_of, Inside};
+ghost use Rattle.table.specs.Table.{groups_in};
+ghost use Rattle.queue.specs.Arguments.{is_port, names_port};
 
 use crate::Kind;
 use table::parts::{group_at, unpack_pair};
@@ -12,7 +12,7 @@ use table::{Group, Span};
 // Is the port one of these?
 fn names_port(places: &[u16; 32], pairs: Span, port: u32) -> bool
     requires { Inside pairs }
-    ensures { result ≡ any_of (isPort port) (list_of places.now pairs) }
+    ensures { result ≡ any_of (is_port port) (list_of places.now pairs) }
 {
     let first = pairs.first as usize;
     let count = pairs.count as usize;
@@ -36,7 +36,7 @@ fn group_names<'a>(
     port: u32,
 ) -> bool
     requires { Inside group.loads × Inside group.stores }
-    ensures { result ≡ namesPort kind port (pairsOf loads.now stores.now group) }
+    ensures { result ≡ names_port kind port (pairs_of loads.now stores.now group) }
 {
     let load_span = group.loads;
     let store_span = group.stores;
@@ -56,7 +56,7 @@ pub(crate) fn has_port<'a>(
     port: u32,
 ) -> bool
     requires { count ≤ 16 }
-    ensures { result ≡ any_of (namesPort kind port) (groupsIn count groups.now loads.now stores.now) }
+    ensures { result ≡ any_of (names_port kind port) (groups_in count groups.now loads.now stores.now) }
 {
     let many = count as usize;
     let mut i: usize = 0;

@@ -2,12 +2,12 @@
 ghost use Rattle.std.specs.Prelude.{◌≡◌, ◌<◌, ◌≤◌, true, ◌++◌, length, drop};
 ghost use Rattle.table.specs.declared.Table.{Table};
 ghost use Rattle.queue.specs.Entry.{entry_of};
-ghost use Rattle.queue.specs.Contents.{entriesHeld, contentsOf};
+ghost use Rattle.queue.specs.Contents.{entries_held, contents_of};
 ghost use Rattle.queue.specs.Sound.{sound};
-ghost use Rattle.queue.specs.Ready.{readySerials, ready, Readies, Fronts};
-ghost use Rattle.queue.specs.Parts.{frame_of, queueOf, onParts, readiedOf};
-ghost use Rattle.queue.specs.Internal.{frameWith, Checked};
-ghost use Rattle.queue.specs.Internal.{loadReady, InReach, readyAt, serialsListed, Noted, Lists, HandedOut};
+ghost use Rattle.queue.specs.Ready.{ready_serials, ready, Readies, Fronts};
+ghost use Rattle.queue.specs.Parts.{frame_of, queue_of, on_parts, readied_of};
+ghost use Rattle.queue.specs.Internal.{frame_with, Checked};
+ghost use Rattle.queue.specs.Internal.{load_ready, InReach, ready_at, serials_listed, Noted, Lists, HandedOut};
 
 use crate::answering::{outline_of, side_of};
 use crate::entries::unpack;
@@ -28,7 +28,7 @@ pub(crate) struct Serials {
 // Would the load be served now?
 fn load_ready(load: Entry, store_entries: &[u64]) -> bool
     requires { load.before ≤ length store_entries.now }
-    ensures { result ≡ loadReady (entriesHeld load.before store_entries.now) (entry_of load) }
+    ensures { result ≡ load_ready (entries_held load.before store_entries.now) (entry_of load) }
 {
     if load.filled {
         return false;
@@ -61,7 +61,7 @@ fn noted(mut serials: Serials, serial: u32, ready: bool) -> Serials
 // The serials at the front of the lent run; the rest keeps its contents.
 fn put_serials(serials: Serials, out: &mut [u32])
     requires { (serials.count ≤ 64) × (serials.count ≤ length out.old) }
-    ensures { out.new ≡ serialsListed serials ++ drop serials.count out.old }
+    ensures { out.new ≡ serials_listed serials ++ drop serials.count out.old }
 {
     let count = serials.count;
     let mut i: usize = 0;
@@ -75,7 +75,7 @@ fn put_serials(serials: Serials, out: &mut [u32])
 // Would the load, or the store, at this place be served, or written, now?
 fn ready_at(kind: Kind, load_entries: &[u64], store_entries: &[u64], i: usize) -> bool
     requires { InReach kind load_entries.now store_entries.now i }
-    ensures { result ≡ readyAt kind load_entries.now store_entries.now i }
+    ensures { result ≡ ready_at kind load_entries.now store_entries.now i }
 {
     match kind {
         Kind::Load => {
@@ -98,9 +98,9 @@ fn ready_serials(
     store_entries: &[u64],
 ) -> Serials
     requires { Checked outline load_entries.now store_entries.now }
-    ensures { (table : Table) → let frame = frameWith table outline in
-        sound (contentsOf (queueOf frame load_entries.now store_entries.now)) ≡ true →
-        Lists (readySerials kind (contentsOf (queueOf frame load_entries.now store_entries.now))) result }
+    ensures { (table : Table) → let frame = frame_with table outline in
+        sound (contents_of (queue_of frame load_entries.now store_entries.now)) ≡ true →
+        Lists (ready_serials kind (contents_of (queue_of frame load_entries.now store_entries.now))) result }
 {
     let side = side_of(kind, outline);
     let count = side.count as usize;
@@ -154,10 +154,10 @@ pub fn ready_in<'a>(
     out: &mut [u32],
 ) -> ReadyCount
     ensures { let frame = frame_of outline groups.now load_places.now store_places.now in
-        Readies (queueOf frame load_entries.now store_entries.now) out.old
-        (onParts load_entries.now store_entries.now
-        (ready kind (contentsOf (queueOf frame load_entries.now store_entries.now)) out.old))
-        (readiedOf result (queueOf frame load_entries.now store_entries.now)) out.new }
+        Readies (queue_of frame load_entries.now store_entries.now) out.old
+        (on_parts load_entries.now store_entries.now
+        (ready kind (contents_of (queue_of frame load_entries.now store_entries.now)) out.old))
+        (readied_of result (queue_of frame load_entries.now store_entries.now)) out.new }
 {
     if !sound_in(
         outline,
@@ -180,7 +180,7 @@ impl Queue {
     // Puts the serials of the loads that serve would now accept, or of the stores that write would, at the front of the lent run,
     // and says how many.
     pub fn ready_into(self, kind: Kind, out: &mut [u32]) -> Readied
-        ensures { Readies self out.old (ready kind (contentsOf self) out.old) result out.new }
+        ensures { Readies self out.old (ready kind (contents_of self) out.old) result out.new }
     {
         let frame = self.frame;
         let load_entries = self.load_entries;
@@ -206,7 +206,7 @@ impl Queue {
     // The same, and the front part is handed back. No contract can speak of the rest of the run once a part is handed out;
     // `ready_into` says that it keeps its contents.
     pub fn ready<'a>(self, kind: Kind, out: &'a mut [u32]) -> ReadySerials<'a>
-        ensures { Fronts self (ready kind (contentsOf self) out.old) result.answer result.serials.now result.queue
+        ensures { Fronts self (ready kind (contents_of self) out.old) result.answer result.serials.now result.queue
             × (result.serials.ref_ptr ≡ out.entry.ref_ptr) }
     {
         let readied = self.ready_into(kind, &mut *out);

@@ -2,11 +2,11 @@
 // its oldest end until an unfinished one is oldest".
 ghost use Rattle.std.specs.Prelude.{◌≡◌, ◌+◌, ◌-◌, ◌≤◌, length};
 ghost use Rattle.table.specs.declared.Table.{Table};
-ghost use Rattle.queue.specs.Contents.{entriesHeld, contentsOf};
+ghost use Rattle.queue.specs.Contents.{entries_held, contents_of};
 ghost use Rattle.queue.specs.Retire.{retiring, retire};
-ghost use Rattle.queue.specs.Parts.{queueOf};
-ghost use Rattle.queue.specs.Internal.{frameWith};
-ghost use Rattle.queue.specs.Internal.{Shifted, shorter, frameWithSides};
+ghost use Rattle.queue.specs.Parts.{queue_of};
+ghost use Rattle.queue.specs.Internal.{frame_with};
+ghost use Rattle.queue.specs.Internal.{Shifted, shorter, frame_with_sides};
 
 use crate::answering::Sides;
 use crate::entries::{pack, unpack};
@@ -15,7 +15,7 @@ use crate::{Outline, Side};
 // How many entries at the oldest end are finished, and so retire. A finished entry behind an unfinished one keeps its place.
 fn retiring(entries: &[u64], held: u8) -> u8
     requires { held ≤ length entries.now }
-    ensures { result ≡ retiring (entriesHeld held entries.now) }
+    ensures { result ≡ retiring (entries_held held entries.now) }
 {
     let mut i: u8 = 0;
     while i < held {
@@ -67,9 +67,9 @@ fn shorter(side: Side, gone: u8) -> Side
 // Finished entries retire; one that stays forgets those of the other kind that retired.
 pub(crate) fn retire(outline: Outline, load_entries: &mut [u64], store_entries: &mut [u64]) -> Sides
     requires { (outline.loads.count ≤ length load_entries.old) × (outline.stores.count ≤ length store_entries.old) }
-    ensures { (table : Table) → let frame = frameWith table outline in
-        contentsOf (queueOf (frameWithSides frame result) load_entries.new store_entries.new)
-        ≡ retire (contentsOf (queueOf frame load_entries.old store_entries.old)) }
+    ensures { (table : Table) → let frame = frame_with table outline in
+        contents_of (queue_of (frame_with_sides frame result) load_entries.new store_entries.new)
+        ≡ retire (contents_of (queue_of frame load_entries.old store_entries.old)) }
 {
     let loads = outline.loads;
     let stores = outline.stores;

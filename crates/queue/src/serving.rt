@@ -2,13 +2,13 @@
 // from. A load that a store supplies counts as forwarded.
 ghost use Rattle.std.specs.Prelude.{◌≡◌, ◌<◌, ◌≤◌, length};
 ghost use Rattle.table.specs.declared.Table.{Table};
-ghost use Rattle.queue.specs.Entry.{entry_of, withWord};
-ghost use Rattle.queue.specs.Contents.{entriesHeld, contentsOf};
-ghost use Rattle.queue.specs.Serve.{source, serveAt, serve};
-ghost use Rattle.queue.specs.Outcome.{Serves, withCounts};
-ghost use Rattle.queue.specs.Parts.{frame_of, queueOf, countedOf, onParts};
-ghost use Rattle.queue.specs.Internal.{frameWith, Checked};
-ghost use Rattle.queue.specs.Internal.{sourceIn, Decides, serveRefused, servedAs, MadeAnew};
+ghost use Rattle.queue.specs.Entry.{entry_of, with_word};
+ghost use Rattle.queue.specs.Contents.{entries_held, contents_of};
+ghost use Rattle.queue.specs.Serve.{source, serve_at, serve};
+ghost use Rattle.queue.specs.Outcome.{Serves, with_counts};
+ghost use Rattle.queue.specs.Parts.{frame_of, queue_of, counted_of, on_parts};
+ghost use Rattle.queue.specs.Internal.{frame_with, Checked};
+ghost use Rattle.queue.specs.Internal.{source_in, Decides, serve_refused, served_as, MadeAnew};
 
 use crate::answering::outline_of;
 use crate::entries::{pack, unpack, with_word};
@@ -51,7 +51,7 @@ fn from_store(store: Entry) -> Source
 // to the one that decides: an older store may have any address, or none yet.
 pub(crate) fn source_of(entries: &[u64], n: usize, address: u16) -> Source
     requires { n ≤ length entries.now }
-    ensures { sourceIn result ≡ source address (entriesHeld n entries.now) }
+    ensures { source_in result ≡ source address (entries_held n entries.now) }
 {
     let mut i = n;
     while 0 < i {
@@ -77,7 +77,7 @@ pub struct Service {
 
 // A refused serve: the counts stay as they are.
 fn serve_refused(answer: u8, counts: Counts) -> Service
-    ensures { result ≡ serveRefused answer counts }
+    ensures { result ≡ serve_refused answer counts }
 {
     Service {
         answer,
@@ -95,7 +95,7 @@ fn served(
     counts: Counts,
 ) -> Service
     requires { at < length load_entries.old }
-    ensures { (result ≡ servedAs word forwarded counts) × MadeAnew (withWord word) at load_entries.old load_entries.new }
+    ensures { (result ≡ served_as word forwarded counts) × MadeAnew (with_word word) at load_entries.old load_entries.new }
 {
     let load = unpack(load_entries[at]);
     let after = with_word(load, word);
@@ -117,10 +117,10 @@ fn serve_at(
     place: u32,
 ) -> Service
     requires { Checked outline load_entries.old store_entries.now × (length memory.now ≡ outline.memory_length) }
-    ensures { (table : Table) → let frame = frameWith table outline in
-        Serves (queueOf frame load_entries.old store_entries.now) counts
-        (serveAt (contentsOf (queueOf frame load_entries.old store_entries.now)) memory.now place)
-        (countedOf result (queueOf frame load_entries.new store_entries.now)) }
+    ensures { (table : Table) → let frame = frame_with table outline in
+        Serves (queue_of frame load_entries.old store_entries.now) counts
+        (serve_at (contents_of (queue_of frame load_entries.old store_entries.now)) memory.now place)
+        (counted_of result (queue_of frame load_entries.new store_entries.now)) }
 {
     let loads = outline.loads;
     if loads.count as u32 <= place {
@@ -161,10 +161,10 @@ pub fn serve_in<'a>(
     serial: u32,
 ) -> Service
     ensures { let frame = frame_of outline groups.now load_places.now store_places.now in
-        Serves (queueOf frame load_entries.old store_entries.now) counts
-        (onParts load_entries.old store_entries.now
-        (serve (contentsOf (queueOf frame load_entries.old store_entries.now)) memory.now serial))
-        (countedOf result (queueOf frame load_entries.new store_entries.now)) }
+        Serves (queue_of frame load_entries.old store_entries.now) counts
+        (on_parts load_entries.old store_entries.now
+        (serve (contents_of (queue_of frame load_entries.old store_entries.now)) memory.now serial))
+        (counted_of result (queue_of frame load_entries.new store_entries.now)) }
 {
     if !sound_in(
         outline,
@@ -187,7 +187,7 @@ pub fn serve_in<'a>(
 impl Queue {
     // Serve the load with this serial. The counts go in and come out by value.
     pub fn serve_counted(self, memory: &[u32], counts: Counts, serial: u32) -> Counted
-        ensures { Serves self counts (serve (contentsOf self) memory.now serial) result }
+        ensures { Serves self counts (serve (contents_of self) memory.now serial) result }
     {
         let frame = self.frame;
         let mut load_entries = self.load_entries;
@@ -221,7 +221,7 @@ impl Queue {
 
     // The same with the counts lent, and changed in place.
     pub fn serve(self, memory: &[u32], counts: &mut Counts, serial: u32) -> Outcome
-        ensures { Serves self counts.old (serve (contentsOf self) memory.now serial) (withCounts result counts.new) }
+        ensures { Serves self counts.old (serve (contents_of self) memory.now serial) (with_counts result counts.new) }
     {
         let lent = *counts;
         let counted = self.serve_counted(memory, lent, serial);

@@ -2,9 +2,9 @@
 ghost use Rattle.std.specs.Prelude.{◌≡◌, ◌≤◌, ◌&&◌, length, nat_le};
 ghost use Rattle.number.specs.Basics.{all_of};
 ghost use Rattle.queue.specs.Entry.{entry_of};
-ghost use Rattle.queue.specs.Contents.{entriesHeld, contentsOf};
-ghost use Rattle.queue.specs.Sound.{depthRight, memoryRight, entryRight, sound};
-ghost use Rattle.queue.specs.Parts.{frame_of, queueOf, queueOfKind, whole};
+ghost use Rattle.queue.specs.Contents.{entries_held, contents_of};
+ghost use Rattle.queue.specs.Sound.{depth_right, memory_right, entry_right, sound};
+ghost use Rattle.queue.specs.Parts.{frame_of, queue_of, queue_of_kind, whole};
 
 use crate::answering::outline_of;
 use crate::entries::unpack;
@@ -13,7 +13,7 @@ use table::check::fault_in;
 
 // A depth is 1 to 64.
 pub(crate) fn depth_right(depth: u32) -> bool
-    ensures { result ≡ depthRight depth }
+    ensures { result ≡ depth_right depth }
 {
     if depth < 1 {
         return false;
@@ -23,7 +23,7 @@ pub(crate) fn depth_right(depth: u32) -> bool
 
 // The memory length is 1 to 4,096.
 pub(crate) fn memory_right(memory_length: u32) -> bool
-    ensures { result ≡ memoryRight memory_length }
+    ensures { result ≡ memory_right memory_length }
 {
     if memory_length < 1 {
         return false;
@@ -33,7 +33,7 @@ pub(crate) fn memory_right(memory_length: u32) -> bool
 
 // An entry remembers no more of the other kind than are held, and its address, where filled in, is below the memory length.
 fn entry_right(entry: Entry, memory_length: u16, others: u8) -> bool
-    ensures { result ≡ entryRight memory_length others (entry_of entry) }
+    ensures { result ≡ entry_right memory_length others (entry_of entry) }
 {
     if others < entry.before {
         return false;
@@ -47,7 +47,7 @@ fn entry_right(entry: Entry, memory_length: u16, others: u8) -> bool
 // Is every entry held right?
 fn entries_right(entries: &[u64], held: u8, memory_length: u16, others: u8) -> bool
     requires { held ≤ length entries.now }
-    ensures { result ≡ all_of (entryRight memory_length others) (entriesHeld held entries.now) }
+    ensures { result ≡ all_of (entry_right memory_length others) (entries_held held entries.now) }
 {
     let count = held as usize;
     let mut i: usize = 0;
@@ -63,7 +63,7 @@ fn entries_right(entries: &[u64], held: u8, memory_length: u16, others: u8) -> b
 
 // A depth within its limits, and no more entries than it.
 fn side_right(side: Side) -> bool
-    ensures { result ≡ depthRight side.depth && nat_le side.count side.depth }
+    ensures { result ≡ depth_right side.depth && nat_le side.count side.depth }
 {
     if !depth_right(side.depth as u32) {
         return false;
@@ -83,7 +83,7 @@ pub fn sound_in<'a>(
 ) -> bool
     ensures { let frame = frame_of outline groups.now load_places.now store_places.now in
         result ≡ whole load_entries.now store_entries.now
-        && sound (contentsOf (queueOf frame load_entries.now store_entries.now)) }
+        && sound (contents_of (queue_of frame load_entries.now store_entries.now)) }
 {
     if load_entries.len() != 64 {
         return false;
@@ -133,8 +133,8 @@ pub(crate) fn sound_of<'a>(
     other_entries: &[u64],
 ) -> bool
     ensures { let frame = frame_of outline groups.now load_places.now store_places.now in
-        let q = queueOfKind kind frame own_entries.now other_entries.now in
-        result ≡ whole q.load_entries q.store_entries && sound (contentsOf q) }
+        let q = queue_of_kind kind frame own_entries.now other_entries.now in
+        result ≡ whole q.load_entries q.store_entries && sound (contents_of q) }
 {
     match kind {
         Kind::Load => sound_in(
@@ -159,7 +159,7 @@ pub(crate) fn sound_of<'a>(
 impl Queue {
     // Is the record one that no call refuses with 40?
     pub fn sound(self) -> bool
-        ensures { result ≡ sound (contentsOf self) }
+        ensures { result ≡ sound (contents_of self) }
     {
         let frame = self.frame;
         let load_entries = self.load_entries;

@@ -1,9 +1,9 @@
 // Taking values: "take gives the value of the port's oldest untaken load". Letting one port's results overtake each other
 // would misplace them.
-ghost use Rattle.queue.specs.Contents.{contentsOf};
-ghost use Rattle.queue.specs.Take.{takeRule};
+ghost use Rattle.queue.specs.Contents.{contents_of};
+ghost use Rattle.queue.specs.Take.{take_rule};
 ghost use Rattle.queue.specs.Outcome.{Takes};
-ghost use Rattle.queue.specs.Parts.{frame_of, queueOf, outcomeOf, onParts};
+ghost use Rattle.queue.specs.Parts.{frame_of, queue_of, outcome_of, on_parts};
 
 use crate::answering::{Step, accepted, frame_after, outline_of, refused};
 use crate::entries::{Mark, oldest_without, pack, unpack};
@@ -24,10 +24,10 @@ pub fn take_in<'a>(
     port: u32,
 ) -> Step
     ensures { let frame = frame_of outline groups.now load_places.now store_places.now in
-        Takes (queueOf frame load_entries.old store_entries.old)
-        (onParts load_entries.old store_entries.old
-        (takeRule (contentsOf (queueOf frame load_entries.old store_entries.old)) port))
-        (outcomeOf frame result load_entries.new store_entries.new) }
+        Takes (queue_of frame load_entries.old store_entries.old)
+        (on_parts load_entries.old store_entries.old
+        (take_rule (contents_of (queue_of frame load_entries.old store_entries.old)) port))
+        (outcome_of frame result load_entries.new store_entries.new) }
 {
     if !sound_in(
         outline,
@@ -70,7 +70,7 @@ pub fn take_in<'a>(
 impl Queue {
     // Take the value of the port's oldest untaken load.
     pub fn take(self, port: u32) -> Outcome
-        ensures { Takes self (takeRule (contentsOf self) port) result }
+        ensures { Takes self (take_rule (contents_of self) port) result }
     {
         let frame = self.frame;
         let mut load_entries = self.load_entries;

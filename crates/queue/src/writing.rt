@@ -2,14 +2,14 @@
 ghost use Rattle.std.specs.Prelude.{◌≡◌, ◌<◌, ◌≤◌, length, slice_index_or};
 ghost use Rattle.number.specs.Basics.{all_of};
 ghost use Rattle.table.specs.declared.Table.{Table};
-ghost use Rattle.queue.specs.Entry.{entry_of, entryIn};
-ghost use Rattle.queue.specs.Contents.{entriesHeld, contentsOf};
-ghost use Rattle.queue.specs.Write.{noConflict, writeAt, write};
+ghost use Rattle.queue.specs.Entry.{entry_of, entry_in};
+ghost use Rattle.queue.specs.Contents.{entries_held, contents_of};
+ghost use Rattle.queue.specs.Write.{no_conflict, write_at, write};
 ghost use Rattle.number.specs.Reply.{number};
 ghost use Rattle.queue.specs.Outcome.{Writes};
-ghost use Rattle.queue.specs.Parts.{frame_of, queueOf, outcomeOf, onParts};
-ghost use Rattle.queue.specs.Internal.{frameWith, Checked};
-ghost use Rattle.queue.specs.Internal.{has, mayWriteAt};
+ghost use Rattle.queue.specs.Parts.{frame_of, queue_of, outcome_of, on_parts};
+ghost use Rattle.queue.specs.Internal.{frame_with, Checked};
+ghost use Rattle.queue.specs.Internal.{has, may_write_at};
 
 use crate::answering::{Step, accepted, frame_after, outline_of, refused};
 use crate::entries::{Mark, has, pack, unpack};
@@ -25,7 +25,7 @@ use number::refusal::{
 // An entry that is done with the memory (a served load, a written store), or is known to be of another word, does not
 // conflict with a write to the address. Writing past an unserved load of the word would spoil that load.
 fn no_conflict(entry: Entry, done: Mark, address: u16) -> bool
-    ensures { result ≡ noConflict (has done) address (entry_of entry) }
+    ensures { result ≡ no_conflict (has done) address (entry_of entry) }
 {
     if has(entry, done) {
         return true;
@@ -39,7 +39,7 @@ fn no_conflict(entry: Entry, done: Mark, address: u16) -> bool
 // Does none of the first n entries conflict with a write to the address?
 fn none_conflict(entries: &[u64], n: usize, done: Mark, address: u16) -> bool
     requires { n ≤ length entries.now }
-    ensures { result ≡ all_of (noConflict (has done) address) (entriesHeld n entries.now) }
+    ensures { result ≡ all_of (no_conflict (has done) address) (entries_held n entries.now) }
 {
     let mut i: usize = 0;
     while i < n {
@@ -54,8 +54,8 @@ fn none_conflict(entries: &[u64], n: usize, done: Mark, address: u16) -> bool
 
 // Why the store at a place may not be written, or 0: 26, 27, 29, 31, 32.
 pub(crate) fn write_fault(load_entries: &[u64], store_entries: &[u64], at: usize) -> u8
-    requires { (at < length store_entries.now) × ((entryIn (slice_index_or store_entries.now at 0)).before ≤ length load_entries.now) }
-    ensures { result ≡ number (mayWriteAt load_entries.now store_entries.now at) }
+    requires { (at < length store_entries.now) × ((entry_in (slice_index_or store_entries.now at 0)).before ≤ length load_entries.now) }
+    ensures { result ≡ number (may_write_at load_entries.now store_entries.now at) }
 {
     let store = unpack(store_entries[at]);
     if store.finished {
@@ -90,10 +90,10 @@ fn write_at(
     place: u32,
 ) -> Step
     requires { Checked outline load_entries.old store_entries.old × (length memory.old ≡ outline.memory_length) }
-    ensures { (table : Table) → let frame = frameWith table outline in
-        Writes (queueOf frame load_entries.old store_entries.old) memory.old
-        (writeAt (contentsOf (queueOf frame load_entries.old store_entries.old)) memory.old place)
-        (outcomeOf frame result load_entries.new store_entries.new) memory.new }
+    ensures { (table : Table) → let frame = frame_with table outline in
+        Writes (queue_of frame load_entries.old store_entries.old) memory.old
+        (write_at (contents_of (queue_of frame load_entries.old store_entries.old)) memory.old place)
+        (outcome_of frame result load_entries.new store_entries.new) memory.new }
 {
     let stores = outline.stores;
     if stores.count as u32 <= place {
@@ -126,10 +126,10 @@ pub fn write_in<'a>(
     serial: u32,
 ) -> Step
     ensures { let frame = frame_of outline groups.now load_places.now store_places.now in
-        Writes (queueOf frame load_entries.old store_entries.old) memory.old
-        (onParts load_entries.old store_entries.old
-        (write (contentsOf (queueOf frame load_entries.old store_entries.old)) memory.old serial))
-        (outcomeOf frame result load_entries.new store_entries.new) memory.new }
+        Writes (queue_of frame load_entries.old store_entries.old) memory.old
+        (on_parts load_entries.old store_entries.old
+        (write (contents_of (queue_of frame load_entries.old store_entries.old)) memory.old serial))
+        (outcome_of frame result load_entries.new store_entries.new) memory.new }
 {
     if !sound_in(
         outline,
@@ -152,7 +152,7 @@ pub fn write_in<'a>(
 impl Queue {
     // Write the store with this serial: its data goes to memory, and finished entries retire.
     pub fn write(self, memory: &mut [u32], serial: u32) -> Outcome
-        ensures { Writes self memory.old (write (contentsOf self) memory.old serial) result memory.new }
+        ensures { Writes self memory.old (write (contents_of self) memory.old serial) result memory.new }
     {
         let frame = self.frame;
         let mut load_entries = self.load_entries;

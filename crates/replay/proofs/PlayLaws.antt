@@ -13,16 +13,16 @@ use Rattle.queue.specs.declared.Queue.{Queue}
 use Rattle.queue.specs.declared.Outcome.{Outcome}
 use Rattle.queue.specs.declared.Counted.{Counted}
 use Rattle.number.specs.Reply.{Reply, refuse, accept}
-use Rattle.queue.specs.Contents.{Contents, contentsOf}
+use Rattle.queue.specs.Contents.{Contents, contents_of}
 use Rattle.queue.specs.Activate.{activate}
 use Rattle.queue.specs.Arguments.{give}
 use Rattle.queue.specs.Serve.{Served, serve}
 use Rattle.queue.specs.Write.{Written, write}
-use Rattle.queue.specs.Take.{Taken, takeRule}
-use Rattle.queue.specs.Outcome.{Handed, handed, noValue, HandedCounts, valueIn, Moves, Takes, Serves, Writes, withCounts}
-use Rattle.queue.specs.Parts.{whole, onParts}
-use Rattle.sequential.specs.Answers.{Machine, Response, moveResponse, serveResponse, writeResponse, takeResponse, machine}
-use Rattle.replay.specs.Playing.{Playing, playing, step_of, countsAfter, afterServe}
+use Rattle.queue.specs.Take.{Taken, take_rule}
+use Rattle.queue.specs.Outcome.{Handed, handed, no_value, HandedCounts, value_in, Moves, Takes, Serves, Writes, with_counts}
+use Rattle.queue.specs.Parts.{whole, on_parts}
+use Rattle.sequential.specs.Answers.{Machine, Response, move_response, serve_response, write_response, take_response, machine}
+use Rattle.replay.specs.Playing.{Playing, playing, step_of, counts_after, after_serve}
 use Rattle.replay.specs.Internal.{Plays}
 
 abbrev made : Machine → Counts → Playing
@@ -30,11 +30,11 @@ made m c = record { machine = m; counts = c }
 
 module _ (q : Queue) (c : Counts) (m : List ℕ) (e : Event) where
   abbrev now : Playing
-  now = playing (contentsOf q) m c
+  now = playing (contents_of q) m c
 
   -- what a step gives, piece by piece
-  from_step : (s : Response) (r : Counted) (left : List ℕ) → step_of now e ≡ s → s.number ≡ r.answer → s.value ≡ valueIn r.value
-      → s.machine ≡ machine (contentsOf r.queue) left → countsAfter now e ≡ r.counts → Plays q c m e r left
+  from_step : (s : Response) (r : Counted) (left : List ℕ) → step_of now e ≡ s → s.number ≡ r.answer → s.value ≡ value_in r.value
+      → s.machine ≡ machine (contents_of r.queue) left → counts_after now e ≡ r.counts → Plays q c m e r left
   from_step s r left is number value next counts = record {
     answer = ap (λ (x : Response). x.number) is ∙ number;
     value = ap (λ (x : Response). x.value) is ∙ value;
@@ -42,36 +42,36 @@ module _ (q : Queue) (c : Counts) (m : List ℕ) (e : Event) where
   }
 
   -- a refused call plays nothing
-  refused-plays : {n : ℕ} (o : Outcome) (left : List ℕ) → step_of now e ≡ record { number = n; value = none; machine = machine (contentsOf q) m }
-      → handed o ≡ noValue n q → left ≡ m → countsAfter now e ≡ c → Plays q c m e (withCounts o c) left
+  refused-plays : {n : ℕ} (o : Outcome) (left : List ℕ) → step_of now e ≡ record { number = n; value = none; machine = machine (contents_of q) m }
+      → handed o ≡ no_value n q → left ≡ m → counts_after now e ≡ c → Plays q c m e (with_counts o c) left
   refused-plays o left is h same counts =
-      from_step _ (withCounts o c) left is (sym (ap (λ (x : Handed). x.answer) h)) (sym (ap (λ (x : Handed). x.value) h))
-      (ap₂ machine (sym (ap (λ (x : Handed). contentsOf x.queue) h)) (sym same)) counts
+      from_step _ (with_counts o c) left is (sym (ap (λ (x : Handed). x.answer) h)) (sym (ap (λ (x : Handed). x.value) h))
+      (ap₂ machine (sym (ap (λ (x : Handed). contents_of x.queue) h)) (sym same)) counts
 
-  moves-play : (rule : Reply Contents) (o : Outcome) → step_of now e ≡ moveResponse (machine (contentsOf q) m) rule → countsAfter now e ≡ c
-      → Moves q rule o → Plays q c m e (withCounts o c) m
+  moves-play : (rule : Reply Contents) (o : Outcome) → step_of now e ≡ move_response (machine (contents_of q) m) rule → counts_after now e ≡ c
+      → Moves q rule o → Plays q c m e (with_counts o c) m
   moves-play (refuse n) o is counts w = refused-plays o m is w refl counts
-  moves-play (accept next) o is counts w = from_step _ (withCounts o c) m is (sym w.answer) (sym w.gives)
+  moves-play (accept next) o is counts w = from_step _ (with_counts o c) m is (sym w.answer) (sym w.gives)
       (ap (λ (x : Contents). machine x m) (sym w.holds)) counts
 
-  takes-play : (rule : Reply Taken) (o : Outcome) → step_of now e ≡ takeResponse (machine (contentsOf q) m) rule → countsAfter now e ≡ c
-      → Takes q rule o → Plays q c m e (withCounts o c) m
+  takes-play : (rule : Reply Taken) (o : Outcome) → step_of now e ≡ take_response (machine (contents_of q) m) rule → counts_after now e ≡ c
+      → Takes q rule o → Plays q c m e (with_counts o c) m
   takes-play (refuse n) o is counts w = refused-plays o m is w refl counts
-  takes-play (accept t) o is counts w = from_step _ (withCounts o c) m is (sym w.answer) (sym w.gives)
+  takes-play (accept t) o is counts w = from_step _ (with_counts o c) m is (sym w.answer) (sym w.gives)
       (ap (λ (x : Contents). machine x m) (sym w.holds)) counts
 
-  writes-play : (rule : Reply Written) (o : Outcome) (left : List ℕ) → step_of now e ≡ writeResponse (machine (contentsOf q) m) rule
-      → countsAfter now e ≡ c → Writes q m rule o left → Plays q c m e (withCounts o c) left
-  writes-play (refuse n) o left is counts w = refused-plays o left is w.outcome w.memory-is counts
-  writes-play (accept t) o left is counts w = from_step _ (withCounts o c) left is (sym w.outcome.answer) (sym w.outcome.gives)
-      (ap₂ machine (sym w.outcome.holds) (sym w.memory-is)) counts
+  writes-play : (rule : Reply Written) (o : Outcome) (left : List ℕ) → step_of now e ≡ write_response (machine (contents_of q) m) rule
+      → counts_after now e ≡ c → Writes q m rule o left → Plays q c m e (with_counts o c) left
+  writes-play (refuse n) o left is counts w = refused-plays o left is w.outcome w.memory_is counts
+  writes-play (accept t) o left is counts w = from_step _ (with_counts o c) left is (sym w.outcome.answer) (sym w.outcome.gives)
+      (ap₂ machine (sym w.outcome.holds) (sym w.memory_is)) counts
 
-  serves-play : (rule : Reply Served) (r : Counted) → step_of now e ≡ serveResponse (machine (contentsOf q) m) rule
-      → countsAfter now e ≡ afterServe c rule → Serves q c rule r → Plays q c m e r m
+  serves-play : (rule : Reply Served) (r : Counted) → step_of now e ≡ serve_response (machine (contents_of q) m) rule
+      → counts_after now e ≡ after_serve c rule → Serves q c rule r → Plays q c m e r m
   serves-play (refuse n) r is counts w =
       let h = ap (λ (x : HandedCounts). x.outcome) w in
       from_step _ r m is (sym (ap (λ (x : Handed). x.answer) h)) (sym (ap (λ (x : Handed). x.value) h))
-      (sym (ap (λ (x : Handed). machine (contentsOf x.queue) m) h)) (counts ∙ sym (ap (λ (x : HandedCounts). x.counts) w))
+      (sym (ap (λ (x : Handed). machine (contents_of x.queue) m) h)) (counts ∙ sym (ap (λ (x : HandedCounts). x.counts) w))
   serves-play (accept s) r is counts w = from_step _ r m is (sym w.answer) (sym w.gives) (ap (λ (x : Contents). machine x m) (sym w.holds))
       (counts ∙ sym w.counts)
 
@@ -85,33 +85,33 @@ giving Argument.StoreData p w = StoreData p w
 module _ (q : Queue) (c : Counts) (m : List ℕ) (full : whole q.load_entries q.store_entries ≡ true) where
   -- a rule on the parts
   abbrev onRuns : {A : Type 0} → Reply A → Reply A
-  onRuns rule = onParts q.load_entries q.store_entries rule
+  onRuns rule = on_parts q.load_entries q.store_entries rule
 
-  pub play-activate : {e : Event} (g : ℕ) (o : Outcome) → e ≡ Activate g → Moves q (onRuns (activate (contentsOf q) g)) o
-      → Plays q c m e (withCounts o c) m
-  play-activate g o is w = rw is (moves-play q c m (Activate g) (activate (contentsOf q) g) o refl refl (rw full at w))
+  pub play-activate : {e : Event} (g : ℕ) (o : Outcome) → e ≡ Activate g → Moves q (onRuns (activate (contents_of q) g)) o
+      → Plays q c m e (with_counts o c) m
+  play-activate g o is w = rw is (moves-play q c m (Activate g) (activate (contents_of q) g) o refl refl (rw full at w))
 
   pub play-give : {e : Event} (argument : Argument) (p x : ℕ) (o : Outcome) → e ≡ giving argument p x
-      → Moves q (onRuns (give argument (contentsOf q) p x)) o → Plays q c m e (withCounts o c) m
+      → Moves q (onRuns (give argument (contents_of q) p x)) o → Plays q c m e (with_counts o c) m
   play-give argument p x o is w =
-      rw is (moves-play q c m (giving argument p x) (give argument (contentsOf q) p x) o (stepped argument) (uncounted argument) (rw full at w))
+      rw is (moves-play q c m (giving argument p x) (give argument (contents_of q) p x) o (stepped argument) (uncounted argument) (rw full at w))
     where
-      stepped : (a : Argument) → step_of (playing (contentsOf q) m c) (giving a p x) ≡ moveResponse (machine (contentsOf q) m) (give a (contentsOf q) p x)
+      stepped : (a : Argument) → step_of (playing (contents_of q) m c) (giving a p x) ≡ move_response (machine (contents_of q) m) (give a (contents_of q) p x)
       stepped Argument.LoadAddress = refl
       stepped Argument.StoreAddress = refl
       stepped Argument.StoreData = refl
 
-      uncounted : (a : Argument) → countsAfter (playing (contentsOf q) m c) (giving a p x) ≡ c
+      uncounted : (a : Argument) → counts_after (playing (contents_of q) m c) (giving a p x) ≡ c
       uncounted Argument.LoadAddress = refl
       uncounted Argument.StoreAddress = refl
       uncounted Argument.StoreData = refl
 
-  pub play-serve : {e : Event} (s : ℕ) (r : Counted) → e ≡ Serve s → Serves q c (onRuns (serve (contentsOf q) m s)) r → Plays q c m e r m
-  play-serve s r is w = rw is (serves-play q c m (Serve s) (serve (contentsOf q) m s) r refl refl (rw full at w))
+  pub play-serve : {e : Event} (s : ℕ) (r : Counted) → e ≡ Serve s → Serves q c (onRuns (serve (contents_of q) m s)) r → Plays q c m e r m
+  play-serve s r is w = rw is (serves-play q c m (Serve s) (serve (contents_of q) m s) r refl refl (rw full at w))
 
-  pub play-write : {e : Event} (s : ℕ) (o : Outcome) (left : List ℕ) → e ≡ Write s → Writes q m (onRuns (write (contentsOf q) m s)) o left
-      → Plays q c m e (withCounts o c) left
-  play-write s o left is w = rw is (writes-play q c m (Write s) (write (contentsOf q) m s) o left refl refl (rw full at w))
+  pub play-write : {e : Event} (s : ℕ) (o : Outcome) (left : List ℕ) → e ≡ Write s → Writes q m (onRuns (write (contents_of q) m s)) o left
+      → Plays q c m e (with_counts o c) left
+  play-write s o left is w = rw is (writes-play q c m (Write s) (write (contents_of q) m s) o left refl refl (rw full at w))
 
-  pub play-take : {e : Event} (p : ℕ) (o : Outcome) → e ≡ Take p → Takes q (onRuns (takeRule (contentsOf q) p)) o → Plays q c m e (withCounts o c) m
-  play-take p o is w = rw is (takes-play q c m (Take p) (takeRule (contentsOf q) p) o refl refl (rw full at w))
+  pub play-take : {e : Event} (p : ℕ) (o : Outcome) → e ≡ Take p → Takes q (onRuns (take_rule (contents_of q) p)) o → Plays q c m e (with_counts o c) m
+  play-take p o is w = rw is (takes-play q c m (Take p) (take_rule (contents_of q) p) o refl refl (rw full at w))

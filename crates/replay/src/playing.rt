@@ -1,9 +1,9 @@
 // Playing one event: a call on the queue's parts, whose answer and value are put into the buffers.
 ghost use Rattle.std.specs.Prelude.{◌≡◌, ◌<◌, length, true};
-ghost use Rattle.queue.specs.Outcome.{valueIn};
-ghost use Rattle.queue.specs.Parts.{frame_of, queueOf, whole};
-ghost use Rattle.replay.specs.Playing.{givenIn, word_in};
-ghost use Rattle.replay.specs.Internal.{Plays, playedOf, PutAnswer};
+ghost use Rattle.queue.specs.Outcome.{value_in};
+ghost use Rattle.queue.specs.Parts.{frame_of, queue_of, whole};
+ghost use Rattle.replay.specs.Playing.{given_in, word_in};
+ghost use Rattle.replay.specs.Internal.{Plays, played_of, PutAnswer};
 
 use counts::Counts;
 use queue::activation::activate_in;
@@ -70,8 +70,8 @@ pub(crate) fn play_event<'a>(
 ) -> Played
     requires { whole loads.old stores.old ≡ true }
     ensures { let frame = frame_of outline groups.now load_places.now store_places.now in
-        Plays (queueOf frame loads.old stores.old) counts memory.old event
-        (playedOf frame result loads.new stores.new) memory.new }
+        Plays (queue_of frame loads.old stores.old) counts memory.old event
+        (played_of frame result loads.new stores.new) memory.new }
 {
     match event {
         Event::Activate { group } => stepped(
@@ -174,7 +174,7 @@ pub(crate) fn play_event<'a>(
 
 // 1 where there is a value, else 0.
 pub fn value_given(value: Value) -> u8
-    ensures { result ≡ givenIn (valueIn value) }
+    ensures { result ≡ given_in (value_in value) }
 {
     match value {
         Value::Word(_) => 1,
@@ -184,7 +184,7 @@ pub fn value_given(value: Value) -> u8
 
 // The value, or 0 where there is none.
 pub fn value_word(value: Value) -> u32
-    ensures { result ≡ word_in (valueIn value) }
+    ensures { result ≡ word_in (value_in value) }
 {
     match value {
         Value::Word(word) => word,

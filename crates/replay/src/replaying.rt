@@ -1,12 +1,12 @@
 // Replaying a whole trace.
 ghost use Rattle.std.specs.Prelude.{◌≡◌, ◌&&◌, leb};
 ghost use Rattle.table.specs.Table.{groups_of};
-ghost use Rattle.queue.specs.Contents.{contentsOf};
-ghost use Rattle.replay.specs.Events.{eventsFrom};
+ghost use Rattle.queue.specs.Contents.{contents_of};
+ghost use Rattle.replay.specs.Events.{events_from};
 ghost use Rattle.replay.specs.Playing.{playing};
-ghost use Rattle.replay.specs.Replay.{replayFrom, replay};
+ghost use Rattle.replay.specs.Replay.{replay_from, replay};
 ghost use Rattle.replay.specs.Outcome.{ReplayedWell, Replays};
-ghost use Rattle.replay.specs.Internal.{Playable, eventsIn, through};
+ghost use Rattle.replay.specs.Internal.{Playable, events_in, through};
 
 use crate::counting::count_events;
 use crate::playing::{play_event, put};
@@ -54,7 +54,7 @@ fn play_all(
     values: &mut [u32],
 ) -> Replayed
     requires { Playable trace.now from (record { answers = answers.now; given = given.old; values = values.old }) }
-    ensures { ReplayedWell (through (playing (contentsOf queue) memory.old counts) (eventsIn (eventsFrom trace.now from)))
+    ensures { ReplayedWell (through (playing (contents_of queue) memory.old counts) (events_in (events_from trace.now from)))
         (record { answers = answers.entry.now; given = given.old; values = values.old }) result memory.new
         (record { answers = answers.exit.now; given = given.new; values = values.new }) }
 {
@@ -120,7 +120,7 @@ pub fn replay_from(
 ) -> Replayed
     ensures { Replays memory.old counts
         (record { answers = answers.entry.now; given = given.old; values = values.old })
-        (replayFrom (contentsOf queue) (eventsFrom trace.now at) memory.old counts
+        (replay_from (contents_of queue) (events_from trace.now at) memory.old counts
         (record { answers = answers.entry.now; given = given.old; values = values.old }))
         result memory.new (record { answers = answers.exit.now; given = given.new; values = values.new }) }
 {

@@ -12,15 +12,15 @@ until byte [] = 0
 until byte (b ∷ s) = pick (eqb b byte) 0 (suc (until byte s))
 
 -- the place of the first such byte from a place on, or the end
-abbrev pub nextByte : List ℕ → ℕ → ℕ → ℕ
-nextByte text from byte = from + until byte (drop from text)
+abbrev pub next_byte : List ℕ → ℕ → ℕ → ℕ
+next_byte text from byte = from + until byte (drop from text)
 
 -- that place, which lies within the text where the first does
 pub record NextByte (text : List ℕ) (from byte r : ℕ) : Type 0 where
-  pub is : r ≡ nextByte text from byte
+  pub is : r ≡ next_byte text from byte
   pub after : from ≤ r
   pub within : r ≤ length text + (from - length text)
 
 -- a line that begins with a number sign, or has nothing, is no command
-abbrev pub isText : List ℕ → Bool
-isText line = pick (eqb (length line) 0) true (eqb (get_or line 0 0) 35)
+abbrev pub is_text : List ℕ → Bool
+is_text line = pick (eqb (length line) 0) true (eqb (get_or line 0 0) 35)

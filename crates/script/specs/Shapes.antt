@@ -15,11 +15,11 @@ abbrev pub fits_of : ℕ → Bool → ℕ → Bool
 fits_of letter given value = pick given (pick (eqb letter 46) false (leb value (most_of letter))) (pick (eqb letter 111) true (eqb letter 46))
 
 -- so many places from the ith on, of the eight whose letters begin at a place
-unfoldable pub fitFrom : List ℕ → ℕ → Numbers → ℕ → ℕ → Bool
-fitFrom shapes base r i zero = true
-fitFrom shapes base r i (suc left) =
-    pick (fits_of (get_or shapes (base + i) 0) (ltb i r.count) (get_or r.values i 0)) (fitFrom shapes base r (i + 1) left) false
+unfoldable pub fit_from : List ℕ → ℕ → Numbers → ℕ → ℕ → Bool
+fit_from shapes base r i zero = true
+fit_from shapes base r i (suc left) =
+    pick (fits_of (get_or shapes (base + i) 0) (ltb i r.count) (get_or r.values i 0)) (fit_from shapes base r (i + 1) left) false
 
 -- eight letters for each command say what numbers it takes
 abbrev pub taken : List ℕ → ℕ → Numbers → Bool
-taken shapes command r = pick r.right (pick (ltb command (length shapes / 8)) (fitFrom shapes (command * 8) r 0 8) false) false
+taken shapes command r = pick r.right (pick (ltb command (length shapes / 8)) (fit_from shapes (command * 8) r 0 8) false) false

@@ -1,10 +1,10 @@
 // The parts of a line of a script: where a part ends, decimal numbers, bytes in hexadecimal. What the programs of cases share.
 ghost use Rattle.std.specs.Prelude.{◌≡◌, ◌<◌, ◌+◌, true, false};
 ghost use Rattle.script.specs.Shapes.{most_of, fits_of, taken};
-ghost use Rattle.script.specs.Lines.{NextByte, isText};
-ghost use Rattle.script.specs.Names.{lookOn, lookEnd, lookStep, lookLast, namePlace};
-ghost use Rattle.script.specs.Decimal.{withDigit, wrongNumbers, spaced, digited, numberStep, numbersEnd, numbersFrom};
-ghost use Rattle.script.specs.Hexadecimal.{hexadecimal, wrongBytes, firstDigit, secondDigit, byteBegun, byteStep, bytesEnd, bytesFrom};
+ghost use Rattle.script.specs.Lines.{NextByte, is_text};
+ghost use Rattle.script.specs.Names.{look_on, look_end, look_step, look_last, name_place};
+ghost use Rattle.script.specs.Decimal.{with_digit, wrong_numbers, spaced, digited, number_step, numbers_end, numbers_from};
+ghost use Rattle.script.specs.Hexadecimal.{hexadecimal, wrong_bytes, first_digit, second_digit, byte_begun, byte_step, bytes_end, bytes_from};
 
 // The numbers of a line, as many as `count`, each with one space before it; one of 18446744073709551610 or more
 // counts as 18446744073709551615. `right` says that there was nothing else. `bare` has a meaning while the line
@@ -39,7 +39,7 @@ pub struct Looking {
 
 // Is it a heading or an empty line?
 pub fn is_text(line: &[u8]) -> bool
-    ensures { result ≡ isText line.now }
+    ensures { result ≡ is_text line.now }
 {
     if line.len() == 0 {
         return true;
@@ -62,7 +62,7 @@ pub fn next_byte(text: &[u8], from: usize, byte: u8) -> usize
 }
 
 fn with_digit(value: u64, digit: u8) -> u64
-    ensures { result ≡ withDigit value digit }
+    ensures { result ≡ with_digit value digit }
 {
     if value < 1844674407370955161 {
         return value * 10 + (digit % 10) as u64;
@@ -71,7 +71,7 @@ fn with_digit(value: u64, digit: u8) -> u64
 }
 
 fn wrong_numbers(mut found: Numbers) -> Numbers
-    ensures { result ≡ wrongNumbers found }
+    ensures { result ≡ wrong_numbers found }
 {
     found.right = false;
     found.bare = false;
@@ -108,7 +108,7 @@ fn digit(mut found: Numbers, digit: u8) -> Numbers
 }
 
 fn number_step(found: Numbers, byte: u8) -> Numbers
-    ensures { result ≡ numberStep found byte }
+    ensures { result ≡ number_step found byte }
 {
     if byte == b' ' {
         return space(found);
@@ -123,7 +123,7 @@ fn number_step(found: Numbers, byte: u8) -> Numbers
 }
 
 fn end_numbers(found: Numbers) -> Numbers
-    ensures { result ≡ numbersEnd found }
+    ensures { result ≡ numbers_end found }
 {
     if found.bare {
         return wrong_numbers(found);
@@ -133,7 +133,7 @@ fn end_numbers(found: Numbers) -> Numbers
 
 // The numbers of a line from a place on.
 pub fn numbers_of(line: &[u8], from: usize) -> Numbers
-    ensures { result ≡ numbersFrom line.now from }
+    ensures { result ≡ numbers_from line.now from }
 {
     let mut found = Numbers {
         right: true,
@@ -169,7 +169,7 @@ fn hexadecimal(byte: u8) -> u8
 }
 
 fn wrong_bytes(mut found: Bytes) -> Bytes
-    ensures { result ≡ wrongBytes found }
+    ensures { result ≡ wrong_bytes found }
 {
     found.right = false;
     found.phase = 0;
@@ -178,7 +178,7 @@ fn wrong_bytes(mut found: Bytes) -> Bytes
 }
 
 fn begin_byte(mut found: Bytes, byte: u8) -> Bytes
-    ensures { result ≡ byteBegun found byte }
+    ensures { result ≡ byte_begun found byte }
 {
     if byte == b' ' {
         found.phase = 1;
@@ -189,7 +189,7 @@ fn begin_byte(mut found: Bytes, byte: u8) -> Bytes
 }
 
 fn first_digit(mut found: Bytes, digit: u8) -> Bytes
-    ensures { result ≡ firstDigit found digit }
+    ensures { result ≡ first_digit found digit }
 {
     if digit < 16 {
         found.phase = 2;
@@ -200,7 +200,7 @@ fn first_digit(mut found: Bytes, digit: u8) -> Bytes
 }
 
 fn second_digit(mut found: Bytes, digit: u8) -> Bytes
-    ensures { result ≡ secondDigit found digit }
+    ensures { result ≡ second_digit found digit }
 {
     if 15 < digit {
         return wrong_bytes(found);
@@ -217,7 +217,7 @@ fn second_digit(mut found: Bytes, digit: u8) -> Bytes
 }
 
 fn byte_step(found: Bytes, byte: u8) -> Bytes
-    ensures { result ≡ byteStep found byte }
+    ensures { result ≡ byte_step found byte }
 {
     if found.phase == 0 {
         return begin_byte(found, byte);
@@ -229,7 +229,7 @@ fn byte_step(found: Bytes, byte: u8) -> Bytes
 }
 
 fn end_bytes(found: Bytes) -> Bytes
-    ensures { result ≡ bytesEnd found }
+    ensures { result ≡ bytes_end found }
 {
     if found.phase == 0 {
         return found;
@@ -239,7 +239,7 @@ fn end_bytes(found: Bytes) -> Bytes
 
 // The bytes of a line from a place on.
 pub fn bytes_of(line: &[u8], from: usize) -> Bytes
-    ensures { result ≡ bytesFrom line.now from }
+    ensures { result ≡ bytes_from line.now from }
 {
     let mut found = Bytes {
         right: true,
@@ -257,7 +257,7 @@ pub fn bytes_of(line: &[u8], from: usize) -> Bytes
 }
 
 fn look_on(mut looking: Looking, word: &[u8], byte: u8) -> Looking
-    ensures { result ≡ lookOn word.now looking byte }
+    ensures { result ≡ look_on word.now looking byte }
 {
     let at = looking.at;
     looking.found = false;
@@ -287,7 +287,7 @@ fn next_name(looking: Looking) -> Looking
 
 fn look_end(looking: Looking, word: &[u8]) -> Looking
     requires { looking.number < 18446744073709551615 }
-    ensures { result ≡ lookEnd word.now looking }
+    ensures { result ≡ look_end word.now looking }
 {
     if looking.alike {
         if looking.at == word.len() {
@@ -305,7 +305,7 @@ fn look_end(looking: Looking, word: &[u8]) -> Looking
 
 fn look_step(looking: Looking, word: &[u8], byte: u8) -> Looking
     requires { looking.number < 18446744073709551615 }
-    ensures { result ≡ lookStep word.now looking byte }
+    ensures { result ≡ look_step word.now looking byte }
 {
     if looking.found {
         return looking;
@@ -318,7 +318,7 @@ fn look_step(looking: Looking, word: &[u8], byte: u8) -> Looking
 
 fn look_last(looking: Looking, word: &[u8]) -> Looking
     requires { looking.number < 18446744073709551615 }
-    ensures { result ≡ lookLast word.now looking }
+    ensures { result ≡ look_last word.now looking }
 {
     if looking.found {
         return looking;
@@ -328,7 +328,7 @@ fn look_last(looking: Looking, word: &[u8]) -> Looking
 
 // The place of a word among names with a space between; their number where it is none of them.
 pub fn place(names: &[u8], word: &[u8]) -> usize
-    ensures { result ≡ namePlace names.now word.now }
+    ensures { result ≡ name_place names.now word.now }
 {
     let mut looking = Looking {
         found: false,

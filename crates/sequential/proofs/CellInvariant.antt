@@ -7,8 +7,8 @@ use mathlib.Core.Option.{Option, none, some}
 use Rattle.number.specs.Basics.{pick, is_some}
 use Rattle.table.specs.RightTables.{Each}
 use Rattle.sequential.proofs.EachLaws.{Pairs}
-use Rattle.sequential.proofs.Cells.{Stage, waiting, begun, ended, isBegun, isEnded, Seen, load, store, loadPassed, storePassed}
-use Rattle.queue.specs.Touch.{Touch, apart, unknown, same, isSame}
+use Rattle.sequential.proofs.Cells.{Stage, waiting, begun, ended, is_begun, is_ended, Seen, load, store, loadPassed, storePassed}
+use Rattle.queue.specs.Touch.{Touch, apart, unknown, same, is_same}
 
 -- may an access, once complete, touch the cell (true), or leave it alone (false)
 abbrev pub may : Touch → Bool → Type 0
@@ -62,10 +62,10 @@ module _ {B : Type 0} where
   -- a store to the cell that has begun or is written; a load begun that will read the cell from memory
   abbrev pub writes : Seen B → Bool
   writes (load t g o) = false
-  writes (store t g o) = isSame t && (isBegun g || isEnded g)
+  writes (store t g o) = is_same t && (is_begun g || is_ended g)
 
   abbrev pub readsMemory : Seen B → Bool
-  readsMemory (load t g o) = isSame t && (isBegun g && not (is_some o))
+  readsMemory (load t g o) = is_same t && (is_begun g && not (is_some o))
   readsMemory (store t g o) = false
 
   -- an earlier entry that 31 and 32 let a store pass

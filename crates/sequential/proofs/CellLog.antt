@@ -11,17 +11,17 @@ use Rattle.number.specs.Basics.{pick, all_of}
 use Rattle.table.specs.Group.{Access, load as aLoad, store as aStore}
 use Rattle.queue.specs.Entry.{served, written}
 use Rattle.queue.specs.Touch.{apart, same, touch}
-use Rattle.queue.specs.Serve.{Source as Word, unsettled as unsettledWord, fromStore, fromMemory, source as wordSource}
-use Rattle.queue.specs.Write.{noConflict}
+use Rattle.queue.specs.Serve.{Source as Word, unsettled as unsettledWord, from_store, from_memory, source as wordSource}
+use Rattle.queue.specs.Write.{no_conflict}
 use Rattle.queue.proofs.Lists.{false-true}
-use Rattle.queue.proofs.SourceLaws.{wordFrom}
-use Rattle.sequential.proofs.Log.{LogEntry, loads, stores, ownIn, fresh}
-use Rattle.sequential.proofs.Lanes.{lanes, lane_of, cell_at, at-put}
+use Rattle.queue.proofs.SourceLaws.{word_from}
+use Rattle.sequential.proofs.Log.{LogEntry, loads, stores, own_in, fresh}
+use Rattle.sequential.proofs.Lanes.{lanes, lane_of, cell_at, at_put}
 use Rattle.sequential.proofs.Cells.{waiting, ended, Seen, load, store, in_memory, source}
 use Rattle.sequential.proofs.CellInvariant.{CellInvariant}
 use Rattle.sequential.proofs.CellMoves.{Moves, load-aside, store-aside, moves-keep, Fresh, fresh-load, fresh-store, fresh_keeps}
 use Rattle.sequential.proofs.AtOnce.{served-from-store, served-from-memory, written-at-once}
-use Rattle.sequential.proofs.Views.{view, sourceIn, source-view, conflicts-view}
+use Rattle.sequential.proofs.Views.{view, source_in, source-view, conflicts_view}
 
 -- m is the present memory, `memory` the opening one
 abbrev pub CellsHold : List ℕ → List ℕ → List LogEntry → Type 0
@@ -36,11 +36,11 @@ fresh-view : (b j : ℕ) (a : Access) → Fresh (view b j (fresh a))
 fresh-view b j (aLoad p) = fresh-load
 fresh-view b j (aStore p) = fresh-store
 
-pub cells-added : (m memory : List ℕ) (log : List LogEntry) (new : List Access) → CellsHold m memory log → CellsHold m memory (log ++ map fresh new)
-cells-added m memory log [] h = rw (append-nil log) h
-cells-added m memory log (a ∷ new) h =
+pub cells_added : (m memory : List ℕ) (log : List LogEntry) (new : List Access) → CellsHold m memory log → CellsHold m memory (log ++ map fresh new)
+cells_added m memory log [] h = rw (append-nil log) h
+cells_added m memory log (a ∷ new) h =
     rw (append_assoc log (fresh a ∷ []) (map fresh new)) at
-    (cells-added m memory (log ++ fresh a ∷ []) new
+    (cells_added m memory (log ++ fresh a ∷ []) new
     (λ b j low lane. rw (map-append (view b j) log (fresh a ∷ []))
     (fresh_keeps (view b j (fresh a)) (fresh-view b j a) (map (view b j) log) (cell_at m b j) (cell_at memory b j) (h b j low lane))))
 
@@ -69,20 +69,20 @@ module _ (m memory : List ℕ) (pre : List LogEntry) (e e' : LogEntry) (post : L
   -- A load of the address a is served the word that its source gives.
   pub cells-served : (a v : ℕ) → ((b j : ℕ) → view b j e ≡ load (touch b (some a)) waiting none)
       → ((b j : ℕ) → view b j e' ≡ load (touch b (some a)) ended (some (lane_of v j)))
-      → wordFrom (get_or m a 0) (wordSource a (ownIn stores pre)) ≡ some v
+      → word_from (get_or m a 0) (wordSource a (own_in stores pre)) ≡ some v
       → CellsHold m memory (pre ++ e ∷ post) → CellsHold m memory (pre ++ e' ∷ post)
   cells-served a v was is word h =
       cells-change m (λ b j low lane k. rw (is b j) (go b j (eqb a b) refl (rw (was b j) at k))) h
     where
-      from : (j : ℕ) (x : Word) → source in_memory (map (view a j) pre) ≡ sourceIn j x → wordFrom (get_or m a 0) x ≡ some v
+      from : (j : ℕ) (x : Word) → source in_memory (map (view a j) pre) ≡ source_in j x → word_from (get_or m a 0) x ≡ some v
           → (n : ℕ) (ps : List (Seen ℕ)) → CellInvariant (cell_at m a j) n (map (view a j) pre ++ load same waiting none ∷ ps)
           → CellInvariant (cell_at m a j) n (map (view a j) pre ++ load same ended (some (lane_of v j)) ∷ ps)
       from j unsettledWord s w n ps k = let z : false ≡ true = cc in false-true z
-      from j (fromStore none) s w n ps k = let z : false ≡ true = cc in false-true z
-      from j (fromStore (some x)) s w n ps k =
+      from j (from_store none) s w n ps k = let z : false ≡ true = cc in false-true z
+      from j (from_store (some x)) s w n ps k =
           let same_word : x ≡ v = cc in
           rw (← same_word) (served-from-store (cell_at m a j) n (map (view a j) pre) ps none (lane_of x j) s k)
-      from j fromMemory s w n ps k =
+      from j from_memory s w n ps k =
           let same_word : get_or m a 0 ≡ v = cc in
           rw (← same_word) (served-from-memory (cell_at m a j) n (map (view a j) pre) ps none s k)
 
@@ -92,16 +92,16 @@ module _ (m memory : List ℕ) (pre : List LogEntry) (e e' : LogEntry) (post : L
       go b j true here k =
           let at_a = eqb-true a b here in
           rw (← at_a)
-          (from j (wordSource a (ownIn stores pre)) (source-view a j pre) word (cell_at memory a j) (map (view a j) post) (rw (← at_a) at k))
+          (from j (wordSource a (own_in stores pre)) (source-view a j pre) word (cell_at memory a j) (map (view a j) post) (rw (← at_a) at k))
       go b j false here k = moves-keep (cell_at m b j) (cell_at memory b j) (map (view b j) pre) (map (view b j) post) load-aside k
 
   -- A store of w to the address a is written, where nothing before it conflicts.
   pub cells-written : (a w : ℕ) → length m ≡ length memory → ((b j : ℕ) → view b j e ≡ store (touch b (some a)) waiting (some (lane_of w j)))
       → ((b j : ℕ) → view b j e' ≡ store (touch b (some a)) ended (some (lane_of w j)))
-      → all_of (noConflict served a) (ownIn loads pre) ≡ true → all_of (noConflict written a) (ownIn stores pre) ≡ true
+      → all_of (no_conflict served a) (own_in loads pre) ≡ true → all_of (no_conflict written a) (own_in stores pre) ≡ true
       → CellsHold m memory (pre ++ e ∷ post) → CellsHold (set m a w) memory (pre ++ e' ∷ post)
   cells-written a w long was is no-load no_store h =
-      cells-change (set m a w) (λ b j low lane k. rw (is b j, at-put m a w b j (rw long low)) (go b j (eqb a b) refl (rw (was b j) at k))) h
+      cells-change (set m a w) (λ b j low lane k. rw (is b j, at_put m a w b j (rw long low)) (go b j (eqb a b) refl (rw (was b j) at k))) h
     where
       go : (b j : ℕ) (t : Bool) → eqb a b ≡ t
           → CellInvariant (cell_at m b j) (cell_at memory b j) (map (view b j) pre ++ store (pick t same apart) waiting (some (lane_of w j)) ∷ map (view b j) post)
@@ -109,5 +109,5 @@ module _ (m memory : List ℕ) (pre : List LogEntry) (e e' : LogEntry) (post : L
           (map (view b j) pre ++ store (pick t same apart) ended (some (lane_of w j)) ∷ map (view b j) post)
       go b j true here k =
           written-at-once (cell_at m b j) (cell_at memory b j) (map (view b j) pre) (map (view b j) post) (lane_of w j)
-          (rw (eqb-true a b here) at (conflicts-view a j pre no-load no_store)) k
+          (rw (eqb-true a b here) at (conflicts_view a j pre no-load no_store)) k
       go b j false here k = moves-keep (cell_at m b j) (cell_at memory b j) (map (view b j) pre) (map (view b j) post) store-aside k

@@ -8,9 +8,9 @@ use Rattle.number.proofs.Both.{and_left}
 use Rattle.table.specs.RightTables.{Each}
 use Rattle.queue.proofs.Lists.{false-true}
 use Rattle.sequential.proofs.EachLaws.{Pairs, each_both}
-use Rattle.sequential.proofs.Cells.{Stage, waiting, begun, ended, isBegun, isEnded, Seen, load, store, CellSource, supplied, in_memory, after}
+use Rattle.sequential.proofs.Cells.{Stage, waiting, begun, ended, is_begun, is_ended, Seen, load, store, CellSource, supplied, in_memory, after}
 use Rattle.sequential.proofs.Cells.{source, storePassed}
-use Rattle.queue.specs.Touch.{Touch, apart, unknown, same, isApart, isSame}
+use Rattle.queue.specs.Touch.{Touch, apart, unknown, same, is_apart, is_same}
 use Rattle.sequential.proofs.CellInvariant.{may, or_else, fits, does, Agree, RightLoad, Right, writes, passed, Before}
 
 module _ {B : Type 0} where
@@ -23,7 +23,7 @@ module _ {B : Type 0} where
   Holding v m (store t g o ∷ es) = (b : Bool) → may t b → (w : B) → fits o w → Holding v (does g b w m) es
 
   -- a store that is written or apart does nothing to virtual memory
-  pub does-passed : (t : Touch) (g : Stage) → isApart t || isEnded g ≡ true → (b : Bool) → may t b → (w m : B) → does g b w m ≡ m
+  pub does-passed : (t : Touch) (g : Stage) → is_apart t || is_ended g ≡ true → (b : Bool) → may t b → (w m : B) → does g b w m ≡ m
   does-passed apart waiting h b p w m = rw p
   does-passed apart begun h b p w m = rw p
   does-passed apart ended h b p w m = refl
@@ -68,16 +68,16 @@ module _ {B : Type 0} where
   memory-clear P k [] h f r e = (h e, record {})
   memory-clear P k (load t g o ∷ pre) h f r e = let (p, rest) = memory-clear P k pre h f.1 r.1 e in (p, (refl, rest))
   memory-clear P k (store t g o ∷ pre) h f r e =
-      let (both, rest) = memory-clear (P × (isApart t || isEnded g ≡ true)) (after t g o k) pre (next t g f.0) later r.1 e in
+      let (both, rest) = memory-clear (P × (is_apart t || is_ended g ≡ true)) (after t g o k) pre (next t g f.0) later r.1 e in
       (both.0, (both.1, rest))
     where
-      later : Each (λ x. writes x ≡ true → P × (isApart t || isEnded g ≡ true)) pre
+      later : Each (λ x. writes x ≡ true → P × (is_apart t || is_ended g ≡ true)) pre
       later =
-          each_both (λ x. writes x ≡ true → P) (Before (store t g o)) (λ x. writes x ≡ true → P × (isApart t || isEnded g ≡ true))
+          each_both (λ x. writes x ≡ true → P) (Before (store t g o)) (λ x. writes x ≡ true → P × (is_apart t || is_ended g ≡ true))
           (λ x p b w. (p w, b.ordered w)) pre f.1 r.0
 
-      next : (t : Touch) (g : Stage) → (isSame t && (isBegun g || isEnded g) ≡ true → P) → after t g o k ≡ in_memory
-          → P × (isApart t || isEnded g ≡ true)
+      next : (t : Touch) (g : Stage) → (is_same t && (is_begun g || is_ended g) ≡ true → P) → after t g o k ≡ in_memory
+          → P × (is_apart t || is_ended g ≡ true)
       next apart g p f = (h f, refl)
       next unknown g p f = let z : false ≡ true = cc in false-true z
       next same waiting p f = let z : false ≡ true = cc in false-true z
@@ -100,7 +100,7 @@ module _ {B : Type 0} where
   agree-got t g g' v post (store t₁ g₁ o ∷ pre) m n k h = λ b p w q. agree-got t g g' v post pre (does g₁ b w m) (pick b w n) (k b p w q) (h b p w q)
 
   -- a load that has passed does not read memory any more
-  reads-passed : (t : Touch) (g : Stage) (o : Option B) → isApart t || isEnded g ≡ true → RightLoad t g o → may t true
+  reads-passed : (t : Touch) (g : Stage) (o : Option B) → is_apart t || is_ended g ≡ true → RightLoad t g o → may t true
       → (m m' : B) → or_else o m ≡ or_else o m'
   reads-passed apart g o h r p m m' = let z : false ≡ true = sym p in false-true z
   reads-passed unknown g o h r p m m' = false-true (rw r.0 at h)
@@ -114,7 +114,7 @@ module _ {B : Type 0} where
       → Agree m n (pre ++ store same begun (some w) ∷ post) → Agree w n (pre ++ store same ended (some w) ∷ post)
   agree-write w post [] m n s r h = λ b p x q. rw (p, ← q) (h true refl w refl)
   agree-write w post (load t g o ∷ pre) m n s r h = (
-    λ p. reads-passed t g o (and_left (isApart t || isEnded g) true s.0) r.0 p w m ∙ h.0 p,
+    λ p. reads-passed t g o (and_left (is_apart t || is_ended g) true s.0) r.0 p w m ∙ h.0 p,
     agree-write w post pre m n s.1 r.1 h.1,
   )
   agree-write w post (store t g o ∷ pre) m n s r h = λ b p x q.

@@ -8,21 +8,21 @@ use Rattle.table.specs.RightTables.{Each}
 use Rattle.queue.proofs.Lists.{false-true}
 use Rattle.sequential.proofs.EachLaws.{everywhere, each_weaken, each-before, each_at, each-change, each_more, pairs-prefix, pairs-before}
 use Rattle.sequential.proofs.EachLaws.{pairs-change, pairs-more}
-use Rattle.sequential.proofs.Cells.{Stage, waiting, begun, ended, isWaiting, isBegun, Seen, load, store, supplied, in_memory, source}
+use Rattle.sequential.proofs.Cells.{Stage, waiting, begun, ended, is_waiting, is_begun, Seen, load, store, supplied, in_memory, source}
 use Rattle.sequential.proofs.Cells.{storePassed}
-use Rattle.queue.specs.Touch.{Touch, apart, unknown, same, isSame}
+use Rattle.queue.specs.Touch.{Touch, apart, unknown, same, is_same}
 use Rattle.sequential.proofs.CellInvariant.{or_else, fits, does, Agree, RightLoad, RightStore, Right, writes, readsMemory, passed, Before}
 use Rattle.sequential.proofs.CellInvariant.{CellInvariant}
 use Rattle.sequential.proofs.CellMemory.{does-passed, passed-holds, supplied-holds, memory-clear, agree-change, agree-got, agree-write}
 
-and-false : (a : Bool) → a && false ≡ false
-and-false true = refl
-and-false false = refl
+and_false : (a : Bool) → a && false ≡ false
+and_false true = refl
+and_false false = refl
 
-right-store : (t : Touch) → RightStore t waiting
-right-store apart = record {}
-right-store unknown = refl
-right-store same = record {}
+right_store_lem : (t : Touch) → RightStore t waiting
+right_store_lem apart = record {}
+right_store_lem unknown = refl
+right_store_lem same = record {}
 
 module _ {B : Type 0} where
   -- What a move of one entry is to a cell, m its value in memory and pre the entries before: the entry before and after, and
@@ -33,7 +33,7 @@ module _ {B : Type 0} where
     load-address : {t : Touch} {g : Stage} {o : Option B} → Moves m pre (load unknown g o) (load t g o) m
     store-address : {t : Touch} {g : Stage} {o : Option B} → Moves m pre (store unknown g o) (store t g o) m
     store_word : {t : Touch} {g : Stage} {w : B} → Moves m pre (store t g none) (store t g (some w)) m
-    load-forwarded : {g : Stage} {o : Option B} {w : B} → source in_memory pre ≡ supplied (some w) → isWaiting g ≡ false
+    load-forwarded : {g : Stage} {o : Option B} {w : B} → source in_memory pre ≡ supplied (some w) → is_waiting g ≡ false
         → Moves m pre (load same waiting o) (load same g (some w)) m
     load-begun : {o : Option B} → source in_memory pre ≡ in_memory → Moves m pre (load same waiting o) (load same begun none) m
     load-ended : {o : Option B} → Moves m pre (load same begun o) (load same ended (some (or_else o m))) m
@@ -113,7 +113,7 @@ module _ {B : Type 0} where
         go h =
             anew-idle pre post (load unknown waiting none) (load t waiting none) h
             (agree-change (load unknown waiting none) (load t waiting none) post (λ m n k. (λ p. k.0 (record {}), k.1)) pre m n h.agree)
-            (λ r. right-load t none refl) (record { all-passed = λ p. false-true p; store-passed = λ p. refl }) refl (and-false (isSame t))
+            (λ r. right-load t none refl) (record { all-passed = λ p. false-true p; store-passed = λ p. refl }) refl (and_false (is_same t))
 
     kept-store-address : (t : Touch) (g : Stage) (o : Option B)
         → CellInvariant m n (pre ++ store unknown g o ∷ post) → CellInvariant m n (pre ++ store t g o ∷ post)
@@ -125,7 +125,7 @@ module _ {B : Type 0} where
         go h =
             anew-idle pre post (store unknown waiting o) (store t waiting o) h
             (agree-change (store unknown waiting o) (store t waiting o) post (λ m n k b p w q. k b (record {}) w q) pre m n h.agree)
-            (λ r. right-store t) (record { all-passed = λ p. false-true p; store-passed = λ p. false-true p }) (and-false (isSame t)) refl
+            (λ r. right_store_lem t) (record { all-passed = λ p. false-true p; store-passed = λ p. false-true p }) (and_false (is_same t)) refl
 
     kept-store-word : (t : Touch) (g : Stage) (w : B) → CellInvariant m n (pre ++ store t g none ∷ post)
         → CellInvariant m n (pre ++ store t g (some w) ∷ post)
@@ -135,15 +135,15 @@ module _ {B : Type 0} where
         (λ r. r) (record { all-passed = λ p. p; store-passed = λ p. p })
         (everywhere (λ a. Before a (store t g none) → Before a (store t g (some w))) (λ a b. record { ordered = b.ordered; clear = b.clear }) pre)
 
-    kept-load-forwarded : (g : Stage) (o : Option B) (w : B) → source in_memory pre ≡ supplied (some w) → isWaiting g ≡ false
+    kept-load-forwarded : (g : Stage) (o : Option B) (w : B) → source in_memory pre ≡ supplied (some w) → is_waiting g ≡ false
         → CellInvariant m n (pre ++ load same waiting o ∷ post) → CellInvariant m n (pre ++ load same g (some w) ∷ post)
     kept-load-forwarded g o w s started h =
         anew-idle pre post (load same waiting o) (load same g (some w)) h
         (agree-got same waiting g w post pre m n (supplied-holds w in_memory m pre (λ e. cc) s)
         (rw (each_at Right pre post (load same waiting o) h.right) at h.agree))
-        (λ r. right g started) (record { all-passed = λ p. false-true p; store-passed = λ p. refl }) refl (and-false (isBegun g))
+        (λ r. right g started) (record { all-passed = λ p. false-true p; store-passed = λ p. refl }) refl (and_false (is_begun g))
       where
-        right : (g : Stage) → isWaiting g ≡ false → RightLoad same g (some w)
+        right : (g : Stage) → is_waiting g ≡ false → RightLoad same g (some w)
         right waiting p = false-true (sym p)
         right begun p = record {}
         right ended p = refl
@@ -219,11 +219,11 @@ module _ {B : Type 0} where
 
   right-fresh : {e : Seen B} → Fresh e → Right e
   right-fresh (fresh-load {t}) = right-load t none refl
-  right-fresh (fresh-store {t}) = right-store t
+  right-fresh (fresh-store {t}) = right_store_lem t
 
   before-fresh : {e : Seen B} → Fresh e → (a : Seen B) → Before a e
-  before-fresh (fresh-load {t}) a = idle (load t waiting none) refl (and-false (isSame t)) a
-  before-fresh (fresh-store {t}) a = idle (store t waiting none) (and-false (isSame t)) refl a
+  before-fresh (fresh-load {t}) a = idle (load t waiting none) refl (and_false (is_same t)) a
+  before-fresh (fresh-store {t}) a = idle (store t waiting none) (and_false (is_same t)) refl a
 
   agree_fresh : {e : Seen B} → Fresh e → (m : B) → Agree m m (e ∷ [])
   agree_fresh fresh-load m = (λ p. refl, refl)

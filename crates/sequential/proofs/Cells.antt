@@ -3,7 +3,7 @@
 use mathlib.Core.Bool.{Bool, true, false, ◌||◌}
 use mathlib.Core.List.{List, [], ◌∷◌}
 use mathlib.Core.Option.{Option}
-use Rattle.queue.specs.Touch.{Touch, apart, unknown, same, isApart}
+use Rattle.queue.specs.Touch.{Touch, apart, unknown, same, is_apart}
 
 -- An access waits, is begun, and has ended: a load is then served, a store written. Today none stays begun.
 pub data Stage : Type 0 where
@@ -11,20 +11,20 @@ pub data Stage : Type 0 where
   begun : Stage
   ended : Stage
 
-abbrev pub isWaiting : Stage → Bool
-isWaiting waiting = true
-isWaiting begun = false
-isWaiting ended = false
+abbrev pub is_waiting : Stage → Bool
+is_waiting waiting = true
+is_waiting begun = false
+is_waiting ended = false
 
-abbrev pub isBegun : Stage → Bool
-isBegun waiting = false
-isBegun begun = true
-isBegun ended = false
+abbrev pub is_begun : Stage → Bool
+is_begun waiting = false
+is_begun begun = true
+is_begun ended = false
 
-abbrev pub isEnded : Stage → Bool
-isEnded waiting = false
-isEnded begun = false
-isEnded ended = true
+abbrev pub is_ended : Stage → Bool
+is_ended waiting = false
+is_ended begun = false
+is_ended ended = true
 
 -- whether the cell is concerned, the stage, and a value: what a load has got, what a store puts
 pub data Seen (B : Type 0) : Type 0 where
@@ -55,9 +55,9 @@ module _ {B : Type 0} where
 
   -- an earlier load, an earlier store, that does not stand in a store's way: 31 and 32 for one cell
   abbrev pub loadPassed : Seen B → Bool
-  loadPassed (load t g o) = isApart t || isEnded g
+  loadPassed (load t g o) = is_apart t || is_ended g
   loadPassed (store t g o) = true
 
   abbrev pub storePassed : Seen B → Bool
   storePassed (load t g o) = true
-  storePassed (store t g o) = isApart t || isEnded g
+  storePassed (store t g o) = is_apart t || is_ended g

@@ -1,5 +1,5 @@
 -- Words, lanes and memories. A cell is one lane of one address; today a word has one lane, which is the word itself. What a lane is
--- stands in this file alone: everything else goes by its laws, of which `at-put` says which cells a store changes.
+-- stands in this file alone: everything else goes by its laws, of which `at_put` says which cells a store changes.
 use Prim.Native.Nat.{ℕ, ◌<◌}
 use native.Mathlib.Omega.{arith}
 use mathlib.Core.Path.{◌≡◌, refl, sym}
@@ -28,8 +28,8 @@ unfolding lanes lane_of
 lanes_word w v h = h 0 (omega arith)
 
 -- the cells of a memory with a word put into it
-pub at-put : (m : List ℕ) (a w b j : ℕ) → b < length m → cell_at (set m a w) b j ≡ pick (eqb a b) (lane_of w j) (cell_at m b j)
-at-put m a w b j low = go (eqb a b) refl
+pub at_put : (m : List ℕ) (a w b j : ℕ) → b < length m → cell_at (set m a w) b j ≡ pick (eqb a b) (lane_of w j) (cell_at m b j)
+at_put m a w b j low = go (eqb a b) refl
   where
     go : (t : Bool) → eqb a b ≡ t → cell_at (set m a w) b j ≡ pick t (lane_of w j) (cell_at m b j)
     go true e = rw (eqb-true a b e, get_or-set_same m b w 0 low)

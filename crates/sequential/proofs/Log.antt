@@ -16,26 +16,26 @@ use Rattle.table.specs.Packed.{pair}
 use Rattle.table.specs.Group.{Access, load, store}
 use Rattle.queue.specs.declared.Kind.{Kind}
 use Rattle.queue.specs.declared.Kind.TheVariants.{Load, Store}
-use Rattle.queue.specs.Entry.{Entry, newEntry}
+use Rattle.queue.specs.Entry.{Entry, new_entry}
 use Rattle.queue.proofs.ContentsLaws.{opposite}
 use Rattle.queue.proofs.Lists.{false-true, and_both}
-use Rattle.sequential.specs.Plain.{consOption}
+use Rattle.sequential.specs.Plain.{cons_option}
 
 pub data LogEntry : Type 0 where
-  ofLoad : Entry → LogEntry
-  ofStore : Entry → LogEntry
+  of_load : Entry → LogEntry
+  of_store : Entry → LogEntry
 
 -- the access that an entry is of, with offset 0; and the entry of an access that has been given nothing yet
-abbrev pub pairFor : Entry → Pair
-pairFor e = pair 0 e.port
+abbrev pub pair_for : Entry → Pair
+pair_for e = pair 0 e.port
 
-abbrev pub accessOf : LogEntry → Access
-accessOf (ofLoad e) = load (pairFor e)
-accessOf (ofStore e) = store (pairFor e)
+abbrev pub access_of : LogEntry → Access
+access_of (of_load e) = load (pair_for e)
+access_of (of_store e) = store (pair_for e)
 
 abbrev pub fresh : Access → LogEntry
-fresh (load p) = ofLoad (newEntry p 0)
-fresh (store p) = ofStore (newEntry p 0)
+fresh (load p) = of_load (new_entry p 0)
+fresh (store p) = of_store (new_entry p 0)
 
 -- ---- one side of the log: what is proved of a kind and its opposite serves loads and stores alike
 abbrev pub loads : Kind
@@ -45,37 +45,37 @@ abbrev pub stores : Kind
 stores = Store
 
 abbrev pub put : Kind → Entry → LogEntry
-put Load e = ofLoad e
-put Store e = ofStore e
+put Load e = of_load e
+put Store e = of_store e
 
 -- the entry, where it is of the kind
 abbrev pub own : Kind → LogEntry → Option Entry
-own Load (ofLoad e) = some e
-own Load (ofStore e) = none
-own Store (ofLoad e) = none
-own Store (ofStore e) = some e
+own Load (of_load e) = some e
+own Load (of_store e) = none
+own Store (of_load e) = none
+own Store (of_store e) = some e
 
 pub own_put : (K : Kind) (e : Entry) → own K (put K e) ≡ some e
 own_put Load e = refl
 own_put Store e = refl
 
-pub put-own : (K : Kind) (d : LogEntry) (e : Entry) → own K d ≡ some e → d ≡ put K e
-put-own Load (ofLoad k) e h = let is : k ≡ e = cc in rw is
-put-own Load (ofStore k) e h = cc
-put-own Store (ofLoad k) e h = cc
-put-own Store (ofStore k) e h = let is : k ≡ e = cc in rw is
+pub put_own : (K : Kind) (d : LogEntry) (e : Entry) → own K d ≡ some e → d ≡ put K e
+put_own Load (of_load k) e h = let is : k ≡ e = cc in rw is
+put_own Load (of_store k) e h = cc
+put_own Store (of_load k) e h = cc
+put_own Store (of_store k) e h = let is : k ≡ e = cc in rw is
 
 -- every entry is of one of the two kinds
 abbrev pub Opposite : Kind → Kind → Type 0
 Opposite K K' = (e : LogEntry) → is_some (own K e) ≡ not (is_some (own K' e))
 
 pub loads-stores : Opposite loads stores
-loads-stores (ofLoad l) = refl
-loads-stores (ofStore s) = refl
+loads-stores (of_load l) = refl
+loads-stores (of_store s) = refl
 
 pub stores-loads : Opposite stores loads
-stores-loads (ofLoad l) = refl
-stores-loads (ofStore s) = refl
+stores-loads (of_load l) = refl
+stores-loads (of_store s) = refl
 
 pub opposed : (K : Kind) → Opposite K (opposite K)
 opposed Load = loads-stores
@@ -86,8 +86,8 @@ pub record Placed : Type 0 where
   pub before : ℕ
   pub entry : Entry
 
-abbrev pub placedEntry : Placed → Entry
-placedEntry x = x.entry
+abbrev pub placed_entry : Placed → Entry
+placed_entry x = x.entry
 
 abbrev pub place : ℕ → Entry → Placed
 place n a = record { before = n; entry = a }
@@ -105,9 +105,9 @@ abbrev pub side : Kind → ℕ → List LogEntry → List Placed
 side K n [] = []
 side K n (e ∷ es) = onto (own K e) n (side K n es) (side K (suc n) es)
 
-abbrev pub ownIn : Kind → List LogEntry → List Entry
-ownIn K [] = []
-ownIn K (e ∷ es) = consOption (own K e) (ownIn K es)
+abbrev pub own_in : Kind → List LogEntry → List Entry
+own_in K [] = []
+own_in K (e ∷ es) = cons_option (own K e) (own_in K es)
 
 abbrev pub others : Kind → List LogEntry → ℕ
 others K [] = 0
@@ -124,29 +124,29 @@ module _ (K : Kind) where
       go none h k = rw (add-suc n (others K xs), ← suc-add n (others K xs)) k
       go (some a) h k = ap (λ (l : List Placed). place n a ∷ l) h
 
-  pub map-side : (n : ℕ) (es : List LogEntry) → map placedEntry (side K n es) ≡ ownIn K es
+  pub map-side : (n : ℕ) (es : List LogEntry) → map placed_entry (side K n es) ≡ own_in K es
   map-side n [] = refl
   map-side n (e ∷ es) = go (own K e) (map-side n es) (map-side (suc n) es)
     where
-      go : (o : Option Entry) → map placedEntry (side K n es) ≡ ownIn K es → map placedEntry (side K (suc n) es) ≡ ownIn K es
-          → map placedEntry (onto o n (side K n es) (side K (suc n) es)) ≡ consOption o (ownIn K es)
+      go : (o : Option Entry) → map placed_entry (side K n es) ≡ own_in K es → map placed_entry (side K (suc n) es) ≡ own_in K es
+          → map placed_entry (onto o n (side K n es) (side K (suc n) es)) ≡ cons_option o (own_in K es)
       go none h k = k
       go (some a) h k = ap (λ (l : List Entry). a ∷ l) h
 
-  pub ownIn-append : (xs ys : List LogEntry) → ownIn K (xs ++ ys) ≡ ownIn K xs ++ ownIn K ys
+  pub ownIn-append : (xs ys : List LogEntry) → own_in K (xs ++ ys) ≡ own_in K xs ++ own_in K ys
   ownIn-append [] ys = refl
   ownIn-append (e ∷ xs) ys = go (own K e) (ownIn-append xs ys)
     where
-      go : (o : Option Entry) → ownIn K (xs ++ ys) ≡ ownIn K xs ++ ownIn K ys → consOption o (ownIn K (xs ++ ys)) ≡ consOption o (ownIn K xs) ++ ownIn K ys
+      go : (o : Option Entry) → own_in K (xs ++ ys) ≡ own_in K xs ++ own_in K ys → cons_option o (own_in K (xs ++ ys)) ≡ cons_option o (own_in K xs) ++ own_in K ys
       go none h = h
       go (some a) h = ap (λ (l : List Entry). a ∷ l) h
 
-  pub side-length : (n : ℕ) (es : List LogEntry) → length (side K n es) ≡ length (ownIn K es)
+  pub side-length : (n : ℕ) (es : List LogEntry) → length (side K n es) ≡ length (own_in K es)
   side-length n [] = refl
   side-length n (e ∷ es) = go (own K e) (side-length n es) (side-length (suc n) es)
     where
-      go : (o : Option Entry) → length (side K n es) ≡ length (ownIn K es) → length (side K (suc n) es) ≡ length (ownIn K es)
-          → length (onto o n (side K n es) (side K (suc n) es)) ≡ length (consOption o (ownIn K es))
+      go : (o : Option Entry) → length (side K n es) ≡ length (own_in K es) → length (side K (suc n) es) ≡ length (own_in K es)
+          → length (onto o n (side K n es) (side K (suc n) es)) ≡ length (cons_option o (own_in K es))
       go none h k = k
       go (some a) h k = ap suc h
 
@@ -177,6 +177,6 @@ module _ (K : Kind) where
           → Found n (e ∷ es) zs
       go none own zs k here passed = let (pre, post, is, f) = passed zs k in (e ∷ pre, post, ap (λ (l : List LogEntry). e ∷ l) is, rw (own, f))
       go (some a) own [] k here passed =
-          let same : x.entry ≡ a = sym (ap placedEntry (head-eq_of_cons-eq k)) in ([], es, rw (same, put-own K e a own), refl)
+          let same : x.entry ≡ a = sym (ap placed_entry (head-eq_of_cons-eq k)) in ([], es, rw (same, put_own K e a own), refl)
       go (some a) own (z ∷ zs) k here passed = let (pre, post, is, f) = here zs (tail-eq_of_cons-eq k) in
           (e ∷ pre, post, ap (λ (l : List LogEntry). e ∷ l) is, rw (own, f, head-eq_of_cons-eq k))

@@ -7,15 +7,15 @@ use mathlib.Core.Option.{none}
 use lib.ListN.{length}
 use Rattle.number.specs.Basics.{all_of}
 use Rattle.table.specs.Group.{GroupPairs}
-use Rattle.table.specs.Table.{checkTable}
+use Rattle.table.specs.Table.{check_table}
 use Rattle.number.specs.Reply.{accept, accepted}
 use Rattle.queue.specs.declared.Kind.TheVariants.{Load, Store}
 use Rattle.queue.specs.Contents.{Contents}
-use Rattle.queue.specs.Sound.{depthRight, memoryRight}
-use Rattle.queue.specs.Open.{groupFits, opened, openQueue}
+use Rattle.queue.specs.Sound.{depth_right, memory_right}
+use Rattle.queue.specs.Open.{group_fits, opened, open_queue}
 use Rattle.number.proofs.ReplyLaws.{need-accepts, andThen-accepts}
 use Rattle.sequential.specs.Calls.{Call}
-use Rattle.sequential.specs.Answers.{Machine, Response, Answered, step, answers, machineAfter}
+use Rattle.sequential.specs.Answers.{Machine, Response, Answered, step, answers, machine_after}
 use Rattle.sequential.specs.Demand3.{Opening}
 use Rattle.sequential.proofs.CellLog.{cells-opened}
 use Rattle.sequential.proofs.Invariant.{Limits, Invariant, seen-refused, seen-ready}
@@ -28,21 +28,21 @@ use Rattle.sequential.proofs.Steps.Take.{take-keeps}
 
 -- ---- the opening
 
-pub limits-opened : (groups : List GroupPairs) (loadDepth storeDepth first words : ℕ) (q : Contents)
-    → openQueue groups loadDepth storeDepth first words ≡ accept q
-    → Limits groups words loadDepth storeDepth × (opened groups loadDepth storeDepth first words ≡ q)
-unfolding openQueue
-limits-opened groups loadDepth storeDepth first words q h₀ =
-    let (t, t₁, h₁) = andThen-accepts (checkTable groups) _ h₀ in
-    let (t₂, h₂) = need-accepts (depthRight loadDepth) _ _ h₁ in
-    let (t₃, h₃) = need-accepts (depthRight storeDepth) _ _ h₂ in
-    let (t₄, h₄) = need-accepts (memoryRight words) _ _ h₃ in
-    let (t₅, h₅) = need-accepts (all_of (groupFits loadDepth storeDepth) groups) _ _ h₄ in
-    (record { loadDepthRight = t₂; storeDepthRight = t₃; wordsRight = t₄; tableRight = ap accepted t₁ }, cc)
+pub limits-opened : (groups : List GroupPairs) (load_depth store_depth first words : ℕ) (q : Contents)
+    → open_queue groups load_depth store_depth first words ≡ accept q
+    → Limits groups words load_depth store_depth × (opened groups load_depth store_depth first words ≡ q)
+unfolding open_queue
+limits-opened groups load_depth store_depth first words q h₀ =
+    let (t, t₁, h₁) = andThen-accepts (check_table groups) _ h₀ in
+    let (t₂, h₂) = need-accepts (depth_right load_depth) _ _ h₁ in
+    let (t₃, h₃) = need-accepts (depth_right store_depth) _ _ h₂ in
+    let (t₄, h₄) = need-accepts (memory_right words) _ _ h₃ in
+    let (t₅, h₅) = need-accepts (all_of (group_fits load_depth store_depth) groups) _ _ h₄ in
+    (record { load_depth_right = t₂; store_depth_right = t₃; words_right = t₄; table_right = ap accepted t₁ }, cc)
 
-opened-state : (groups : List GroupPairs) (memory : List ℕ) (loadDepth storeDepth first : ℕ) → Limits groups (length memory) loadDepth storeDepth
-    → Invariant groups memory [] (record { queue = opened groups loadDepth storeDepth first (length memory); memory = memory })
-opened-state groups memory loadDepth storeDepth first limits = record {
+opened-state : (groups : List GroupPairs) (memory : List ℕ) (load_depth store_depth first : ℕ) → Limits groups (length memory) load_depth store_depth
+    → Invariant groups memory [] (record { queue = opened groups load_depth store_depth first (length memory); memory = memory })
+opened-state groups memory load_depth store_depth first limits = record {
   log = [];
   table = refl;
   holds = record {
@@ -63,15 +63,15 @@ opened-state groups memory loadDepth storeDepth first limits = record {
 }
 
 pub opening-limits : {groups : List GroupPairs} {memory : List ℕ} {m : Machine} → (o : Opening groups memory m)
-    → Limits groups (length memory) o.loadDepth o.storeDepth
-opening-limits {groups} {memory} {m} o = (limits-opened groups o.loadDepth o.storeDepth o.first (length memory) m.queue o.accepted).0
+    → Limits groups (length memory) o.load_depth o.store_depth
+opening-limits {groups} {memory} {m} o = (limits-opened groups o.load_depth o.store_depth o.first (length memory) m.queue o.accepted).0
 
 pub opening-state : {groups : List GroupPairs} {memory : List ℕ} {m : Machine} → Opening groups memory m → Invariant groups memory [] m
 opening-state {groups} {memory} {m} o =
-    let (limits, queue-is) = limits-opened groups o.loadDepth o.storeDepth o.first (length memory) m.queue o.accepted in
-    let memory-is : memory ≡ m.memory = sym o.lent in
-    subst (Invariant groups memory []) (λ i. record { queue = queue-is i; memory = memory-is i })
-    (opened-state groups memory o.loadDepth o.storeDepth o.first limits)
+    let (limits, queue_is) = limits-opened groups o.load_depth o.store_depth o.first (length memory) m.queue o.accepted in
+    let memory_is : memory ≡ m.memory = sym o.lent in
+    subst (Invariant groups memory []) (λ i. record { queue = queue_is i; memory = memory_is i })
+    (opened-state groups memory o.load_depth o.store_depth o.first limits)
 
 -- ---- a call
 
@@ -98,7 +98,7 @@ module _ (groups : List GroupPairs) (memory : List ℕ) (answered : List Answere
 -- ---- a list of calls
 
 pub run-keeps : (groups : List GroupPairs) (memory : List ℕ) (answered : List Answered) (m : Machine) → Invariant groups memory answered m
-    → (calls : List Call) → Invariant groups memory (answered ++ answers m calls) (machineAfter m calls)
+    → (calls : List Call) → Invariant groups memory (answered ++ answers m calls) (machine_after m calls)
 run-keeps groups memory answered m st [] = rw (append-nil answered) st
 run-keeps groups memory answered m st (c ∷ calls) =
     rw (append_assoc answered (a ∷ []) (answers (step m c).machine calls)) at
@@ -109,5 +109,5 @@ run-keeps groups memory answered m st (c ∷ calls) =
 
 -- the state that a list of calls leads to from an opening
 pub reached : {groups : List GroupPairs} {memory : List ℕ} {m : Machine} → Opening groups memory m → (calls : List Call)
-    → Invariant groups memory (answers m calls) (machineAfter m calls)
+    → Invariant groups memory (answers m calls) (machine_after m calls)
 reached {groups} {memory} {m} o calls = run-keeps groups memory [] m (opening-state o) calls

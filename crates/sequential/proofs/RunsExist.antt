@@ -9,7 +9,7 @@ use native.Mathlib.Omega.{arith}
 use Rattle.table.specs.declared.Table.{Table}
 use Rattle.number.specs.Basics.{all_of}
 use Rattle.table.specs.Group.{GroupPairs}
-use Rattle.table.specs.Table.{groups_of, checkTable}
+use Rattle.table.specs.Table.{groups_of, check_table}
 use Rattle.counts.specs.declared.Counts.{Counts}
 use Rattle.counts.specs.Counts.{counted}
 use Rattle.queue.specs.declared.Kind.TheVariants.{Load, Store}
@@ -18,32 +18,32 @@ use Rattle.queue.specs.declared.Queue.{Queue}
 use Rattle.queue.specs.declared.Outcome.{Outcome}
 use Rattle.queue.specs.declared.Opened.{Opened}
 use Rattle.number.specs.Reply.{Reply, refuse, accept, number}
-use Rattle.queue.specs.Contents.{Contents, contentsOf}
+use Rattle.queue.specs.Contents.{Contents, contents_of}
 use Rattle.queue.specs.Sound.{sound}
-use Rattle.queue.specs.Open.{opened, openQueue, noQueue, freshFrame, freshQueue}
+use Rattle.queue.specs.Open.{opened, open_queue, no_queue, fresh_frame, fresh_queue}
 use Rattle.queue.specs.Activate.{activate}
 use Rattle.queue.specs.Arguments.{give}
 use Rattle.queue.specs.Serve.{Served, serve}
 use Rattle.queue.specs.Write.{Written, write}
-use Rattle.queue.specs.Take.{Taken, takeRule}
+use Rattle.queue.specs.Take.{Taken, take_rule}
 use Rattle.queue.specs.Ready.{ready}
-use Rattle.queue.specs.Outcome.{Moves, Takes, Serves, Writes, Opens, withCounts}
-use Rattle.queue.specs.Parts.{queueOf, answered}
+use Rattle.queue.specs.Outcome.{Moves, Takes, Serves, Writes, Opens, with_counts}
+use Rattle.queue.specs.Parts.{queue_of, answered}
 use Rattle.number.proofs.Both.{and_left, and_right}
-use Rattle.queue.proofs.SoundLaws.{within-most}
+use Rattle.queue.proofs.SoundLaws.{within_most}
 use Rattle.sequential.specs.Calls.{Call, Activate, Give, Serve, Write, Take, Ready}
-use Rattle.sequential.specs.Answers.{Machine, Response, Answered, moveResponse, serveResponse, writeResponse, takeResponse, step, machine}
-use Rattle.sequential.specs.Records.{answeredWith, Hands, run_none, run-one, machine_of}
+use Rattle.sequential.specs.Answers.{Machine, Response, Answered, move_response, serve_response, write_response, take_response, step, machine}
+use Rattle.sequential.specs.Records.{answered_with, Hands, run_none, run_one, machine_of}
 use Rattle.sequential.specs.Demand3.{Opening}
-use Rattle.sequential.specs.RunsExist.{bitsFit, argumentFits, StoredEntries, Stored, StoredOutcome, Throughout, SomeRun, RunsExist}
+use Rattle.sequential.specs.RunsExist.{bits_fit, argument_fits, StoredEntries, Stored, StoredOutcome, Throughout, SomeRun, RunsExist}
 use Rattle.sequential.specs.RunsExist.{OpeningsExist}
 use Rattle.sequential.proofs.Invariant.{Limits, Invariant}
 use Rattle.sequential.proofs.Run.{limits-opened, opening-state, step_keeps}
 use Rattle.sequential.proofs.ReachedSound.{holds-sound}
-use Rattle.sequential.proofs.RecordsDemand3.{Same, hands-same, open-proper, opening}
-use Rattle.sequential.proofs.Stored.{recordOf, record-holds, record-stored}
+use Rattle.sequential.proofs.RecordsDemand3.{Same, hands-same, open_proper, opening}
+use Rattle.sequential.proofs.Stored.{record_of, record-holds, record-stored}
 use Rattle.sequential.proofs.Fits.{Fits, Fitting, step_fits}
-use Rattle.number.proofs.ReplyLaws.{accepted-passed, refused-some}
+use Rattle.number.proofs.ReplyLaws.{accepted-passed, refused_some}
 
 -- ---- one call
 -- something that it may hand over: the queue that follows is the very one, or the record of what the definitions' step leaves
@@ -51,67 +51,67 @@ record Next (q : Queue) (s : Response) (Given : Outcome → List ℕ → Type 0)
   outcome : Outcome
   left : List ℕ
   given : Given outcome left
-  kept : (outcome.queue ≡ q) ⊎ (outcome.queue ≡ recordOf q.frame.table s.machine.queue)
+  kept : (outcome.queue ≡ q) ⊎ (outcome.queue ≡ record_of q.frame.table s.machine.queue)
 
 module _ (q : Queue) (m : List ℕ) where
   -- the record of what the step leaves holds it
   abbrev Packed : Response → Type 0
-  Packed s = contentsOf (recordOf q.frame.table s.machine.queue) ≡ s.machine.queue
+  Packed s = contents_of (record_of q.frame.table s.machine.queue) ≡ s.machine.queue
 
-  moves_next : (rule : Reply Contents) → Packed (moveResponse (machine_of q m) rule)
-      → Next q (moveResponse (machine_of q m) rule) (λ r left. Moves q rule r × (left ≡ m))
+  moves_next : (rule : Reply Contents) → Packed (move_response (machine_of q m) rule)
+      → Next q (move_response (machine_of q m) rule) (λ r left. Moves q rule r × (left ≡ m))
   moves_next (refuse n) p = record { outcome = answered n q; left = m; given = (refl, refl); kept = inl refl }
   moves_next (accept c) p = record {
-    outcome = record { answer = 0; value = Nothing; queue = recordOf q.frame.table c };
+    outcome = record { answer = 0; value = Nothing; queue = record_of q.frame.table c };
     left = m;
     given = (record { answer = refl; gives = refl; holds = p }, refl);
     kept = inr refl;
   }
 
-  takes-next : (rule : Reply Taken) → Packed (takeResponse (machine_of q m) rule)
-      → Next q (takeResponse (machine_of q m) rule) (λ r left. Takes q rule r × (left ≡ m))
+  takes-next : (rule : Reply Taken) → Packed (take_response (machine_of q m) rule)
+      → Next q (take_response (machine_of q m) rule) (λ r left. Takes q rule r × (left ≡ m))
   takes-next (refuse n) p = record { outcome = answered n q; left = m; given = (refl, refl); kept = inl refl }
   takes-next (accept t) p = record {
-    outcome = record { answer = 0; value = Word t.value; queue = recordOf q.frame.table t.queue };
+    outcome = record { answer = 0; value = Word t.value; queue = record_of q.frame.table t.queue };
     left = m;
     given = (record { answer = refl; gives = refl; holds = p }, refl);
     kept = inr refl;
   }
 
-  serves-next : (lent : Counts) (rule : Reply Served) → Packed (serveResponse (machine_of q m) rule)
-      → Next q (serveResponse (machine_of q m) rule) (λ r left. ((counts : Counts) × Serves q lent rule (withCounts r counts)) × (left ≡ m))
+  serves-next : (lent : Counts) (rule : Reply Served) → Packed (serve_response (machine_of q m) rule)
+      → Next q (serve_response (machine_of q m) rule) (λ r left. ((counts : Counts) × Serves q lent rule (with_counts r counts)) × (left ≡ m))
   serves-next lent (refuse n) p = record { outcome = answered n q; left = m; given = ((lent, refl), refl); kept = inl refl }
   serves-next lent (accept s) p = record {
-    outcome = record { answer = 0; value = Word s.value; queue = recordOf q.frame.table s.queue };
+    outcome = record { answer = 0; value = Word s.value; queue = record_of q.frame.table s.queue };
     left = m;
     given = ((counted s.forwarded lent, record { answer = refl; gives = refl; holds = p; counts = refl }), refl);
     kept = inr refl;
   }
 
-  writes-next : (rule : Reply Written) → Packed (writeResponse (machine_of q m) rule) → Next q (writeResponse (machine_of q m) rule) (Writes q m rule)
-  writes-next (refuse n) p = record { outcome = answered n q; left = m; given = record { outcome = refl; memory-is = refl }; kept = inl refl }
+  writes-next : (rule : Reply Written) → Packed (write_response (machine_of q m) rule) → Next q (write_response (machine_of q m) rule) (Writes q m rule)
+  writes-next (refuse n) p = record { outcome = answered n q; left = m; given = record { outcome = refl; memory_is = refl }; kept = inl refl }
   writes-next (accept w) p = record {
-    outcome = record { answer = 0; value = Nothing; queue = recordOf q.frame.table w.queue };
+    outcome = record { answer = 0; value = Nothing; queue = record_of q.frame.table w.queue };
     left = w.memory;
-    given = record { outcome = record { answer = refl; gives = refl; holds = p }; memory-is = refl };
+    given = record { outcome = record { answer = refl; gives = refl; holds = p }; memory_is = refl };
     kept = inr refl;
   }
 
   next_of : (c : Call) → Packed (step (machine_of q m) c) → Next q (step (machine_of q m) c) (Hands q m c)
-  next_of (Activate g) p = moves_next (activate (contentsOf q) g) p
-  next_of (Give kind port x) p = moves_next (give kind (contentsOf q) port x) p
-  next_of (Serve lent s) p = serves-next lent (serve (contentsOf q) m s) p
-  next_of (Write s) p = writes-next (write (contentsOf q) m s) p
-  next_of (Take port) p = takes-next (takeRule (contentsOf q) port) p
-  next_of (Ready kind run) p = record { outcome = answered (number (ready kind (contentsOf q) run)) q; left = m; given = (refl, refl); kept = inl refl }
+  next_of (Activate g) p = moves_next (activate (contents_of q) g) p
+  next_of (Give kind port x) p = moves_next (give kind (contents_of q) port x) p
+  next_of (Serve lent s) p = serves-next lent (serve (contents_of q) m s) p
+  next_of (Write s) p = writes-next (write (contents_of q) m s) p
+  next_of (Take port) p = takes-next (take_rule (contents_of q) port) p
+  next_of (Ready kind run) p = record { outcome = answered (number (ready kind (contents_of q) run)) q; left = m; given = (refl, refl); kept = inl refl }
 
-groups-held : (q : Queue) → groups_of q.frame.table ≡ (contentsOf q).groups
-unfolding contentsOf
+groups-held : (q : Queue) → groups_of q.frame.table ≡ (contents_of q).groups
+unfolding contents_of
 groups-held q = refl
 
 -- ---- a call that a list has come to
 module _ (groups : List GroupPairs) (memory : List ℕ) (before : List Answered) (q : Queue) (m : List ℕ)
-    (st : Invariant groups memory before (machine_of q m)) (f : Fits (machine_of q m)) (c : Call) (h : argumentFits c ≡ true) where
+    (st : Invariant groups memory before (machine_of q m)) (f : Fits (machine_of q m)) (c : Call) (h : argument_fits c ≡ true) where
   abbrev after : Response
   after = step (machine_of q m) c
 
@@ -122,7 +122,7 @@ module _ (groups : List GroupPairs) (memory : List ℕ) (before : List Answered)
   state = step_keeps groups memory before (machine_of q m) st c
 
   fitting : Fitting after
-  fitting = step_fits (machine_of q m) f (accepted-passed (checkTable (contentsOf q).groups) st.holds.limits.tableRight) c h
+  fitting = step_fits (machine_of q m) f (accepted-passed (check_table (contents_of q).groups) st.holds.limits.table_right) c h
 
   right : sound after.machine.queue ≡ true
   right = holds-sound after.machine.queue after.machine.memory memory state.log state.holds
@@ -143,7 +143,7 @@ module _ (groups : List GroupPairs) (memory : List ℕ) (before : List Answered)
   queue-stored : Stored q → Stored chosen.outcome.queue
   queue-stored s = go chosen.kept
     where
-      go : (chosen.outcome.queue ≡ q) ⊎ (chosen.outcome.queue ≡ recordOf q.frame.table after.machine.queue)
+      go : (chosen.outcome.queue ≡ q) ⊎ (chosen.outcome.queue ≡ record_of q.frame.table after.machine.queue)
           → Stored chosen.outcome.queue
       go (inl e) = rw e s
       go (inr e) =
@@ -154,7 +154,7 @@ module _ (groups : List GroupPairs) (memory : List ℕ) (before : List Answered)
   table_kept : chosen.outcome.queue.frame.table ≡ q.frame.table
   table_kept = go chosen.kept
     where
-      go : (chosen.outcome.queue ≡ q) ⊎ (chosen.outcome.queue ≡ recordOf q.frame.table after.machine.queue)
+      go : (chosen.outcome.queue ≡ q) ⊎ (chosen.outcome.queue ≡ record_of q.frame.table after.machine.queue)
           → chosen.outcome.queue.frame.table ≡ q.frame.table
       go (inl e) = ap (λ (x : Queue). x.frame.table) e
       go (inr e) = ap (λ (x : Queue). x.frame.table) e
@@ -171,76 +171,76 @@ module _ (groups : List GroupPairs) (memory : List ℕ) (before : List Answered)
   -- a run of the calls that follow makes one of them all
   one_more : (calls : List Call) → SomeRun chosen.outcome.queue chosen.left calls → SomeRun q m (c ∷ calls)
   one_more calls rest = record {
-    log = answeredWith c chosen.outcome ∷ rest.log;
+    log = answered_with c chosen.outcome ∷ rest.log;
     last = rest.last;
     left = rest.left;
-    run = run-one chosen.outcome chosen.given rest.run;
+    run = run_one chosen.outcome chosen.given rest.run;
     stored = λ s. (handed s, subst (λ (t : Table). Throughout (StoredOutcome t) rest.run) table_kept (rest.stored (queue-stored s)));
   }
 
 -- ---- a list of calls
-some-run : (groups : List GroupPairs) (memory : List ℕ) (before : List Answered) (q : Queue) (m : List ℕ)
-    → Invariant groups memory before (machine_of q m) → Fits (machine_of q m) → (calls : List Call) → all_of argumentFits calls ≡ true → SomeRun q m calls
-some-run groups memory before q m st f [] h = record { log = []; last = q; left = m; run = run_none; stored = λ s. tt }
-some-run groups memory before q m st f (c ∷ calls) h =
-    let k : argumentFits c ≡ true = and_left (argumentFits c) (all_of argumentFits calls) h in
+some_run : (groups : List GroupPairs) (memory : List ℕ) (before : List Answered) (q : Queue) (m : List ℕ)
+    → Invariant groups memory before (machine_of q m) → Fits (machine_of q m) → (calls : List Call) → all_of argument_fits calls ≡ true → SomeRun q m calls
+some_run groups memory before q m st f [] h = record { log = []; last = q; left = m; run = run_none; stored = λ s. tt }
+some_run groups memory before q m st f (c ∷ calls) h =
+    let k : argument_fits c ≡ true = and_left (argument_fits c) (all_of argument_fits calls) h in
     let n : Next q (step (machine_of q m) c) (Hands q m c) = chosen groups memory before q m st f c k in
     let e : (step (machine_of q m) c).machine ≡ machine_of n.outcome.queue n.left = is-machine groups memory before q m st f c k in
     one_more groups memory before q m st f c k calls
-    (some-run groups memory (so_far groups memory before q m st f c k) n.outcome.queue n.left
+    (some_run groups memory (so_far groups memory before q m st f c k) n.outcome.queue n.left
     (subst (Invariant groups memory (so_far groups memory before q m st f c k)) e (state groups memory before q m st f c k))
     (subst Fits e (fitting groups memory before q m st f c k).left)
-    calls (and_right (argumentFits c) (all_of argumentFits calls) h))
+    calls (and_right (argument_fits c) (all_of argument_fits calls) h))
 
 -- the opening: no entry yet
-opening-fits : {groups : List GroupPairs} {memory : List ℕ} {m : Machine} → Opening groups memory m → all_of (bitsFit 32) memory ≡ true → Fits m
+opening-fits : {groups : List GroupPairs} {memory : List ℕ} {m : Machine} → Opening groups memory m → all_of (bits_fit 32) memory ≡ true → Fits m
 opening-fits {groups} {memory} {m} o words =
-    let (limits, queue-is) = limits-opened groups o.loadDepth o.storeDepth o.first (length memory) m.queue o.accepted in
-    subst Fits (ap₂ machine queue-is (sym o.lent))
+    let (limits, queue_is) = limits-opened groups o.load_depth o.store_depth o.first (length memory) m.queue o.accepted in
+    subst Fits (ap₂ machine queue_is (sym o.lent))
     (record { entries = elim [ Load ↦ refl | Store ↦ refl ]; next = elim [ Load ↦ o.serial | Store ↦ o.serial ]; memory = words })
 
-pub runs-exist : RunsExist
-runs-exist table memory o w words calls small =
-    some-run (groups_of table) memory [] o.queue memory (opening-state (opening w)) (opening-fits (opening w) words) calls small
+pub runs_exist : RunsExist
+runs_exist table memory o w words calls small =
+    some_run (groups_of table) memory [] o.queue memory (opening-state (opening w)) (opening-fits (opening w) words) calls small
 
 -- ---- an opening to begin with
-fresh_holds : (table : Table) (loadDepth storeDepth first words : ℕ)
-    → contentsOf (freshQueue (freshFrame table loadDepth storeDepth first words)) ≡ opened (groups_of table) loadDepth storeDepth first words
-unfolding contentsOf
-fresh_holds table loadDepth storeDepth first words = refl
+fresh_holds : (table : Table) (load_depth store_depth first words : ℕ)
+    → contents_of (fresh_queue (fresh_frame table load_depth store_depth first words)) ≡ opened (groups_of table) load_depth store_depth first words
+unfolding contents_of
+fresh_holds table load_depth store_depth first words = refl
 
-pub fresh-stored : {groups : List GroupPairs} (table : Table) (loadDepth storeDepth first words : ℕ) → first < 2 ^ 32
-    → Limits groups words loadDepth storeDepth → (l s : List ℕ) → StoredEntries l → StoredEntries s
-    → Stored (queueOf (freshFrame table loadDepth storeDepth first words) l s)
-fresh-stored table loadDepth storeDepth first words small limits l s ls ss =
-    let most : words ≤ 4096 = within-most 1 4096 words limits.wordsRight in
-    let loads : loadDepth ≤ 64 = within-most 1 64 loadDepth limits.loadDepthRight in
-    let stores : storeDepth ≤ 64 = within-most 1 64 storeDepth limits.storeDepthRight in
+pub fresh-stored : {groups : List GroupPairs} (table : Table) (load_depth store_depth first words : ℕ) → first < 2 ^ 32
+    → Limits groups words load_depth store_depth → (l s : List ℕ) → StoredEntries l → StoredEntries s
+    → Stored (queue_of (fresh_frame table load_depth store_depth first words) l s)
+fresh-stored table load_depth store_depth first words small limits l s ls ss =
+    let most : words ≤ 4096 = within_most 1 4096 words limits.words_right in
+    let loads : load_depth ≤ 64 = within_most 1 64 load_depth limits.load_depth_right in
+    let stores : store_depth ≤ 64 = within_most 1 64 store_depth limits.store_depth_right in
     record {
       words = omega arith;
       loads = record { depth = omega arith; count = omega arith; next = small };
       stores = record { depth = omega arith; count = omega arith; next = small };
-      loadEntries = ls;
-      storeEntries = ss;
+      load_entries = ls;
+      store_entries = ss;
     }
 
-pub openings-exist : OpeningsExist
-openings-exist table memory loadDepth storeDepth first small accepted =
-    go (openQueue (groups_of table) loadDepth storeDepth first (length memory)) refl accepted
+pub openings_exist : OpeningsExist
+openings_exist table memory load_depth store_depth first small accepted =
+    go (open_queue (groups_of table) load_depth store_depth first (length memory)) refl accepted
   where
-    go : (rule : Reply Contents) → openQueue (groups_of table) loadDepth storeDepth first (length memory) ≡ rule → number rule ≡ 0
-        → (o : Opened) × Opens noQueue (openQueue (groups_of table) loadDepth storeDepth first (length memory)) o × (o.answer ≡ 0)
+    go : (rule : Reply Contents) → open_queue (groups_of table) load_depth store_depth first (length memory) ≡ rule → number rule ≡ 0
+        → (o : Opened) × Opens no_queue (open_queue (groups_of table) load_depth store_depth first (length memory)) o × (o.answer ≡ 0)
         × Stored o.queue × (o.queue.frame.table ≡ table)
-    go (refuse n) e z = absurd (refused-some _ (open-proper (groups_of table) loadDepth storeDepth first (length memory)) e z)
+    go (refuse n) e z = absurd (refused_some _ (open_proper (groups_of table) load_depth store_depth first (length memory)) e z)
     go (accept c) e z =
-        let (limits, queue-is) = limits-opened (groups_of table) loadDepth storeDepth first (length memory) c e in
-        let fresh : Queue = freshQueue (freshFrame table loadDepth storeDepth first (length memory)) in
-        let holds : contentsOf fresh ≡ c = fresh_holds table loadDepth storeDepth first (length memory) ∙ queue-is in
+        let (limits, queue_is) = limits-opened (groups_of table) load_depth store_depth first (length memory) c e in
+        let fresh : Queue = fresh_queue (fresh_frame table load_depth store_depth first (length memory)) in
+        let holds : contents_of fresh ≡ c = fresh_holds table load_depth store_depth first (length memory) ∙ queue_is in
         let zeros : StoredEntries (replicate 64 0) = record { places = refl; numbers = refl } in
-        let opens : Opens noQueue (accept c) (record { answer = 0; queue = fresh }) = (refl, holds) in (
+        let opens : Opens no_queue (accept c) (record { answer = 0; queue = fresh }) = (refl, holds) in (
           record { answer = 0; queue = fresh },
           rw e opens,
           refl,
-          fresh-stored table loadDepth storeDepth first (length memory) small limits (replicate 64 0) (replicate 64 0) zeros zeros,
+          fresh-stored table load_depth store_depth first (length memory) small limits (replicate 64 0) (replicate 64 0) zeros zeros,
           refl,
         )

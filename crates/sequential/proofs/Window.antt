@@ -12,16 +12,16 @@ use lib.Dec.{leb}
 use lib.ListN.{length, take, length-append, length-map, get_elem?}
 use lib.Seq.{take_at}
 use borrow.Author.Tests.{le-leb, leb-true}
-use Rattle.number.specs.Basics.{all_of, frontWhile, afterWhile, is_some}
-use Rattle.table.proofs.Order.{frontWhile-afterWhile}
+use Rattle.number.specs.Basics.{all_of, front_while, after_while, is_some}
+use Rattle.table.proofs.Order.{front_while-after_while}
 use Rattle.queue.specs.Entry.{Entry, with_before}
-use Rattle.queue.specs.Contents.{updateAt}
-use Rattle.queue.specs.Retire.{finished, retiring, afterRetiring}
+use Rattle.queue.specs.Contents.{update_at}
+use Rattle.queue.specs.Retire.{finished, retiring, after_retiring}
 use Rattle.queue.proofs.Lists.{false-true, all_left, all_right, all_join, all_take, all_map, all-weaken, all-weaken₂, take-append, take-map}
 use Rattle.queue.proofs.Lists.{getElem?-map, map_same, failing-behind, getElem?-split, getElem?-seam, updateAt-seam, all-frontWhile, afterWhile-map}
 use Rattle.queue.proofs.Lists.{length-frontWhile-map}
-use Rattle.sequential.specs.Plain.{consOption}
-use Rattle.sequential.proofs.Log.{LogEntry, Opposite, Placed, place, placedEntry, side, ownIn, own, put, own_put, others, counting}
+use Rattle.sequential.specs.Plain.{cons_option}
+use Rattle.sequential.proofs.Log.{LogEntry, Opposite, Placed, place, placed_entry, side, own_in, own, put, own_put, others, counting}
 use Rattle.sequential.proofs.Log.{side-append, map-side, side-length, side_before, side-split}
 use Rattle.queue.specs.declared.Kind.{Kind}
 
@@ -57,7 +57,7 @@ pub record Before (K : Kind) (queued : List Entry) (pre : List LogEntry) : Type 
   pub out : ℕ
   pub past : List Placed
   pub rest : List Placed
-  pub parts : ownIn K pre ≡ map placedEntry past ++ map placedEntry rest
+  pub parts : own_in K pre ≡ map placed_entry past ++ map placed_entry rest
   pub ended : all_of is_over past ≡ true
   pub shows : queued ≡ map (shown out) rest
 
@@ -69,13 +69,13 @@ pub record Located (K K' : Kind) (log : List LogEntry) (held held' : List Entry)
   pub number : ℕ
   pub at : get_elem? held i ≡ some (with_before number it)
   -- as many of its kind come before it in the log as have left and stand before it in the queue
-  pub nth : length (ownIn K pre) + length held ≡ length (ownIn K log) + i
+  pub nth : length (own_in K pre) + length held ≡ length (own_in K log) + i
   -- the entries before it, of its own side and of the other
   pub before : Before K (take i held) pre
   pub before' : Before K' (take number held') pre
   -- both sides after it is made anew
   pub anew : (f : Entry → Entry) → ((n : ℕ) (a : Entry) → f (with_before n a) ≡ with_before n (f a))
-      → Windows K K' (pre ++ put K (f it) ∷ post) (updateAt f i held) held'
+      → Windows K K' (pre ++ put K (f it) ∷ post) (update_at f i held) held'
 
 -- ---- what a test says of the queue's part it says of the log's, and back
 
@@ -85,33 +85,33 @@ module _ {K : Kind} {queued : List Entry} {pre : List LogEntry} (b : Before K qu
   queued-all : all_of p queued ≡ all_of (λ x. p x.entry) b.rest
   queued-all = rw b.shows (all_map p (λ x. p x.entry) (shown b.out) (λ x. blind (x.before - b.out) x.entry) b.rest)
 
-  rest_all : all_of p (map placedEntry b.rest) ≡ all_of (λ x. p x.entry) b.rest
-  rest_all = all_map p (λ x. p x.entry) placedEntry (λ x. refl) b.rest
+  rest_all : all_of p (map placed_entry b.rest) ≡ all_of (λ x. p x.entry) b.rest
+  rest_all = all_map p (λ x. p x.entry) placed_entry (λ x. refl) b.rest
 
   -- from the log to the queue
-  pub before-queued : all_of p (ownIn K pre) ≡ true → all_of p queued ≡ true
-  before-queued h = queued-all ∙ sym rest_all ∙ all_right p (map placedEntry b.past) (map placedEntry b.rest) (rw b.parts at h)
+  pub before-queued : all_of p (own_in K pre) ≡ true → all_of p queued ≡ true
+  before-queued h = queued-all ∙ sym rest_all ∙ all_right p (map placed_entry b.past) (map placed_entry b.rest) (rw b.parts at h)
 
   -- what has left passes since it is finished, and right
-  module _ (right : Entry → Bool) (w : (a : Entry) → right a ≡ true → finished a ≡ true → p a ≡ true) (h : all_of right (ownIn K pre) ≡ true) where
-    pub past-passes : all_of p (map placedEntry b.past) ≡ true
+  module _ (right : Entry → Bool) (w : (a : Entry) → right a ≡ true → finished a ≡ true → p a ≡ true) (h : all_of right (own_in K pre) ≡ true) where
+    pub past-passes : all_of p (map placed_entry b.past) ≡ true
     past-passes =
-        all-weaken₂ right finished p w (map placedEntry b.past)
-        (all_left right (map placedEntry b.past) (map placedEntry b.rest) (rw b.parts at h))
-        (all_map finished is_over placedEntry (λ x. refl) b.past ∙ b.ended)
+        all-weaken₂ right finished p w (map placed_entry b.past)
+        (all_left right (map placed_entry b.past) (map placed_entry b.rest) (rw b.parts at h))
+        (all_map finished is_over placed_entry (λ x. refl) b.past ∙ b.ended)
 
     -- from the queue to the log
-    pub before-log : all_of p queued ≡ true → all_of p (ownIn K pre) ≡ true
-    before-log k = rw b.parts (all_join p (map placedEntry b.past) (map placedEntry b.rest) past-passes (rest_all ∙ sym queued-all ∙ k))
+    pub before-log : all_of p queued ≡ true → all_of p (own_in K pre) ≡ true
+    before-log k = rw b.parts (all_join p (map placed_entry b.past) (map placed_entry b.rest) past-passes (rest_all ∙ sym queued-all ∙ k))
 
 module _ (K K' : Kind) (opposite : Opposite K K') where
   -- as many others as the other kind has
-  pub others-length : (es : List LogEntry) → others K es ≡ length (ownIn K' es)
+  pub others-length : (es : List LogEntry) → others K es ≡ length (own_in K' es)
   others-length [] = refl
   others-length (e ∷ es) = go (own K e) (own K' e) (opposite e) (others-length es)
     where
-      go : (o : Option Entry) (o' : Option Entry) → is_some o ≡ not (is_some o') → others K es ≡ length (ownIn K' es)
-          → counting o (others K es) ≡ length (consOption o' (ownIn K' es))
+      go : (o : Option Entry) (o' : Option Entry) → is_some o ≡ not (is_some o') → others K es ≡ length (own_in K' es)
+          → counting o (others K es) ≡ length (cons_option o' (own_in K' es))
       go none none t h = false-true t
       go none (some b) t h = ap suc h
       go (some a) none t h = h
@@ -157,7 +157,7 @@ module _ (K K' : Kind) (opposite : Opposite K K') where
         (getElem?-seam (map (shown gone') near) (shown gone' (place (others K pre) it))
         (map (shown gone') (side K (others K pre) post)))
 
-    located-nth : length (ownIn K pre) + length held ≡ length (ownIn K log) + length near
+    located-nth : length (own_in K pre) + length held ≡ length (own_in K log) + length near
     located-nth =
         let first_part = sym (side-length K 0 pre) ∙ ap length Pre-is ∙ length-append w.old near in
         let whole = sym (side-length K 0 log) ∙ ap length w.parts ∙ length-append w.old w.live in
@@ -169,7 +169,7 @@ module _ (K K' : Kind) (opposite : Opposite K K') where
       out = gone';
       past = w.old;
       rest = near;
-      parts = sym (map-side K 0 pre) ∙ ap (map placedEntry) Pre-is ∙ map-append placedEntry w.old near;
+      parts = sym (map-side K 0 pre) ∙ ap (map placed_entry) Pre-is ∙ map-append placed_entry w.old near;
       ended = w.ended;
       shows = rw held-is (take_at (map (shown gone') near)
           (shown gone' (place (others K pre) it) ∷ map (shown gone') (side K (others K pre) post)) (length near) i-is);
@@ -188,14 +188,14 @@ module _ (K K' : Kind) (opposite : Opposite K K') where
       out = gone;
       past = take (others K pre) w'.old;
       rest = take (others K pre - gone') w'.live;
-      parts = sym (map-side K' 0 pre) ∙ ap (map placedEntry) side'-pre
-          ∙ map-append placedEntry (take (others K pre) w'.old) (take (others K pre - gone') w'.live);
+      parts = sym (map-side K' 0 pre) ∙ ap (map placed_entry) side'-pre
+          ∙ map-append placed_entry (take (others K pre) w'.old) (take (others K pre - gone') w'.live);
       ended = all_take is_over (others K pre) w'.old w'.ended;
       shows = rw w'.shows (take-map (shown gone) (others K pre - gone') w'.live);
     }
 
     updated : (f : Entry → Entry) → ((n : ℕ) (a : Entry) → f (with_before n a) ≡ with_before n (f a))
-        → updateAt f (length (map (shown gone') near))
+        → update_at f (length (map (shown gone') near))
         (map (shown gone') near ++ shown gone' (place (others K pre) it) ∷ map (shown gone') (side K (others K pre) post))
         ≡ map (shown gone') near ++ shown gone' (place (others K pre) (f it)) ∷ map (shown gone') (side K (others K pre) post)
     updated f blind =
@@ -204,7 +204,7 @@ module _ (K K' : Kind) (opposite : Opposite K K') where
         ∙ rw (blind (others K pre - gone') it)
 
     located-anew : (f : Entry → Entry) → ((n : ℕ) (a : Entry) → f (with_before n a) ≡ with_before n (f a))
-        → Windows K K' (pre ++ put K (f it) ∷ post) (updateAt f (length near) held) held'
+        → Windows K K' (pre ++ put K (f it) ∷ post) (update_at f (length near) held) held'
     located-anew f blind = record {
       gone = gone;
       gone' = gone';
@@ -279,7 +279,7 @@ module _ (K K' : Kind) (opposite : Opposite K K') where
     out = out;
     past = w.old;
     rest = w.live;
-    parts = sym (map-side K 0 log) ∙ ap (map placedEntry) w.parts ∙ map-append placedEntry w.old w.live;
+    parts = sym (map-side K 0 log) ∙ ap (map placed_entry) w.parts ∙ map-append placed_entry w.old w.live;
     ended = w.ended;
     shows = w.shows;
   }
@@ -327,22 +327,22 @@ module _ (K K' : Kind) (opposite : Opposite K K') where
 
   -- finished entries leave this side, and j the other
   pub window-leave : {log : List LogEntry} {gone out : ℕ} {held : List Entry} → Window K log gone out held → (j : ℕ)
-      → Window K log (gone + retiring held) (out + j) (map (afterRetiring j) (afterWhile finished held))
+      → Window K log (gone + retiring held) (out + j) (map (after_retiring j) (after_while finished held))
   window-leave {log} {gone} {out} {held} w j = record {
-    old = w.old ++ frontWhile is_over w.live;
-    live = afterWhile is_over w.live;
+    old = w.old ++ front_while is_over w.live;
+    live = after_while is_over w.live;
     parts =
-        w.parts ∙ ap (λ (l : List Placed). w.old ++ l) (sym (frontWhile-afterWhile is_over w.live))
-        ∙ sym (append_assoc w.old (frontWhile is_over w.live) (afterWhile is_over w.live));
+        w.parts ∙ ap (λ (l : List Placed). w.old ++ l) (sym (front_while-after_while is_over w.live))
+        ∙ sym (append_assoc w.old (front_while is_over w.live) (after_while is_over w.live));
     many =
-        length-append w.old (frontWhile is_over w.live)
+        length-append w.old (front_while is_over w.live)
         ∙ rw (w.many, w.shows, length-frontWhile-map finished is_over (shown out) (λ x. refl) w.live);
-    ended = all_join is_over w.old (frontWhile is_over w.live) w.ended (all-frontWhile is_over w.live);
+    ended = all_join is_over w.old (front_while is_over w.live) w.ended (all-frontWhile is_over w.live);
     shows =
         rw (w.shows, afterWhile-map finished is_over (shown out) (λ x. refl) w.live)
-        (map-map (afterRetiring j) (shown out) (afterWhile is_over w.live)
-        ∙ map_same (λ x. afterRetiring j (shown out x)) (shown (out + j)) lower (afterWhile is_over w.live));
+        (map-map (after_retiring j) (shown out) (after_while is_over w.live)
+        ∙ map_same (λ x. after_retiring j (shown out x)) (shown (out + j)) lower (after_while is_over w.live));
   }
     where
-      lower : (x : Placed) → afterRetiring j (shown out x) ≡ shown (out + j) x
+      lower : (x : Placed) → after_retiring j (shown out x) ≡ shown (out + j) x
       lower x = ap (λ (n : ℕ). with_before n x.entry) (omega arith)

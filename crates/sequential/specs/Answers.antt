@@ -9,7 +9,7 @@ use Rattle.queue.specs.Activate.{activate}
 use Rattle.queue.specs.Arguments.{give}
 use Rattle.queue.specs.Serve.{Served, serve}
 use Rattle.queue.specs.Write.{Written, write}
-use Rattle.queue.specs.Take.{Taken, takeRule}
+use Rattle.queue.specs.Take.{Taken, take_rule}
 use Rattle.queue.specs.Ready.{ready}
 use Rattle.sequential.specs.Calls.{Call, Activate, Give, Serve, Write, Take, Ready}
 
@@ -28,33 +28,33 @@ pub record Response : Type 0 where
   pub machine : Machine
 
 -- a call that only moves the queue
-abbrev pub moveResponse : Machine → Reply Contents → Response
-moveResponse m (refuse n) = record { number = n; value = none; machine = m }
-moveResponse m (accept q) = record { number = 0; value = none; machine = record { queue = q; memory = m.memory } }
+abbrev pub move_response : Machine → Reply Contents → Response
+move_response m (refuse n) = record { number = n; value = none; machine = m }
+move_response m (accept q) = record { number = 0; value = none; machine = record { queue = q; memory = m.memory } }
 
-abbrev pub serveResponse : Machine → Reply Served → Response
-serveResponse m (refuse n) = record { number = n; value = none; machine = m }
-serveResponse m (accept s) = record { number = 0; value = some s.value; machine = record { queue = s.queue; memory = m.memory } }
+abbrev pub serve_response : Machine → Reply Served → Response
+serve_response m (refuse n) = record { number = n; value = none; machine = m }
+serve_response m (accept s) = record { number = 0; value = some s.value; machine = record { queue = s.queue; memory = m.memory } }
 
-abbrev pub writeResponse : Machine → Reply Written → Response
-writeResponse m (refuse n) = record { number = n; value = none; machine = m }
-writeResponse m (accept w) = record { number = 0; value = none; machine = record { queue = w.queue; memory = w.memory } }
+abbrev pub write_response : Machine → Reply Written → Response
+write_response m (refuse n) = record { number = n; value = none; machine = m }
+write_response m (accept w) = record { number = 0; value = none; machine = record { queue = w.queue; memory = w.memory } }
 
-abbrev pub takeResponse : Machine → Reply Taken → Response
-takeResponse m (refuse n) = record { number = n; value = none; machine = m }
-takeResponse m (accept t) = record { number = 0; value = some t.value; machine = record { queue = t.queue; memory = m.memory } }
+abbrev pub take_response : Machine → Reply Taken → Response
+take_response m (refuse n) = record { number = n; value = none; machine = m }
+take_response m (accept t) = record { number = 0; value = some t.value; machine = record { queue = t.queue; memory = m.memory } }
 
 -- a call that leaves the queue as it was
-abbrev pub readyResponse : Machine → Reply (List ℕ) → Response
-readyResponse m r = record { number = number r; value = none; machine = m }
+abbrev pub ready_response : Machine → Reply (List ℕ) → Response
+ready_response m r = record { number = number r; value = none; machine = m }
 
 abbrev pub step : Machine → Call → Response
-step m (Activate g) = moveResponse m (activate m.queue g)
-step m (Give kind port x) = moveResponse m (give kind m.queue port x)
-step m (Serve c s) = serveResponse m (serve m.queue m.memory s)
-step m (Write s) = writeResponse m (write m.queue m.memory s)
-step m (Take p) = takeResponse m (takeRule m.queue p)
-step m (Ready kind run) = readyResponse m (ready kind m.queue run)
+step m (Activate g) = move_response m (activate m.queue g)
+step m (Give kind port x) = move_response m (give kind m.queue port x)
+step m (Serve c s) = serve_response m (serve m.queue m.memory s)
+step m (Write s) = write_response m (write m.queue m.memory s)
+step m (Take p) = take_response m (take_rule m.queue p)
+step m (Ready kind run) = ready_response m (ready kind m.queue run)
 
 -- a call with its answer
 pub record Answered : Type 0 where
@@ -67,6 +67,6 @@ abbrev pub answers : Machine → List Call → List Answered
 answers m [] = []
 answers m (c ∷ cs) = record { call = c; number = (step m c).number; value = (step m c).value } ∷ answers (step m c).machine cs
 
-abbrev pub machineAfter : Machine → List Call → Machine
-machineAfter m [] = m
-machineAfter m (c ∷ cs) = machineAfter (step m c).machine cs
+abbrev pub machine_after : Machine → List Call → Machine
+machine_after m [] = m
+machine_after m (c ∷ cs) = machine_after (step m c).machine cs

@@ -3,22 +3,22 @@
 use Rattle.std.specs.Prelude.{ℕ, ◌+◌, ◌<◌, ◌^◌, ◌≡◌, Bool, true, false, List, [], ◌∷◌, ◌++◌, ltb, length}
 use Rattle.std.proofs.Math.Option.{Option, none, some}
 use Rattle.std.proofs.Math.ListN.{get_elem?}
-use Rattle.number.specs.Basics.{keepWhere}
+use Rattle.number.specs.Basics.{keep_where}
 use Rattle.table.specs.declared.Table.{Table}
-use Rattle.table.specs.Group.{GroupPairs, emptyGroup}
+use Rattle.table.specs.Group.{GroupPairs, empty_group}
 use Rattle.table.specs.Table.{groups_of}
 use Rattle.table.specs.RightTables.{Each}
 use Rattle.queue.specs.declared.Queue.{Queue}
 use Rattle.queue.specs.declared.Opened.{Opened}
 use Rattle.queue.specs.declared.opening.OpenedFrame.{OpenedFrame}
 use Rattle.queue.specs.declared.arguments.Argument.{Argument}
-use Rattle.queue.specs.Contents.{Contents, contentsOf}
-use Rattle.queue.specs.Open.{openQueue, freshFrame}
-use Rattle.queue.specs.Parts.{queueOf, OpensFrame}
+use Rattle.queue.specs.Contents.{Contents, contents_of}
+use Rattle.queue.specs.Open.{open_queue, fresh_frame}
+use Rattle.queue.specs.Parts.{queue_of, OpensFrame}
 use Rattle.sequential.specs.Calls.{Call, Activate}
-use Rattle.sequential.specs.Answers.{Machine, step, Answered, answers, machineAfter}
-use Rattle.sequential.specs.Plain.{Told, Filling, gather, activationOf, rows_of, plainLoads, plainMemory}
-use Rattle.sequential.specs.Demand3.{told, takenAt, Opening}
+use Rattle.sequential.specs.Answers.{Machine, step, Answered, answers, machine_after}
+use Rattle.sequential.specs.Plain.{Told, Filling, gather, activation_of, rows_of, plain_loads, plain_memory}
+use Rattle.sequential.specs.Demand3.{told, taken_at, Opening}
 use Rattle.sequential.specs.Records.{Runs, machine_of, OpenedRecord}
 use Rattle.sequential.specs.RunsOnParts.{RunsOnParts}
 
@@ -27,32 +27,32 @@ use Rattle.sequential.specs.RunsOnParts.{RunsOnParts}
 abbrev pub EmptyAlwaysAccepted : Type 0
 EmptyAlwaysAccepted =
     (groups : List GroupPairs) (memory : List ℕ) (m : Machine) → Opening groups memory m →
-    (calls : List Call) (group : ℕ) → get_elem? groups group ≡ some emptyGroup →
-    step (machineAfter m calls) (Activate group) ≡ record { number = 0; value = none; machine = machineAfter m calls }
+    (calls : List Call) (group : ℕ) → get_elem? groups group ≡ some empty_group →
+    step (machine_after m calls) (Activate group) ≡ record { number = 0; value = none; machine = machine_after m calls }
 
 -- "The one-after-another run passes over it": wherever in the list it was activated, the values that each port loads and the
 -- memory are those of the list without it, whatever is filled in.
 pub record PassesOver (groups : List GroupPairs) (memory : List ℕ) (fill : Filling) (with without : List Told) : Type 0 where
-  pub loads : (port : ℕ) → plainLoads groups memory with fill port ≡ plainLoads groups memory without fill port
-  pub memories : plainMemory groups memory with fill ≡ plainMemory groups memory without fill
+  pub loads : (port : ℕ) → plain_loads groups memory with fill port ≡ plain_loads groups memory without fill port
+  pub memories : plain_memory groups memory with fill ≡ plain_memory groups memory without fill
 
 abbrev pub PlainRunPassesOver : Type 0
 PlainRunPassesOver =
     (groups : List GroupPairs) (memory : List ℕ) (fill : Filling) (before after : List Told) (group : ℕ) →
-    get_elem? groups group ≡ some emptyGroup →
+    get_elem? groups group ≡ some empty_group →
     PassesOver groups memory fill (before ++ record { call = Activate group; accepted = true } ∷ after) (before ++ after)
 
 -- Document 01 compares two lists that are "alike in table, opening memory, accepted activations and each port's accepted
 -- arguments". They may differ in activations of empty groups: it is enough that the others are the same, in the same order.
-abbrev pub hasAccess : Option GroupPairs → Bool
-hasAccess none = false
-hasAccess (some g) = ltb 0 (length g.loads + length g.stores)
+abbrev pub has_access : Option GroupPairs → Bool
+has_access none = false
+has_access (some g) = ltb 0 (length g.loads + length g.stores)
 
-abbrev pub activationsWithAccess : List GroupPairs → List Told → List ℕ
-activationsWithAccess groups ts = keepWhere (λ (group : ℕ). hasAccess (get_elem? groups group)) (gather activationOf ts)
+abbrev pub activations_with_access : List GroupPairs → List Told → List ℕ
+activations_with_access groups ts = keep_where (λ (group : ℕ). has_access (get_elem? groups group)) (gather activation_of ts)
 
 pub record AlikeButForEmpty (groups : List GroupPairs) (a b : List Told) : Type 0 where
-  pub activations : activationsWithAccess groups a ≡ activationsWithAccess groups b
+  pub activations : activations_with_access groups a ≡ activations_with_access groups b
   pub arguments : (kind : Argument) (port : ℕ) → rows_of a kind port ≡ rows_of b kind port
 
 -- so a port's nth take gives the same value, where both have one
@@ -60,8 +60,8 @@ abbrev pub ListsAlikeButForEmpty : Type 0
 ListsAlikeButForEmpty =
     (groups : List GroupPairs) (memory : List ℕ) (m₁ m₂ : Machine) → Opening groups memory m₁ → Opening groups memory m₂ →
     (calls₁ calls₂ : List Call) → AlikeButForEmpty groups (told (answers m₁ calls₁)) (told (answers m₂ calls₂)) →
-    (port n v w : ℕ) → get_elem? (takenAt port (answers m₁ calls₁)) n ≡ some v →
-    get_elem? (takenAt port (answers m₂ calls₂)) n ≡ some w → v ≡ w
+    (port n v w : ℕ) → get_elem? (taken_at port (answers m₁ calls₁)) n ≡ some v →
+    get_elem? (taken_at port (answers m₂ calls₂)) n ≡ some w → v ≡ w
 
 -- the same of runs of records, whose tables mean the same groups
 abbrev pub RecordsAlikeButForEmpty : Type 0
@@ -71,11 +71,11 @@ RecordsAlikeButForEmpty =
     (calls₁ calls₂ : List Call) (log₁ log₂ : List Answered) (q₁ q₂ : Queue) (left₁ left₂ : List ℕ) →
     Runs o₁.queue memory calls₁ log₁ q₁ left₁ → Runs o₂.queue memory calls₂ log₂ q₂ left₂ →
     AlikeButForEmpty (groups_of table₁) (told log₁) (told log₂) →
-    (port n v w : ℕ) → get_elem? (takenAt port log₁) n ≡ some v → get_elem? (takenAt port log₂) n ≡ some w → v ≡ w
+    (port n v w : ℕ) → get_elem? (taken_at port log₁) n ≡ some v → get_elem? (taken_at port log₂) n ≡ some w → v ≡ w
 
 -- each accepted activation of a list was of an empty group
 abbrev pub OnlyEmpty : List GroupPairs → List Answered → Type 0
-OnlyEmpty groups log = Each (λ (group : ℕ). get_elem? groups group ≡ some emptyGroup) (gather activationOf (told log))
+OnlyEmpty groups log = Each (λ (group : ℕ). get_elem? groups group ≡ some empty_group) (gather activation_of (told log))
 
 -- a queue holds no entry
 pub record NoEntry (q : Contents) : Type 0 where
@@ -88,7 +88,7 @@ abbrev pub OnlyEmptyHoldsNone : Type 0
 OnlyEmptyHoldsNone =
     (groups : List GroupPairs) (memory : List ℕ) (m : Machine) → Opening groups memory m →
     (calls : List Call) → OnlyEmpty groups (answers m calls) →
-    NoEntry (machineAfter m calls).queue × (machineAfter m calls ≡ m)
+    NoEntry (machine_after m calls).queue × (machine_after m calls ≡ m)
 
 -- the same of every run of records
 abbrev pub OnlyEmptyRecords : Type 0
@@ -96,18 +96,18 @@ OnlyEmptyRecords =
     (table : Table) (memory : List ℕ) (o : Opened) → OpenedRecord table memory o →
     (calls : List Call) (log : List Answered) (q : Queue) (left : List ℕ) → Runs o.queue memory calls log q left →
     OnlyEmpty (groups_of table) log →
-    NoEntry (contentsOf q) × (machine_of q left ≡ machine_of o.queue memory)
+    NoEntry (contents_of q) × (machine_of q left ≡ machine_of o.queue memory)
 
 -- and of every list of calls on parts
 abbrev pub OnlyEmptyParts : Type 0
 OnlyEmptyParts =
-    (table : Table) (loadDepth storeDepth first : ℕ) (memory : List ℕ) (o : OpenedFrame) → first < 2 ^ 32 →
+    (table : Table) (load_depth store_depth first : ℕ) (memory : List ℕ) (o : OpenedFrame) → first < 2 ^ 32 →
     OpensFrame
-    (freshFrame table loadDepth storeDepth first (length memory))
-    (openQueue (groups_of table) loadDepth storeDepth first (length memory))
+    (fresh_frame table load_depth store_depth first (length memory))
+    (open_queue (groups_of table) load_depth store_depth first (length memory))
     o → o.answer ≡ 0 →
     (loads stores : List ℕ) → length loads ≡ 64 → length stores ≡ 64 →
     (calls : List Call) (log : List Answered) (q : Queue) (left : List ℕ) →
-    RunsOnParts (queueOf o.frame loads stores) memory calls log q left →
+    RunsOnParts (queue_of o.frame loads stores) memory calls log q left →
     OnlyEmpty (groups_of table) log →
-    NoEntry (contentsOf q) × (machine_of q left ≡ machine_of (queueOf o.frame loads stores) memory)
+    NoEntry (contents_of q) × (machine_of q left ≡ machine_of (queue_of o.frame loads stores) memory)

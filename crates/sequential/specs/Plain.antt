@@ -16,43 +16,43 @@ pub record Told : Type 0 where
   pub accepted : Bool
 
 -- What `part` picks out of each accepted call, in list order.
-abbrev pub consOption : {A : Type 0} → Option A → List A → List A
-consOption none rest = rest
-consOption (some a) rest = a ∷ rest
+abbrev pub cons_option : {A : Type 0} → Option A → List A → List A
+cons_option none rest = rest
+cons_option (some a) rest = a ∷ rest
 
 abbrev pub gather : {A : Type 0} → (Call → Option A) → List Told → List A
 gather part [] = []
-gather part (t ∷ ts) = pick t.accepted (consOption (part t.call) (gather part ts)) (gather part ts)
+gather part (t ∷ ts) = pick t.accepted (cons_option (part t.call) (gather part ts)) (gather part ts)
 
 -- the group of an activation
-abbrev pub activationOf : Call → Option ℕ
-activationOf (Activate g) = some g
-activationOf (Give kind p x) = none
-activationOf (Serve c s) = none
-activationOf (Write s) = none
-activationOf (Take p) = none
-activationOf (Ready kind run) = none
+abbrev pub activation_of : Call → Option ℕ
+activation_of (Activate g) = some g
+activation_of (Give kind p x) = none
+activation_of (Serve c s) = none
+activation_of (Write s) = none
+activation_of (Take p) = none
+activation_of (Ready kind run) = none
 
 -- is it this kind of argument
-abbrev pub sameKind : Argument → Argument → Bool
-sameKind LoadAddress LoadAddress = true
-sameKind LoadAddress StoreAddress = false
-sameKind LoadAddress StoreData = false
-sameKind StoreAddress LoadAddress = false
-sameKind StoreAddress StoreAddress = true
-sameKind StoreAddress StoreData = false
-sameKind StoreData LoadAddress = false
-sameKind StoreData StoreAddress = false
-sameKind StoreData StoreData = true
+abbrev pub same_kind : Argument → Argument → Bool
+same_kind LoadAddress LoadAddress = true
+same_kind LoadAddress StoreAddress = false
+same_kind LoadAddress StoreData = false
+same_kind StoreAddress LoadAddress = false
+same_kind StoreAddress StoreAddress = true
+same_kind StoreAddress StoreData = false
+same_kind StoreData LoadAddress = false
+same_kind StoreData StoreAddress = false
+same_kind StoreData StoreData = true
 
 -- the argument of this kind for this port
-abbrev pub argumentOf : Argument → ℕ → Call → Option ℕ
-argumentOf kind port (Activate g) = none
-argumentOf kind port (Give k p x) = pick (sameKind k kind && eqb p port) (some x) none
-argumentOf kind port (Serve c s) = none
-argumentOf kind port (Write s) = none
-argumentOf kind port (Take p) = none
-argumentOf kind port (Ready k run) = none
+abbrev pub argument_of : Argument → ℕ → Call → Option ℕ
+argument_of kind port (Activate g) = none
+argument_of kind port (Give k p x) = pick (same_kind k kind && eqb p port) (some x) none
+argument_of kind port (Serve c s) = none
+argument_of kind port (Write s) = none
+argument_of kind port (Take p) = none
+argument_of kind port (Ready k run) = none
 
 -- "First it gathers rows in list order: accepted addresses for each load port, accepted addresses and accepted data for each
 -- store port." A row for each kind of argument and each port.
@@ -60,19 +60,19 @@ abbrev pub Rows : Type 0
 Rows = Argument → ℕ → List ℕ
 
 abbrev pub rows_of : List Told → Rows
-rows_of ts kind port = gather (argumentOf kind port) ts
+rows_of ts kind port = gather (argument_of kind port) ts
 
 -- "It goes through the accepted activations in list order, and through each group's accesses in program order."
-abbrev pub accessesOf : Option GroupPairs → List Access
-accessesOf none = []
-accessesOf (some g) = order g
+abbrev pub accesses_of : Option GroupPairs → List Access
+accesses_of none = []
+accesses_of (some g) = order g
 
-abbrev pub inOrder : List GroupPairs → List ℕ → List Access
-inOrder groups [] = []
-inOrder groups (g ∷ gs) = accessesOf (get_elem? groups g) ++ inOrder groups gs
+abbrev pub in_order : List GroupPairs → List ℕ → List Access
+in_order groups [] = []
+in_order groups (g ∷ gs) = accesses_of (get_elem? groups g) ++ in_order groups gs
 
 abbrev pub accesses : List GroupPairs → List Told → List Access
-accesses groups ts = inOrder groups (gather activationOf ts)
+accesses groups ts = in_order groups (gather activation_of ts)
 
 -- "Where a row has run out, any address below the memory length, or any word, is filled in, each chosen freely": what is
 -- chosen for the run's kth access.
@@ -86,8 +86,8 @@ next_of [] filled = filled
 next_of (x ∷ xs) filled = x
 
 -- the rows with the next of this kind and port used up
-abbrev pub usedUp : Argument → ℕ → Rows → Rows
-usedUp kind port rows k p = pick (sameKind k kind && eqb p port) (tail (rows k p)) (rows k p)
+abbrev pub used_up : Argument → ℕ → Rows → Rows
+used_up kind port rows k p = pick (same_kind k kind && eqb p port) (tail (rows k p)) (rows k p)
 
 -- What a word of the run's memory is to a reading of the run: `beyond` is read past the memory's end, and a store leaves `put k w`, k
 -- being its number among the run's accesses and w its data.
@@ -96,8 +96,8 @@ pub record Reading (A : Type 0) : Type 0 where
   pub put : ℕ → ℕ → A
 
 -- The plain run reads words; the crate `origins` reads where they come from.
-abbrev pub wordReading : Reading ℕ
-wordReading = record { beyond = 0; put = λ k w. w }
+abbrev pub word_reading : Reading ℕ
+word_reading = record { beyond = 0; put = λ k w. w }
 
 -- "Its state is then a memory and what is left of the rows."
 pub record PlainState (A : Type 0) : Type 0 where
@@ -110,8 +110,8 @@ pub record PortValue (A : Type 0) : Type 0 where
   pub value : A
 
 -- "A load uses up the next address of its port's row ..
-abbrev pub afterLoad : {A : Type 0} → PlainState A → ℕ → PlainState A
-afterLoad s port = record { memory = s.memory; rows = usedUp LoadAddress port s.rows }
+abbrev pub after_load : {A : Type 0} → PlainState A → ℕ → PlainState A
+after_load s port = record { memory = s.memory; rows = used_up LoadAddress port s.rows }
 
 module _ {A : Type 0} (reading : Reading A) (fill : Filling) where
   -- .. the memory word there is the next value its port loads."
@@ -122,32 +122,32 @@ module _ {A : Type 0} (reading : Reading A) (fill : Filling) where
   abbrev pub afterStore : ℕ → PlainState A → ℕ → PlainState A
   afterStore k s port = record {
     memory = set s.memory (next_of (s.rows StoreAddress port) (fill.address k)) (reading.put k (next_of (s.rows StoreData port) (fill.word k)));
-    rows = usedUp StoreData port (usedUp StoreAddress port s.rows);
+    rows = used_up StoreData port (used_up StoreAddress port s.rows);
   }
 
   -- The values loaded, and the memory at the end, of the accesses from the kth on.
   abbrev pub valuesFrom : ℕ → PlainState A → List Access → List (PortValue A)
   valuesFrom k s [] = []
-  valuesFrom k s (load p ∷ rest) = record { port = p.port; value = loaded_at k s p.port } ∷ valuesFrom (suc k) (afterLoad s p.port) rest
+  valuesFrom k s (load p ∷ rest) = record { port = p.port; value = loaded_at k s p.port } ∷ valuesFrom (suc k) (after_load s p.port) rest
   valuesFrom k s (store p ∷ rest) = valuesFrom (suc k) (afterStore k s p.port) rest
 
   abbrev pub memoryFrom : ℕ → PlainState A → List Access → List A
   memoryFrom k s [] = s.memory
-  memoryFrom k s (load p ∷ rest) = memoryFrom (suc k) (afterLoad s p.port) rest
+  memoryFrom k s (load p ∷ rest) = memoryFrom (suc k) (after_load s p.port) rest
   memoryFrom k s (store p ∷ rest) = memoryFrom (suc k) (afterStore k s p.port) rest
 
 -- the run's beginning: the opening memory and all the rows
-abbrev pub plainStart : {A : Type 0} → List A → List Told → PlainState A
-plainStart memory ts = record { memory = memory; rows = rows_of ts }
+abbrev pub plain_start : {A : Type 0} → List A → List Told → PlainState A
+plain_start memory ts = record { memory = memory; rows = rows_of ts }
 
 -- of the values loaded, those of a port, in order
-abbrev pub valuesAt : {A : Type 0} → ℕ → List (PortValue A) → List A
-valuesAt port [] = []
-valuesAt port (l ∷ ls) = pick (eqb l.port port) (l.value ∷ valuesAt port ls) (valuesAt port ls)
+abbrev pub values_at : {A : Type 0} → ℕ → List (PortValue A) → List A
+values_at port [] = []
+values_at port (l ∷ ls) = pick (eqb l.port port) (l.value ∷ values_at port ls) (values_at port ls)
 
 -- The plain run: the values that a port loads, in order, and the memory that it leaves.
-unfoldable pub plainLoads : List GroupPairs → List ℕ → List Told → Filling → ℕ → List ℕ
-plainLoads groups memory ts fill port = valuesAt port (valuesFrom wordReading fill 0 (plainStart memory ts) (accesses groups ts))
+unfoldable pub plain_loads : List GroupPairs → List ℕ → List Told → Filling → ℕ → List ℕ
+plain_loads groups memory ts fill port = values_at port (valuesFrom word_reading fill 0 (plain_start memory ts) (accesses groups ts))
 
-unfoldable pub plainMemory : List GroupPairs → List ℕ → List Told → Filling → List ℕ
-plainMemory groups memory ts fill = memoryFrom wordReading fill 0 (plainStart memory ts) (accesses groups ts)
+unfoldable pub plain_memory : List GroupPairs → List ℕ → List Told → Filling → List ℕ
+plain_memory groups memory ts fill = memoryFrom word_reading fill 0 (plain_start memory ts) (accesses groups ts)

@@ -15,39 +15,39 @@ use Rattle.number.specs.Number.{Puts, PutIfFits, unwritten}
 use Rattle.number.specs.Texts.{bytes, decimal}
 use Rattle.number.proofs.SpliceLaws.{put-at}
 use Rattle.number.proofs.PutLaws.{puts-length, puts-puts}
-use Rattle.number.specs.Refusal.{pageTooShort}
+use Rattle.number.specs.Refusal.{page_too_short}
 use Rattle.shift.specs.declared.ShiftRecord.{ShiftRecord}
-use Rattle.shift.specs.Record.{takesOf}
-use Rattle.shift.specs.Page.{blanks, padLeft, header, footer, portLine, portLines, up_from, withLineFeed}
-use Rattle.shift.specs.Page.{valueOrZero, valueShown, page, pageBytes, pageWritten}
-use Rattle.shift.proofs.DigitLaws.{right-wide}
+use Rattle.shift.specs.Record.{takes_of}
+use Rattle.shift.specs.Page.{blanks, pad_left, header, footer, port_line, port_lines, up_from, with_line_feed}
+use Rattle.shift.specs.Page.{value_or_zero, value_shown, page, page_bytes, page_written}
+use Rattle.shift.proofs.DigitLaws.{right_wide}
 
 -- ---- how wide the fields are
-pub port-wide : (port : ℕ) → port < 32 → length (padLeft 2 (decimal port)) ≡ 2
-port-wide port h = right-wide 2 port (omega arith) (omega arith)
+pub port-wide : (port : ℕ) → port < 32 → length (pad_left 2 (decimal port)) ≡ 2
+port-wide port h = right_wide 2 port (omega arith) (omega arith)
 
-pub number-wide : (n : ℕ) → n < 2 ^ 32 → length (padLeft 10 (decimal n)) ≡ 10
-number-wide n h = right-wide 10 n (omega arith) (omega arith)
+pub number_wide : (n : ℕ) → n < 2 ^ 32 → length (pad_left 10 (decimal n)) ≡ 10
+number_wide n h = right_wide 10 n (omega arith) (omega arith)
 
-pub shown-small : (takes value : ℕ) → value < 2 ^ 32 → valueOrZero takes value < 2 ^ 32
+pub shown-small : (takes value : ℕ) → value < 2 ^ 32 → value_or_zero takes value < 2 ^ 32
 shown-small takes value h = go (eqb takes 0)
   where
     go : (t : Bool) → pick t 0 value < 2 ^ 32
     go true = omega arith
     go false = h
 
-five-long : (a b c d e : List ℕ) → length (a ++ b ++ c ++ d ++ e) ≡ length a + length b + length c + length d + length e
-five-long a b c d e =
+five_long : (a b c d e : List ℕ) → length (a ++ b ++ c ++ d ++ e) ≡ length a + length b + length c + length d + length e
+five_long a b c d e =
     omega (arith, length-append (a ++ b ++ c ++ d) e, length-append (a ++ b ++ c) d, length-append (a ++ b) c, length-append a b)
 
-pub line-wide : (port takes value : ℕ) → port < 32 → takes < 2 ^ 32 → value < 2 ^ 32 → length (portLine port takes value) ≡ 40
+pub line-wide : (port takes value : ℕ) → port < 32 → takes < 2 ^ 32 → value < 2 ^ 32 → length (port_line port takes value) ≡ 40
 line-wide port takes value h k l =
-    five-long (padLeft 2 (decimal port)) (blanks 4) (padLeft 10 (decimal takes)) (blanks 14) (padLeft 10 (decimal value))
-    ∙ rw (port-wide port h, number-wide takes k, number-wide value l)
+    five_long (pad_left 2 (decimal port)) (blanks 4) (pad_left 10 (decimal takes)) (blanks 14) (pad_left 10 (decimal value))
+    ∙ rw (port-wide port h, number_wide takes k, number_wide value l)
 
 -- and its line feed
-pub line-feed-wide : (line : List ℕ) → length (withLineFeed line) ≡ length line + 1
-line-feed-wide line = length-append line (bytes "\n")
+pub line_feed_wide : (line : List ℕ) → length (with_line_feed line) ≡ length line + 1
+line_feed_wide line = length-append line (bytes "\n")
 
 -- ---- so many bytes are put
 pub record PutsMany (d : List ℕ) (p : ℕ) (xs : List ℕ) (many e : ℕ) (out : List ℕ) : Type 0 where
@@ -79,23 +79,23 @@ module _ {d : List ℕ} {p : ℕ} {xs : List ℕ} {many e : ℕ} {out : List ℕ
   many-as h = rw (← h) w
 
 -- ---- the lines of the first ports
-abbrev pub linesTo : (ℕ → ℕ) → (ℕ → ℕ) → ℕ → List ℕ
-linesTo takes values k = flat_map withLineFeed (map (λ (port : ℕ). portLine port (takes port) (values port)) (up_from 0 k))
+abbrev pub lines_to : (ℕ → ℕ) → (ℕ → ℕ) → ℕ → List ℕ
+lines_to takes values k = flat_map with_line_feed (map (λ (port : ℕ). port_line port (takes port) (values port)) (up_from 0 k))
 
-flat-from : (f : ℕ → List ℕ) (n k : ℕ)
-    → flat_map withLineFeed (map f (up_from n (suc k))) ≡ flat_map withLineFeed (map f (up_from n k)) ++ withLineFeed (f (n + k))
-flat-from f n zero = append-nil (withLineFeed (f n)) ∙ ap (λ (i : ℕ). withLineFeed (f i)) (sym (add-zero n))
-flat-from f n (suc k) =
+flat_from : (f : ℕ → List ℕ) (n k : ℕ)
+    → flat_map with_line_feed (map f (up_from n (suc k))) ≡ flat_map with_line_feed (map f (up_from n k)) ++ with_line_feed (f (n + k))
+flat_from f n zero = append-nil (with_line_feed (f n)) ∙ ap (λ (i : ℕ). with_line_feed (f i)) (sym (add-zero n))
+flat_from f n (suc k) =
     let e : suc n + k ≡ n + suc k = omega arith in
-    ap (λ (l : List ℕ). withLineFeed (f n) ++ l)
-    (flat-from f (suc n) k ∙ ap (λ (i : ℕ). flat_map withLineFeed (map f (up_from (suc n) k)) ++ withLineFeed (f i)) e)
-    ∙ sym (append_assoc (withLineFeed (f n)) (flat_map withLineFeed (map f (up_from (suc n) k))) (withLineFeed (f (n + suc k))))
+    ap (λ (l : List ℕ). with_line_feed (f n) ++ l)
+    (flat_from f (suc n) k ∙ ap (λ (i : ℕ). flat_map with_line_feed (map f (up_from (suc n) k)) ++ with_line_feed (f i)) e)
+    ∙ sym (append_assoc (with_line_feed (f n)) (flat_map with_line_feed (map f (up_from (suc n) k))) (with_line_feed (f (n + suc k))))
 
 pub lines_next : (takes values : ℕ → ℕ) (k : ℕ)
-    → linesTo takes values (k + 1) ≡ linesTo takes values k ++ withLineFeed (portLine k (takes k) (values k))
+    → lines_to takes values (k + 1) ≡ lines_to takes values k ++ with_line_feed (port_line k (takes k) (values k))
 lines_next takes values k =
-    ap (linesTo takes values) (add-one k) ∙ flat-from (λ (port : ℕ). portLine port (takes port) (values port)) 0 k
-    ∙ ap (λ (i : ℕ). linesTo takes values k ++ withLineFeed (portLine i (takes i) (values i))) (zero-add k)
+    ap (lines_to takes values) (add-one k) ∙ flat_from (λ (port : ℕ). port_line port (takes port) (values port)) 0 k
+    ∙ ap (λ (i : ℕ). lines_to takes values k ++ with_line_feed (port_line i (takes i) (values i))) (zero-add k)
 
 -- ---- the whole page
 flat_append : {A : Type 0} (f : A → List ℕ) (xs ys : List A) → flat_map f (xs ++ ys) ≡ flat_map f xs ++ flat_map f ys
@@ -103,19 +103,19 @@ flat_append f [] ys = refl
 flat_append f (x ∷ xs) ys = ap (λ (l : List ℕ). f x ++ l) (flat_append f xs ys) ∙ sym (append_assoc (f x) (flat_map f xs) (flat_map f ys))
 
 -- its parts, one behind the other
-pub page-parts : (r : ShiftRecord) → page r ≡ withLineFeed header ++ flat_map withLineFeed (portLines (takesOf r) (valueShown r)) ++ withLineFeed footer
+pub page-parts : (r : ShiftRecord) → page r ≡ with_line_feed header ++ flat_map with_line_feed (port_lines (takes_of r) (value_shown r)) ++ with_line_feed footer
 unfolding page
 page-parts r =
-    let lines = portLines (takesOf r) (valueShown r) in
-    let last = ap (λ (l : List ℕ). flat_map withLineFeed lines ++ l) (append-nil (withLineFeed footer)) in
-    ap (λ (l : List ℕ). withLineFeed header ++ l) (flat_append withLineFeed lines (footer ∷ []) ∙ last)
-    ∙ sym (append_assoc (withLineFeed header) (flat_map withLineFeed lines) (withLineFeed footer))
+    let lines = port_lines (takes_of r) (value_shown r) in
+    let last = ap (λ (l : List ℕ). flat_map with_line_feed lines ++ l) (append-nil (with_line_feed footer)) in
+    ap (λ (l : List ℕ). with_line_feed header ++ l) (flat_append with_line_feed lines (footer ∷ []) ∙ last)
+    ∙ sym (append_assoc (with_line_feed header) (flat_map with_line_feed lines) (with_line_feed footer))
 
-pub written-short : (r : ShiftRecord) (buffer : List ℕ) → length buffer < pageBytes → pageWritten r buffer ≡ unwritten pageTooShort buffer
-unfolding pageWritten
-written-short r buffer h = rw (lt-leb pageBytes (length buffer) h)
+pub written-short : (r : ShiftRecord) (buffer : List ℕ) → length buffer < page_bytes → page_written r buffer ≡ unwritten page_too_short buffer
+unfolding page_written
+written-short r buffer h = rw (lt-leb page_bytes (length buffer) h)
 
-pub written-fits : (r : ShiftRecord) (buffer : List ℕ) → pageBytes ≤ length buffer
-    → pageWritten r buffer ≡ record { answer = accept pageBytes; buffer = page r ++ drop pageBytes buffer }
-unfolding pageWritten
-written-fits r buffer h = rw (le-leb pageBytes (length buffer) h)
+pub written-fits : (r : ShiftRecord) (buffer : List ℕ) → page_bytes ≤ length buffer
+    → page_written r buffer ≡ record { answer = accept page_bytes; buffer = page r ++ drop page_bytes buffer }
+unfolding page_written
+written-fits r buffer h = rw (le-leb page_bytes (length buffer) h)

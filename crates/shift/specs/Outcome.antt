@@ -5,27 +5,27 @@ use Rattle.queue.specs.declared.Queue.{Queue}
 use Rattle.queue.specs.declared.Outcome.{Outcome}
 use Rattle.number.specs.Reply.{Reply, refuse, accept}
 use Rattle.queue.specs.Take.{Taken}
-use Rattle.queue.specs.Outcome.{handed, noValue, Accepted}
+use Rattle.queue.specs.Outcome.{handed, no_value, Accepted}
 use Rattle.shift.specs.declared.ShiftRecord.{ShiftRecord}
 use Rattle.shift.specs.declared.Recorded.{Recorded}
 use Rattle.shift.specs.Record.{recorded}
 
 -- what it hands back but the record
-abbrev pub withoutRecord : Recorded → Outcome
-withoutRecord r = record { answer = r.answer; value = r.value; queue = r.queue }
+abbrev pub without_record : Recorded → Outcome
+without_record r = record { answer = r.answer; value = r.value; queue = r.queue }
 
-abbrev pub withRecord : Outcome → ShiftRecord → Recorded
-withRecord r kept = record { answer = r.answer; value = r.value; queue = r.queue; kept = kept }
+abbrev pub with_record : Outcome → ShiftRecord → Recorded
+with_record r kept = record { answer = r.answer; value = r.value; queue = r.queue; kept = kept }
 
 -- A refused take hands back the very queue and the very record that it was handed.
 pub record Unrecorded (q : Queue) (kept : ShiftRecord) (n : ℕ) (r : Recorded) : Type 0 where
-  pub outcome : handed (withoutRecord r) ≡ noValue n q
-  pub kept-is : r.kept ≡ kept
+  pub outcome : handed (without_record r) ≡ no_value n q
+  pub kept_is : r.kept ≡ kept
 
 -- An accepted one hands back what take does, and the record with this port's two numbers changed.
 pub record RecordedWell (kept : ShiftRecord) (port : ℕ) (t : Taken) (r : Recorded) : Type 0 where
-  pub outcome : Accepted (some t.value) t.queue (withoutRecord r)
-  pub kept-is : r.kept ≡ recorded port t.value kept
+  pub outcome : Accepted (some t.value) t.queue (without_record r)
+  pub kept_is : r.kept ≡ recorded port t.value kept
 
 abbrev pub TakesRecorded : Queue → ShiftRecord → ℕ → Reply Taken → Recorded → Type 0
 TakesRecorded q kept port (refuse n) r = Unrecorded q kept n r

@@ -3,8 +3,8 @@ ghost use Rattle.std.specs.Prelude.{◌≡◌, ◌+◌, ◌*◌, ◌≤◌, ◌<
 ghost use Rattle.number.specs.Basics.{pick, flat_map};
 ghost use Rattle.number.specs.Number.{HasWritten, Puts};
 ghost use Rattle.number.specs.Texts.{decimal};
-ghost use Rattle.shift.specs.Record.{takesOf};
-ghost use Rattle.shift.specs.Page.{padLeft, portLine, portLines, withLineFeed, valueOrZero, valueShown, pageWritten};
+ghost use Rattle.shift.specs.Record.{takes_of};
+ghost use Rattle.shift.specs.Page.{pad_left, port_line, port_lines, with_line_feed, value_or_zero, value_shown, page_written};
 
 use crate::ShiftRecord;
 use number::BytesWritten;
@@ -28,7 +28,7 @@ fn digit_or_blank(left: u64) -> u8
 // digit even where the number is 0, to the first.
 fn put_right(out: &mut [u8], at: usize, width: usize, n: u64) -> usize
     requires { (0 < width) × (n < 10 ^ width) × (at + width ≤ length out.old) }
-    ensures { Puts out.old at (padLeft width (decimal n)) result out.new }
+    ensures { Puts out.old at (pad_left width (decimal n)) result out.new }
 {
     let end = at + width;
     let mut place = end - 1;
@@ -44,7 +44,7 @@ fn put_right(out: &mut [u8], at: usize, width: usize, n: u64) -> usize
 
 // A port that took nothing shows 0, whatever its value is.
 fn value_or_zero(takes: u32, value: u32) -> u32
-    ensures { result ≡ valueOrZero takes value }
+    ensures { result ≡ value_or_zero takes value }
 {
     if takes == 0 {
         return 0;
@@ -55,7 +55,7 @@ fn value_or_zero(takes: u32, value: u32) -> u32
 // Puts a port's line: the port in columns 1 to 2, its takes in 7 to 16, the value that it shows in 31 to 40.
 fn put_port(out: &mut [u8], at: usize, port: u64, takes: u32, value: u32) -> usize
     requires { (port < 32) × (at + 41 ≤ length out.old) }
-    ensures { Puts out.old at (withLineFeed (portLine port takes (valueOrZero takes value))) result out.new × (result ≡ at + 41) }
+    ensures { Puts out.old at (with_line_feed (port_line port takes (value_or_zero takes value))) result out.new × (result ≡ at + 41) }
 {
     let place = put_right(out, at, 2, port);
     let place = put_bytes(out, place, b"    ");
@@ -68,7 +68,7 @@ fn put_port(out: &mut [u8], at: usize, port: u64, takes: u32, value: u32) -> usi
 // Puts the lines of all ports.
 fn put_ports(out: &mut [u8], at: usize, kept: ShiftRecord) -> usize
     requires { at + 41 * 32 ≤ length out.old }
-    ensures { Puts out.old at (flat_map withLineFeed (portLines (takesOf kept) (valueShown kept))) result out.new
+    ensures { Puts out.old at (flat_map with_line_feed (port_lines (takes_of kept) (value_shown kept))) result out.new
         × (result ≡ at + 41 * 32) }
 {
     let mut place = at;
@@ -82,7 +82,7 @@ fn put_ports(out: &mut [u8], at: usize, kept: ShiftRecord) -> usize
 
 // Writes the page of a record at the front of a buffer; 41 where the buffer is shorter than a page.
 pub fn write_page(kept: ShiftRecord, out: &mut [u8]) -> BytesWritten
-    ensures { HasWritten (pageWritten kept out.old) result out.new }
+    ensures { HasWritten (page_written kept out.old) result out.new }
 {
     if out.len() < PAGE_BYTES {
         return BytesWritten::Unwritten(PAGE_TOO_SHORT);

@@ -1,9 +1,9 @@
 // Keeping the record: "each accepted take updates a record".
 ghost use Rattle.std.specs.Prelude.{◌≡◌};
-ghost use Rattle.queue.specs.Contents.{contentsOf};
-ghost use Rattle.queue.specs.Take.{takeRule};
-ghost use Rattle.queue.specs.Outcome.{valueIn};
-ghost use Rattle.shift.specs.Record.{noTakes, oneMore, recorded, afterTake};
+ghost use Rattle.queue.specs.Contents.{contents_of};
+ghost use Rattle.queue.specs.Take.{take_rule};
+ghost use Rattle.queue.specs.Outcome.{value_in};
+ghost use Rattle.shift.specs.Record.{no_takes, one_more, recorded, after_take};
 ghost use Rattle.shift.specs.Outcome.{TakesRecorded};
 
 use crate::{Recorded, ShiftRecord};
@@ -11,7 +11,7 @@ use queue::{Queue, Value};
 
 // The record before any take.
 pub fn no_takes() -> ShiftRecord
-    ensures { result ≡ noTakes }
+    ensures { result ≡ no_takes }
 {
     ShiftRecord {
         takes: [0; 32],
@@ -21,7 +21,7 @@ pub fn no_takes() -> ShiftRecord
 
 // One take more. The count stops at 4294967295.
 fn one_more(takes: u32) -> u32
-    ensures { result ≡ oneMore takes }
+    ensures { result ≡ one_more takes }
 {
     if takes == 4294967295 {
         return takes;
@@ -46,7 +46,7 @@ pub fn recorded(kept: ShiftRecord, port: u32, value: u32) -> ShiftRecord
 
 // What a take leaves of the record: its value is recorded; a take that gave none was refused, and changes nothing.
 fn after_take(kept: ShiftRecord, port: u32, value: Value) -> ShiftRecord
-    ensures { result ≡ afterTake kept port (valueIn value) }
+    ensures { result ≡ after_take kept port (value_in value) }
 {
     match value {
         Value::Word(word) => recorded(kept, port, word),
@@ -56,7 +56,7 @@ fn after_take(kept: ShiftRecord, port: u32, value: Value) -> ShiftRecord
 
 // Takes the value of a port's oldest untaken load, and keeps the record of it: 40, 22, 33, 34.
 pub fn take_recorded(queue: Queue, kept: ShiftRecord, port: u32) -> Recorded
-    ensures { TakesRecorded queue kept port (takeRule (contentsOf queue) port) result }
+    ensures { TakesRecorded queue kept port (take_rule (contents_of queue) port) result }
 {
     let taken = queue.take(port);
     let value = taken.value;

@@ -5,7 +5,7 @@ use mathlib.Core.Path.{◌≡◌, refl}
 use mathlib.Core.List.{List, [], ◌∷◌, ◌++◌, map}
 use Rattle.table.specs.declared.Pair.{Pair}
 use Rattle.table.specs.declared.Span.{Span}
-use Rattle.table.specs.Packed.{pairIn, packedPair, spanIn, packedSpan, groupIn, packedGroup, SmallPair, SmallSpan}
+use Rattle.table.specs.Packed.{pair_in, packed_pair, span_in, packed_span, group_in, packed_group, SmallPair, SmallSpan}
 use Rattle.table.specs.Packed.{PairsReadBack, PackedPairsReadBack, GroupsReadBack, PackedGroupsReadBack}
 
 -- a byte below another
@@ -23,22 +23,22 @@ both n h =
     let e : n / 256 % 256 ≡ n / 256 = omega arith in
     rw e (omega arith)
 
-pub pairs-read-back : PairsReadBack
-unfolding pairIn packedPair
-pairs-read-back p s = rw (low p.offset p.port s.offset, high p.offset p.port s.offset s.port)
+pub pairs_read_back : PairsReadBack
+unfolding pair_in packed_pair
+pairs_read_back p s = rw (low p.offset p.port s.offset, high p.offset p.port s.offset s.port)
 
-pub packed-pairs-read-back : PackedPairsReadBack
-unfolding pairIn packedPair
-packed-pairs-read-back n h = both n (omega arith)
+pub packed_pairs_read_back : PackedPairsReadBack
+unfolding pair_in packed_pair
+packed_pairs_read_back n h = both n (omega arith)
 
 -- a span's number is one of sixteen bits, below what stands above it
-span_small : (s : Span) → SmallSpan s → packedSpan s < 65536
+span_small : (s : Span) → SmallSpan s → packed_span s < 65536
 span_small s h = omega (arith, h.first, h.count)
 
-span-back : (s : Span) → SmallSpan s → spanIn (packedSpan s) ≡ s
-span-back s h = rw (low s.first s.count h.first, high s.first s.count h.first h.count)
+span_back : (s : Span) → SmallSpan s → span_in (packed_span s) ≡ s
+span_back s h = rw (low s.first s.count h.first, high s.first s.count h.first h.count)
 
-span_below : (a b : ℕ) → spanIn (a + 65536 * b) ≡ spanIn a
+span_below : (a b : ℕ) → span_in (a + 65536 * b) ≡ span_in a
 span_below a b =
     let e : (a + 65536 * b) % 256 ≡ a % 256 = omega arith in
     let d : (a + 65536 * b) / 256 ≡ a / 256 + 256 * b = omega arith in
@@ -48,17 +48,17 @@ span_below a b =
 above : (a b : ℕ) → a < 65536 → (a + 65536 * b) / 65536 ≡ b
 above a b h = omega arith
 
-pub groups-read-back : GroupsReadBack
-unfolding groupIn packedGroup
-groups-read-back g l s =
-    let a = packedSpan g.loads in
-    let b = packedSpan g.stores in
+pub groups_read_back : GroupsReadBack
+unfolding group_in packed_group
+groups_read_back g l s =
+    let a = packed_span g.loads in
+    let b = packed_span g.stores in
     let h : a < 65536 = span_small g.loads l in
-    rw (above a b h, span_below a b, span-back g.loads l, span-back g.stores s)
+    rw (above a b h, span_below a b, span_back g.loads l, span_back g.stores s)
 
-pub packed-groups-read-back : PackedGroupsReadBack
-unfolding groupIn packedGroup
-packed-groups-read-back n h =
+pub packed_groups_read_back : PackedGroupsReadBack
+unfolding group_in packed_group
+packed_groups_read_back n h =
     let k : n / 65536 < 65536 = omega arith in
     let e : n % 256 ≡ n % 65536 % 256 = omega arith in
     let f : n / 256 % 256 ≡ n % 65536 / 256 % 256 =
@@ -75,9 +75,9 @@ abbrev pub AllSmall : List Pair → Type 0
 AllSmall [] = Unit {0}
 AllSmall (p ∷ ps) = SmallPair p × AllSmall ps
 
-pub all-read-back : (ps : List Pair) → AllSmall ps → map pairIn (map packedPair ps) ≡ ps
-all-read-back [] h = refl
-all-read-back (p ∷ ps) h = rw (pairs-read-back p h.0, all-read-back ps h.1)
+pub all_read_back : (ps : List Pair) → AllSmall ps → map pair_in (map packed_pair ps) ≡ ps
+all_read_back [] h = refl
+all_read_back (p ∷ ps) h = rw (pairs_read_back p h.0, all_read_back ps h.1)
 
 pub map-append : {A B : Type 0} (f : A → B) (xs ys : List A) → map f (xs ++ ys) ≡ map f xs ++ map f ys
 map-append f [] ys = refl

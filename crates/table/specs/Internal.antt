@@ -12,18 +12,18 @@ use Rattle.table.specs.declared.read.PairsRead.{PairsRead}
 use Rattle.table.specs.declared.read.GroupRead.{GroupRead}
 use Rattle.table.specs.declared.read.GroupsRead.{GroupsRead}
 use Rattle.number.specs.Reply.{Reply, refuse, accept, number}
-use Rattle.number.specs.Number.{Got, got, thenRead, readNumber, Reading, reading}
+use Rattle.number.specs.Number.{Got, got, then_read, read_number, Reading, reading}
 use Rattle.table.specs.TableBytes.{filled, pack}
-use Rattle.table.specs.Packed.{packedGroup}
+use Rattle.table.specs.Packed.{packed_group}
 use Rattle.number.specs.Basics.{pick}
 use Rattle.table.specs.Group.{GroupPairs, list_of, Inside}
-use Rattle.table.specs.Table.{loadRule, storeRule, checkPairs, seeing, Seen, seenAfter, checkGroup}
+use Rattle.table.specs.Table.{load_rule, store_rule, check_pairs, seeing, Seen, seen_after, check_group}
 
 -- ---- checking and reading a group's pairs
 
 -- the rule for the offsets of a group's pairs of one kind: a store's goes by the loads, a load's by the store count
-abbrev pub ruleOf : Bool → ℕ → List Pair → ℕ → ℕ → ℕ → Bool
-ruleOf storing stores loads low i offset = pick storing (storeRule loads low i offset) (loadRule stores low i offset)
+abbrev pub rule_of : Bool → ℕ → List Pair → ℕ → ℕ → ℕ → Bool
+rule_of storing stores loads low i offset = pick storing (store_rule loads low i offset) (load_rule stores low i offset)
 
 -- offsets that never fall, from `low` on
 abbrev pub Rising : ℕ → List Pair → Type 0
@@ -39,17 +39,17 @@ pub record RuleRight (storing : Bool) (stores : ℕ) (places : List ℕ) (loads 
 
 -- what checking pairs gives: their first fault and, where there is none, the marks after them
 pub record PairsChecked (rule : ℕ → ℕ → ℕ → Bool) (seen : List Bool) (ps : List Pair) (after : List Bool) (r : ℕ) : Type 0 where
-  pub answer : r ≡ number (checkPairs rule 0 0 seen ps)
+  pub answer : r ≡ number (check_pairs rule 0 0 seen ps)
   pub marks : r ≡ 0 → after ≡ seeing ps seen
 
 -- the ports that the marks say were seen
-abbrev pub seenIn : List Bool → List Bool → Seen
-seenIn loads stores = record { loads = loads; stores = stores }
+abbrev pub seen_in : List Bool → List Bool → Seen
+seen_in loads stores = record { loads = loads; stores = stores }
 
 -- the same of a group
 pub record GroupChecked (seen : Seen) (g : GroupPairs) (after : Seen) (r : ℕ) : Type 0 where
-  pub answer : r ≡ number (checkGroup seen g)
-  pub marks : r ≡ 0 → after ≡ seenAfter g seen
+  pub answer : r ≡ number (check_group seen g)
+  pub marks : r ≡ 0 → after ≡ seen_after g seen
 
 -- ---- reading a table
 
@@ -58,24 +58,24 @@ pub record Two : Type 0 where
   pub first : ℕ
   pub second : ℕ
 
-abbrev pub twoNumbers : ℕ → ℕ → Two
-twoNumbers x y = record { first = x; second = y }
+abbrev pub two_numbers : ℕ → ℕ → Two
+two_numbers x y = record { first = x; second = y }
 
-unfoldable pub readTwo : List ℕ → Reply (Got Two)
-readTwo s = thenRead (readNumber s) λ x s₁. thenRead (readNumber s₁) λ y s₂. accept (got (twoNumbers x y) s₂)
+unfoldable pub read_two : List ℕ → Reply (Got Two)
+read_two s = then_read (read_number s) λ x s₁. then_read (read_number s₁) λ y s₂. accept (got (two_numbers x y) s₂)
 
 -- the number and the values of each case of `TwoRead`
-abbrev pub twoReply : TwoRead → Reply (Reading Two)
-twoReply (TwoRead.Two x y next) = accept (reading (twoNumbers x y) next)
-twoReply (TwoRead.NoTwo k) = refuse k
+abbrev pub two_reply : TwoRead → Reply (Reading Two)
+two_reply (TwoRead.Two x y next) = accept (reading (two_numbers x y) next)
+two_reply (TwoRead.NoTwo k) = refuse k
 
 -- its number: 0 where both were read
-abbrev pub twoRefusal : TwoRead → ℕ
-twoRefusal read = number (twoReply read)
+abbrev pub two_refusal : TwoRead → ℕ
+two_refusal read = number (two_reply read)
 
 -- the ports that a record of marks says were seen
-abbrev pub seenOf : Ports → Seen
-seenOf p = seenIn p.loads p.stores
+abbrev pub seen_of : Ports → Seen
+seen_of p = seen_in p.loads p.stores
 
 -- what was read, and where the bytes after it begin
 pub record Finds {A : Type 0} (g : Reply (Got A)) (s : List ℕ) (next : ℕ) (Found : A → Type 0) : Type 0 where
@@ -93,28 +93,28 @@ pub record Tells {A : Type 0} (g : Reply (Got A)) (s : List ℕ) (answer next : 
 abbrev pub front : ℕ → Span
 front n = record { first = 0; count = n }
 
-abbrev pub pairsIn : Pairs → List Pair
-pairsIn ps = list_of ps.places (front ps.count)
+abbrev pub pairs_in : Pairs → List Pair
+pairs_in ps = list_of ps.places (front ps.count)
 
 -- the record of pairs that were read
-abbrev pub packPairs : List Pair → Pairs
-packPairs ps = record { count = length ps; places = filled ps }
+abbrev pub pack_pairs : List Pair → Pairs
+pack_pairs ps = record { count = length ps; places = filled ps }
 
-abbrev pub packGroup : GroupPairs → NewGroup
-packGroup g = record { loads = packPairs g.loads; stores = packPairs g.stores }
+abbrev pub pack_group : GroupPairs → NewGroup
+pack_group g = record { loads = pack_pairs g.loads; stores = pack_pairs g.stores }
 
 -- the record of the pairs that were read, and the marks after them
 pub record PairsFound (seen : List Bool) (r : PairsRead) (ps : List Pair) : Type 0 where
-  pub pairs : r.pairs ≡ packPairs ps
-  pub holds : pairsIn r.pairs ≡ ps
+  pub pairs : r.pairs ≡ pack_pairs ps
+  pub holds : pairs_in r.pairs ≡ ps
   pub marks : r.seen ≡ seeing ps seen
 
 abbrev pub PairsResult : List ℕ → List Bool → Reply (Got (List Pair)) → PairsRead → Type 0
 PairsResult s seen g r = Tells g s r.answer r.next (PairsFound seen r)
 
 -- the record of a group, made of what reading its loads and its stores gave
-abbrev pub groupMade : PairsRead → PairsRead → GroupRead
-groupMade l t = record {
+abbrev pub group_made : PairsRead → PairsRead → GroupRead
+group_made l t = record {
   answer = 0;
   next = t.next;
   group = record { loads = l.pairs; stores = t.pairs };
@@ -122,8 +122,8 @@ groupMade l t = record {
 }
 
 pub record GroupFound (seen : Seen) (r : GroupRead) (g : GroupPairs) : Type 0 where
-  pub group : r.group ≡ packGroup g
-  pub marks : seenOf r.seen ≡ seenAfter g seen
+  pub group : r.group ≡ pack_group g
+  pub marks : seen_of r.seen ≡ seen_after g seen
 
 abbrev pub GroupResult : List ℕ → Seen → Reply (Got GroupPairs) → GroupRead → Type 0
 GroupResult s seen g r = Tells g s r.answer r.next (GroupFound seen r)
@@ -134,8 +134,8 @@ GroupsResult s g r = Tells g s r.answer r.next (λ gs. r.table ≡ pack gs)
 -- there is room for a group behind those of a table, which have `loads` loads and `stores` stores
 pub record Growing (t : Table) (loads stores : ℕ) (g : NewGroup) : Type 0 where
   pub groups : t.count < 16
-  pub loads-room : loads + g.loads.count ≤ 32
-  pub stores-room : stores + g.stores.count ≤ 32
+  pub loads_room : loads + g.loads.count ≤ 32
+  pub stores_room : stores + g.stores.count ≤ 32
 
 abbrev pub put_in : List ℕ → ℕ → Pairs → List ℕ
 put_in places from ps = take from places ++ take ps.count ps.places ++ drop (from + ps.count) places
@@ -146,7 +146,7 @@ behind loads stores g = record { loads = record { first = loads; count = g.loads
 
 pub record Grown (t : Table) (loads stores : ℕ) (g : NewGroup) (r : Table) : Type 0 where
   pub count : r.count ≡ t.count + 1
-  pub groups : r.groups ≡ set t.groups t.count (packedGroup (behind loads stores g))
+  pub groups : r.groups ≡ set t.groups t.count (packed_group (behind loads stores g))
   pub loads-are : r.loads ≡ put_in t.loads loads g.loads
   pub stores-are : r.stores ≡ put_in t.stores stores g.stores
 

@@ -3,24 +3,24 @@
 -- counts of a group, and 8, 6, 7 of a pair, whose offset may be wrong. The proof is proofs/NumbersFirst.antt.
 use Rattle.std.specs.Prelude.{ℕ, suc, ◌≡◌, Bool, List}
 use Rattle.number.specs.Reply.{refuse, accept}
-use Rattle.number.specs.Number.{got, readNumber}
+use Rattle.number.specs.Number.{got, read_number}
 use Rattle.table.specs.Table.{Seen}
-use Rattle.table.specs.TableBytes.{readPairs, readGroup, readTable}
+use Rattle.table.specs.TableBytes.{read_pairs, read_group, read_table}
 
 pub record TableInOrder (s : List ℕ) : Type 0 where
-  pub fields : {k : ℕ} → readNumber s ≡ refuse k → readTable s ≡ refuse k
-  pub count : {k : ℕ} {s₁ : List ℕ} → readNumber s ≡ accept (got 2 s₁) → readNumber s₁ ≡ refuse k → readTable s ≡ refuse k
+  pub fields : {k : ℕ} → read_number s ≡ refuse k → read_table s ≡ refuse k
+  pub count : {k : ℕ} {s₁ : List ℕ} → read_number s ≡ accept (got 2 s₁) → read_number s₁ ≡ refuse k → read_table s ≡ refuse k
 
 pub record GroupInOrder (seen : Seen) (s : List ℕ) : Type 0 where
-  pub loads : {k : ℕ} → readNumber s ≡ refuse k → readGroup seen s ≡ refuse k
-  pub stores : {n k : ℕ} {s₁ : List ℕ} → readNumber s ≡ accept (got n s₁) → readNumber s₁ ≡ refuse k → readGroup seen s ≡ refuse k
+  pub loads : {k : ℕ} → read_number s ≡ refuse k → read_group seen s ≡ refuse k
+  pub stores : {n k : ℕ} {s₁ : List ℕ} → read_number s ≡ accept (got n s₁) → read_number s₁ ≡ refuse k → read_group seen s ≡ refuse k
 
 -- the next pair of those that are left to read
 pub record PairInOrder (rule : ℕ → ℕ → ℕ → Bool) (left low i : ℕ) (seen : List Bool) (s : List ℕ) : Type 0 where
-  pub offset : {k : ℕ} → readNumber s ≡ refuse k → readPairs rule (suc left) low i seen s ≡ refuse k
+  pub offset : {k : ℕ} → read_number s ≡ refuse k → read_pairs rule (suc left) low i seen s ≡ refuse k
   pub port :
-      {x k : ℕ} {s₁ : List ℕ} → readNumber s ≡ accept (got x s₁) → readNumber s₁ ≡ refuse k →
-      readPairs rule (suc left) low i seen s ≡ refuse k
+      {x k : ℕ} {s₁ : List ℕ} → read_number s ≡ accept (got x s₁) → read_number s₁ ≡ refuse k →
+      read_pairs rule (suc left) low i seen s ≡ refuse k
 
 abbrev pub TablesInOrder : Type 0
 TablesInOrder =

@@ -9,27 +9,27 @@ abbrev pub pair : ℕ → ℕ → Pair
 pair offset port = record { offset = offset; port = port }
 
 -- what a number holds: the offset in its lowest eight bits, the port in the next eight
-unfoldable pub pairIn : ℕ → Pair
-pairIn n = pair (n % 256) (n / 256 % 256)
+unfoldable pub pair_in : ℕ → Pair
+pair_in n = pair (n % 256) (n / 256 % 256)
 
 -- the number that holds a pair
-unfoldable pub packedPair : Pair → ℕ
-packedPair p = p.offset + 256 * p.port
+unfoldable pub packed_pair : Pair → ℕ
+packed_pair p = p.offset + 256 * p.port
 
 -- where accesses stand: the first one's place in the lowest eight bits, how many in the next eight
-abbrev pub spanIn : ℕ → Span
-spanIn n = record { first = n % 256; count = n / 256 % 256 }
+abbrev pub span_in : ℕ → Span
+span_in n = record { first = n % 256; count = n / 256 % 256 }
 
-abbrev pub packedSpan : Span → ℕ
-packedSpan s = s.first + 256 * s.count
+abbrev pub packed_span : Span → ℕ
+packed_span s = s.first + 256 * s.count
 
 -- a group: where its loads stand in the lowest sixteen bits, where its stores stand in the next sixteen
-unfoldable pub groupIn : ℕ → Group
-groupIn n = record { loads = spanIn n; stores = spanIn (n / 65536) }
+unfoldable pub group_in : ℕ → Group
+group_in n = record { loads = span_in n; stores = span_in (n / 65536) }
 
 -- the number that holds a group
-unfoldable pub packedGroup : Group → ℕ
-packedGroup g = packedSpan g.loads + 65536 * packedSpan g.stores
+unfoldable pub packed_group : Group → ℕ
+packed_group g = packed_span g.loads + 65536 * packed_span g.stores
 
 -- what a number has room for
 pub record SmallPair (p : Pair) : Type 0 where
@@ -43,13 +43,13 @@ pub record SmallSpan (s : Span) : Type 0 where
 -- Packing loses nothing: a pair of bytes is the one that its number holds, and a number of 16 bits is the one of its pair;
 -- so it is with groups and numbers of 32 bits (proofs/PackedLaws.antt).
 abbrev pub PairsReadBack : Type 0
-PairsReadBack = (p : Pair) → SmallPair p → pairIn (packedPair p) ≡ p
+PairsReadBack = (p : Pair) → SmallPair p → pair_in (packed_pair p) ≡ p
 
 abbrev pub PackedPairsReadBack : Type 0
-PackedPairsReadBack = (n : ℕ) → n < 2 ^ 16 → packedPair (pairIn n) ≡ n
+PackedPairsReadBack = (n : ℕ) → n < 2 ^ 16 → packed_pair (pair_in n) ≡ n
 
 abbrev pub GroupsReadBack : Type 0
-GroupsReadBack = (g : Group) → SmallSpan g.loads → SmallSpan g.stores → groupIn (packedGroup g) ≡ g
+GroupsReadBack = (g : Group) → SmallSpan g.loads → SmallSpan g.stores → group_in (packed_group g) ≡ g
 
 abbrev pub PackedGroupsReadBack : Type 0
-PackedGroupsReadBack = (n : ℕ) → n < 2 ^ 32 → packedGroup (groupIn n) ≡ n
+PackedGroupsReadBack = (n : ℕ) → n < 2 ^ 32 → packed_group (group_in n) ≡ n

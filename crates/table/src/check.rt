@@ -1,10 +1,10 @@
 // When a table is right: 4, 5, 8, 6, 7 in the order of checking.
 ghost use Rattle.std.specs.Prelude.{◌≡◌, ltb};
-ghost use Rattle.number.specs.Basics.{countWhere};
+ghost use Rattle.number.specs.Basics.{count_where};
 ghost use Rattle.number.specs.Reply.{number};
-ghost use Rattle.table.specs.Group.{list_of, pairsOf, beforeStore, Inside};
-ghost use Rattle.table.specs.Table.{countsRight, checkPair, checkTable, groupsIn, groups_of};
-ghost use Rattle.table.specs.Internal.{ruleOf, Rising, RuleRight, PairsChecked, seenIn, GroupChecked, GroupInside};
+ghost use Rattle.table.specs.Group.{list_of, pairs_of, before_store, Inside};
+ghost use Rattle.table.specs.Table.{counts_right, check_pair, check_table, groups_in, groups_of};
+ghost use Rattle.table.specs.Internal.{rule_of, Rising, RuleRight, PairsChecked, seen_in, GroupChecked, GroupInside};
 
 use crate::parts::{group_at, unpack_pair};
 use crate::{Group, Span, Table};
@@ -13,7 +13,7 @@ use number::refusal::{BAD_COUNTS, BAD_GROUP_COUNT, BAD_OFFSET, BAD_PORT, PORT_SE
 // Do more than n loads come before store i? Their offsets never fall, so it is enough to look at load n.
 fn more_before(places: &[u16; 32], loads: Span, n: u32, i: u32) -> bool
     requires { Inside loads × Rising 0 (list_of places.now loads) }
-    ensures { result ≡ ltb n (countWhere (beforeStore i) (list_of places.now loads)) }
+    ensures { result ≡ ltb n (count_where (before_store i) (list_of places.now loads)) }
 {
     if loads.count as u32 <= n {
         return false;
@@ -34,7 +34,7 @@ pub(crate) fn offset_right(
     offset: u32,
 ) -> bool
     requires { RuleRight storing stores places.now loads }
-    ensures { result ≡ ruleOf storing stores (list_of places.now loads) low i offset }
+    ensures { result ≡ rule_of storing stores (list_of places.now loads) low i offset }
 {
     if storing {
         if more_before(places, loads, offset, i) {
@@ -53,7 +53,7 @@ pub(crate) fn offset_right(
 
 // A pair's first fault, or 0. The marks are lent: a copy for each pair would cost more than the test.
 pub(crate) fn pair_fault(right: bool, seen: &[bool; 32], port: u32) -> u8
-    ensures { result ≡ number (checkPair right seen.now port) }
+    ensures { result ≡ number (check_pair right seen.now port) }
 {
     if !right {
         return BAD_OFFSET;
@@ -79,7 +79,7 @@ fn check_pairs<'a>(
     seen: &mut [bool; 32],
 ) -> u8
     requires { RuleRight storing stores load_places.now loads × Inside pairs }
-    ensures { PairsChecked (ruleOf storing stores (list_of load_places.now loads)) seen.old
+    ensures { PairsChecked (rule_of storing stores (list_of load_places.now loads)) seen.old
         (list_of places.now pairs) seen.new result }
 {
     let first = pairs.first as usize;
@@ -105,7 +105,7 @@ fn check_pairs<'a>(
 
 // A group's counts are each 0 to 16; an empty group has none of either.
 pub(crate) fn counts_right(loads: u32, stores: u32) -> bool
-    ensures { result ≡ countsRight loads stores }
+    ensures { result ≡ counts_right loads stores }
 {
     if 16 < loads {
         return false;
@@ -122,8 +122,8 @@ fn check_group<'a>(
     seen_stores: &mut [bool; 32],
 ) -> u8
     requires { GroupInside group }
-    ensures { GroupChecked (seenIn seen_loads.old seen_stores.old)
-        (pairsOf loads.now stores.now group) (seenIn seen_loads.new seen_stores.new) result }
+    ensures { GroupChecked (seen_in seen_loads.old seen_stores.old)
+        (pairs_of loads.now stores.now group) (seen_in seen_loads.new seen_stores.new) result }
 {
     let load_span = group.loads;
     let store_span = group.stores;
@@ -146,7 +146,7 @@ pub fn fault_in<'a>(
     loads: &'a [u16; 32],
     stores: &'a [u16; 32],
 ) -> u8
-    ensures { result ≡ number (checkTable (groupsIn count groups.now loads.now stores.now)) }
+    ensures { result ≡ number (check_table (groups_in count groups.now loads.now stores.now)) }
 {
     let many = count as usize;
     if many < 1 {
@@ -171,7 +171,7 @@ pub fn fault_in<'a>(
 
 // The same of a table's record.
 pub fn table_fault(table: Table) -> u8
-    ensures { result ≡ number (checkTable (groups_of table)) }
+    ensures { result ≡ number (check_table (groups_of table)) }
 {
     fault_in(table.count, &table.groups, &table.loads, &table.stores)
 }

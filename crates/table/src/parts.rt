@@ -1,13 +1,13 @@
 // A table's groups and accesses, and the numbers that they are packed into.
 ghost use Rattle.std.specs.Prelude.{◌≡◌, get_or, take};
-ghost use Rattle.table.specs.Packed.{pairIn, packedPair, spanIn, groupIn, packedGroup};
-ghost use Rattle.table.specs.Table.{spanMeant, groupAt};
+ghost use Rattle.table.specs.Packed.{pair_in, packed_pair, span_in, group_in, packed_group};
+ghost use Rattle.table.specs.Table.{span_meant, group_at};
 
 use crate::{Group, Pair, Span};
 
 // The pair that a number holds: the offset in its lowest eight bits, the port in the others.
 pub fn unpack_pair(number: u16) -> Pair
-    ensures { result ≡ pairIn number }
+    ensures { result ≡ pair_in number }
 {
     Pair {
         offset: (number % 256) as u8,
@@ -17,14 +17,14 @@ pub fn unpack_pair(number: u16) -> Pair
 
 // The number that holds a pair.
 pub fn pack_pair(pair: Pair) -> u16
-    ensures { result ≡ packedPair pair }
+    ensures { result ≡ packed_pair pair }
 {
     pair.offset as u16 + 256 * pair.port as u16
 }
 
 // The span that the lowest sixteen bits of a number hold: the first place, then the count.
 fn unpack_span(number: u32) -> Span
-    ensures { result ≡ spanIn number }
+    ensures { result ≡ span_in number }
 {
     Span {
         first: (number % 256) as u8,
@@ -34,7 +34,7 @@ fn unpack_span(number: u32) -> Span
 
 // The group that a number holds: where its loads stand in the lowest sixteen bits, where its stores stand in the others.
 pub fn unpack_group(number: u32) -> Group
-    ensures { result ≡ groupIn number }
+    ensures { result ≡ group_in number }
 {
     let loads = unpack_span(number);
     let stores = unpack_span(number / 65536);
@@ -43,7 +43,7 @@ pub fn unpack_group(number: u32) -> Group
 
 // The number that holds a group.
 pub fn pack_group(group: Group) -> u32
-    ensures { result ≡ packedGroup group }
+    ensures { result ≡ packed_group group }
 {
     let loads = group.loads;
     let stores = group.stores;
@@ -54,7 +54,7 @@ pub fn pack_group(group: Group) -> u32
 
 // The places that a span stands for. A span that runs past the 32 places stands for 17, one more than a group may have.
 fn span_meant(span: Span) -> Span
-    ensures { result ≡ spanMeant span }
+    ensures { result ≡ span_meant span }
 {
     if span.first as u32 + span.count as u32 <= 32 {
         return span;
@@ -81,7 +81,7 @@ fn number_at(groups: &[u32; 16], i: usize) -> u32
 // The group at a place of a table, whether or not the count goes so far: its accesses stand within the places. The record may
 // come from anywhere.
 pub fn group_at(groups: &[u32; 16], i: usize) -> Group
-    ensures { result ≡ groupAt groups.now i }
+    ensures { result ≡ group_at groups.now i }
 {
     let group = unpack_group(number_at(groups, i));
     let loads = span_meant(group.loads);

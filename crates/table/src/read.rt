@@ -1,11 +1,11 @@
 // Reading tables, number by number.
 ghost use Rattle.std.specs.Prelude.{◌≡◌, ◌+◌, ◌≤◌, length, drop, []};
-ghost use Rattle.table.specs.TableBytes.{readPairs, readGroup, readGroups, readTable, tableAnswer, pack};
-ghost use Rattle.table.specs.Internal.{readTwo, twoReply, twoRefusal, ruleOf, RuleRight, front, pairsIn, packPairs, PairsResult};
-ghost use Rattle.table.specs.Internal.{seenOf, groupMade, GroupResult, put_in, Growing, Grown, GroupsResult};
-ghost use Rattle.table.specs.Table.{noneSeen};
+ghost use Rattle.table.specs.TableBytes.{read_pairs, read_group, read_groups, read_table, table_answer, pack};
+ghost use Rattle.table.specs.Internal.{read_two, two_reply, two_refusal, rule_of, RuleRight, front, pairs_in, pack_pairs, PairsResult};
+ghost use Rattle.table.specs.Internal.{seen_of, group_made, GroupResult, put_in, Growing, Grown, GroupsResult};
+ghost use Rattle.table.specs.Table.{none_seen};
 ghost use Rattle.number.specs.Reply.{refuse};
-ghost use Rattle.number.specs.Number.{readIn};
+ghost use Rattle.number.specs.Number.{read_in};
 
 use crate::check::{counts_right, offset_right, pair_fault};
 use crate::parts::{pack_group, pack_pair};
@@ -74,7 +74,7 @@ pub(crate) struct GroupsRead {
 
 // Reads two numbers.
 fn read_two(bytes: &[u8], at: usize) -> TwoRead
-    ensures { twoReply result ≡ readIn bytes.now (readTwo (drop at bytes.now)) }
+    ensures { two_reply result ≡ read_in bytes.now (read_two (drop at bytes.now)) }
 {
     let read = read_number(bytes, at);
     let NumberRead::Number {
@@ -100,7 +100,7 @@ fn read_two(bytes: &[u8], at: usize) -> TwoRead
 }
 
 fn two_refusal(read: TwoRead) -> u8
-    ensures { result ≡ twoRefusal read }
+    ensures { result ≡ two_refusal read }
 {
     match read {
         TwoRead::Two {
@@ -114,7 +114,7 @@ fn two_refusal(read: TwoRead) -> u8
 
 // No pairs.
 fn no_pairs() -> Pairs
-    ensures { result ≡ packPairs [] }
+    ensures { result ≡ pack_pairs [] }
 {
     Pairs {
         count: 0,
@@ -146,7 +146,7 @@ fn read_pairs(
 ) -> PairsRead
     requires { (count ≤ 16) × (at ≤ length bytes.now) × RuleRight storing stores loads.places (front loads.count) }
     ensures { PairsResult bytes.now seen
-        (readPairs (ruleOf storing stores (pairsIn loads)) count 0 0 seen (drop at bytes.now)) result }
+        (read_pairs (rule_of storing stores (pairs_in loads)) count 0 0 seen (drop at bytes.now)) result }
 {
     let load_places = loads.places;
     let load_span = Span {
@@ -211,7 +211,7 @@ fn no_group(answer: u8, seen: Ports) -> GroupRead
 
 // The group whose loads and then stores were read.
 fn group_made(first: PairsRead, second: PairsRead) -> GroupRead
-    ensures { result ≡ groupMade first second }
+    ensures { result ≡ group_made first second }
 {
     let loads = first.pairs;
     let stores = second.pairs;
@@ -232,7 +232,7 @@ fn group_made(first: PairsRead, second: PairsRead) -> GroupRead
 
 // Reads a group: both counts, 5, its loads, its stores.
 fn read_group(bytes: &[u8], at: usize, seen: Ports) -> GroupRead
-    ensures { GroupResult bytes.now (seenOf seen) (readGroup (seenOf seen) (drop at bytes.now)) result }
+    ensures { GroupResult bytes.now (seen_of seen) (read_group (seen_of seen) (drop at bytes.now)) result }
 {
     let read = read_two(bytes, at);
     let TwoRead::Two {
@@ -328,7 +328,7 @@ fn with_group(mut table: Table, loads: u8, stores: u8, group: NewGroup) -> Table
 // Reads `count` groups.
 fn read_groups(bytes: &[u8], at: usize, count: u32) -> GroupsRead
     requires { (count ≤ 16) × (at ≤ length bytes.now) }
-    ensures { GroupsResult bytes.now (readGroups count noneSeen (drop at bytes.now)) result }
+    ensures { GroupsResult bytes.now (read_groups count none_seen (drop at bytes.now)) result }
 {
     let mut table = no_table();
     let mut loads: u8 = 0;
@@ -367,7 +367,7 @@ fn read_groups(bytes: &[u8], at: usize, count: u32) -> GroupsRead
 
 // A refused table.
 fn refused(answer: u8) -> TableRead
-    ensures { result ≡ tableAnswer (refuse answer) }
+    ensures { result ≡ table_answer (refuse answer) }
 {
     TableRead {
         answer,
@@ -377,7 +377,7 @@ fn refused(answer: u8) -> TableRead
 
 // Reads a table: the whole of the bytes.
 pub fn read_table(bytes: &[u8]) -> TableRead
-    ensures { result ≡ tableAnswer (readTable bytes.now) }
+    ensures { result ≡ table_answer (read_table bytes.now) }
 {
     let read = read_number(bytes, 0);
     let NumberRead::Number {

@@ -2,9 +2,9 @@
 ghost use Rattle.std.specs.Prelude.{◌≡◌, ◌+◌, ◌≤◌, length};
 ghost use Rattle.number.specs.Basics.{flat_map, splice};
 ghost use Rattle.number.specs.Number.{bytes_of, HasWritten, Puts};
-ghost use Rattle.table.specs.Group.{list_of, pairsOf, Inside};
-ghost use Rattle.table.specs.Table.{groupsIn, groups_of};
-ghost use Rattle.table.specs.TableBytes.{pairNumbers, groupNumbers, tableNumbers, wroteTable};
+ghost use Rattle.table.specs.Group.{list_of, pairs_of, Inside};
+ghost use Rattle.table.specs.Table.{groups_in, groups_of};
+ghost use Rattle.table.specs.TableBytes.{pair_numbers, group_numbers, table_numbers, wrote_table};
 ghost use Rattle.table.specs.Internal.{GroupInside};
 
 use crate::check::table_fault;
@@ -17,7 +17,7 @@ use number::writing::{number_length, put_number};
 // How many bytes a group's pairs of one kind take.
 fn pairs_length(places: &[u16; 32], pairs: Span) -> usize
     requires { Inside pairs }
-    ensures { (result ≡ length (bytes_of (flat_map pairNumbers (list_of places.now pairs)))) × (result ≤ 320) }
+    ensures { (result ≡ length (bytes_of (flat_map pair_numbers (list_of places.now pairs)))) × (result ≤ 320) }
 {
     let first = pairs.first as usize;
     let count = pairs.count as usize;
@@ -34,7 +34,7 @@ fn pairs_length(places: &[u16; 32], pairs: Span) -> usize
 // How many bytes a group takes.
 fn group_length<'a>(group: Group, loads: &'a [u16; 32], stores: &'a [u16; 32]) -> usize
     requires { GroupInside group }
-    ensures { (result ≡ length (bytes_of (groupNumbers (pairsOf loads.now stores.now group)))) × (result ≤ 650) }
+    ensures { (result ≡ length (bytes_of (group_numbers (pairs_of loads.now stores.now group)))) × (result ≤ 650) }
 {
     let load_span = group.loads;
     let store_span = group.stores;
@@ -50,7 +50,7 @@ fn table_length<'a>(
     stores: &'a [u16; 32],
 ) -> usize
     requires { count ≤ 16 }
-    ensures { result ≡ length (bytes_of (tableNumbers (groupsIn count groups.now loads.now stores.now))) }
+    ensures { result ≡ length (bytes_of (table_numbers (groups_in count groups.now loads.now stores.now))) }
 {
     let many = count as usize;
     let mut total: usize = 0;
@@ -65,8 +65,8 @@ fn table_length<'a>(
 
 // Puts a group's pairs of one kind at a place where they fit, and says where they end.
 fn put_pairs(places: &[u16; 32], pairs: Span, out: &mut [u8], at: usize) -> usize
-    requires { Inside pairs × (at + length (bytes_of (flat_map pairNumbers (list_of places.now pairs))) ≤ length out.old) }
-    ensures { Puts out.old at (bytes_of (flat_map pairNumbers (list_of places.now pairs))) result out.new }
+    requires { Inside pairs × (at + length (bytes_of (flat_map pair_numbers (list_of places.now pairs))) ≤ length out.old) }
+    ensures { Puts out.old at (bytes_of (flat_map pair_numbers (list_of places.now pairs))) result out.new }
 {
     let first = pairs.first as usize;
     let count = pairs.count as usize;
@@ -89,8 +89,8 @@ fn put_group<'a>(
     out: &mut [u8],
     at: usize,
 ) -> usize
-    requires { GroupInside group × (at + length (bytes_of (groupNumbers (pairsOf loads.now stores.now group))) ≤ length out.old) }
-    ensures { Puts out.old at (bytes_of (groupNumbers (pairsOf loads.now stores.now group))) result out.new }
+    requires { GroupInside group × (at + length (bytes_of (group_numbers (pairs_of loads.now stores.now group))) ≤ length out.old) }
+    ensures { Puts out.old at (bytes_of (group_numbers (pairs_of loads.now stores.now group))) result out.new }
 {
     let load_span = group.loads;
     let store_span = group.stores;
@@ -108,9 +108,9 @@ fn put_table<'a>(
     stores: &'a [u16; 32],
     out: &mut [u8],
 )
-    requires { (count ≤ 16) × (length (bytes_of (tableNumbers (groupsIn count groups.now loads.now stores.now))) ≤ length out.old) }
+    requires { (count ≤ 16) × (length (bytes_of (table_numbers (groups_in count groups.now loads.now stores.now))) ≤ length out.old) }
     ensures { out.new ≡ splice out.old 0
-        (bytes_of (tableNumbers (groupsIn count groups.now loads.now stores.now))) }
+        (bytes_of (table_numbers (groups_in count groups.now loads.now stores.now))) }
 {
     let many = count as usize;
     let after_fields = put_number(out, 0, 2);
@@ -125,7 +125,7 @@ fn put_table<'a>(
 
 // Writes a table at the front of a buffer: 4, 5, 8, 6, 7, then 10.
 pub fn write_table(table: Table, out: &mut [u8]) -> BytesWritten
-    ensures { HasWritten (wroteTable (groups_of table) out.old) result out.new }
+    ensures { HasWritten (wrote_table (groups_of table) out.old) result out.new }
 {
     let fault = table_fault(table);
     if fault != 0 {

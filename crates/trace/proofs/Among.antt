@@ -6,46 +6,46 @@ use mathlib.Core.List.{List, [], ◌∷◌}
 use lib.Dec.{leb}
 use Rattle.trace.specs.declared.Event.{Event}
 use Rattle.number.specs.Basics.{pick}
-use Rattle.number.specs.Refusal.{ended, tooLarge, paddedNumber, badKind}
+use Rattle.number.specs.Refusal.{ended, too_large, padded_number, bad_kind}
 use Rattle.number.specs.Reply.{Reply, refuse}
-use Rattle.number.specs.Number.{thenRead, readNumber}
-use Rattle.trace.specs.Event.{hasSecond, readKind, readEvent, readHeader}
-use Rattle.trace.specs.Trace.{unlessEnd, withFirst, eventsUpTo}
+use Rattle.number.specs.Number.{then_read, read_number}
+use Rattle.trace.specs.Event.{has_second, read_kind, read_event, read_header}
+use Rattle.trace.specs.Trace.{unless_end, with_first, events_up_to}
 use Rattle.number.proofs.ReplyLaws.{refusesAmong, need-among, andThen-among, thenRead-among}
 use Rattle.number.proofs.RoundTrip.{number-among}
 
-module _ (among : ℕ → Bool) (one : among ended ≡ true) (two : among tooLarge ≡ true) (padding : among paddedNumber ≡ true) where
-  number : (s : List ℕ) → refusesAmong among (readNumber s) ≡ true
+module _ (among : ℕ → Bool) (one : among ended ≡ true) (two : among too_large ≡ true) (padding : among padded_number ≡ true) where
+  number : (s : List ℕ) → refusesAmong among (read_number s) ≡ true
   number = number-among among one two padding
 
-  pub header-among : (s : List ℕ) → refusesAmong among (readHeader s) ≡ true
-  unfolding readHeader
+  pub header-among : (s : List ℕ) → refusesAmong among (read_header s) ≡ true
+  unfolding read_header
   header-among s =
-      thenRead-among among (readNumber s) _ (number s) λ loads s₁.
-      thenRead-among among (readNumber s₁) _ (number s₁) λ stores s₂.
-      thenRead-among among (readNumber s₂) _ (number s₂) λ serial s₃.
-      thenRead-among among (readNumber s₃) _ (number s₃) λ words s₄. refl
+      thenRead-among among (read_number s) _ (number s) λ loads s₁.
+      thenRead-among among (read_number s₁) _ (number s₁) λ stores s₂.
+      thenRead-among among (read_number s₂) _ (number s₂) λ serial s₃.
+      thenRead-among among (read_number s₃) _ (number s₃) λ words s₄. refl
 
-  module _ (kinds : among badKind ≡ true) where
-    event-among : (s : List ℕ) → refusesAmong among (readEvent s) ≡ true
-    unfolding readEvent
+  module _ (kinds : among bad_kind ≡ true) where
+    event-among : (s : List ℕ) → refusesAmong among (read_event s) ≡ true
+    unfolding read_event
     event-among s =
-        thenRead-among among (readNumber s) readKind (number s) λ kind s₁.
-        need-among among (leb kind 6) badKind _ kinds
-        (thenRead-among among (readNumber s₁) _ (number s₁) λ x s₂.
-        either (hasSecond kind) _ _ (thenRead-among among (readNumber s₂) _ (number s₂) λ y s₃. refl) refl)
+        thenRead-among among (read_number s) read_kind (number s) λ kind s₁.
+        need-among among (leb kind 6) bad_kind _ kinds
+        (thenRead-among among (read_number s₁) _ (number s₁) λ x s₂.
+        either (has_second kind) _ _ (thenRead-among among (read_number s₂) _ (number s₂) λ y s₃. refl) refl)
       where
         either : {A : Type 0} (t : Bool) (r q : Reply A) → refusesAmong among r ≡ true → refusesAmong among q ≡ true
             → refusesAmong among (pick t r q) ≡ true
         either true r q h k = h
         either false r q h k = k
 
-    at-end : (s : List ℕ) (r : Reply (List Event)) → refusesAmong among r ≡ true → refusesAmong among (unlessEnd s r) ≡ true
+    at-end : (s : List ℕ) (r : Reply (List Event)) → refusesAmong among r ≡ true → refusesAmong among (unless_end s r) ≡ true
     at-end [] r h = refl
     at-end (b ∷ s) r h = h
 
-    pub events-among : (most : ℕ) (s : List ℕ) → refusesAmong among (eventsUpTo most s) ≡ true
-    unfolding eventsUpTo
+    pub events-among : (most : ℕ) (s : List ℕ) → refusesAmong among (events_up_to most s) ≡ true
+    unfolding events_up_to
     events-among zero s = at-end s (refuse ended) one
-    events-among (suc most) s = at-end s (thenRead (readEvent s) λ e rest. withFirst e (eventsUpTo most rest))
-        (thenRead-among among (readEvent s) _ (event-among s) λ e rest. andThen-among among (eventsUpTo most rest) _ (events-among most rest) λ es. refl)
+    events-among (suc most) s = at-end s (then_read (read_event s) λ e rest. with_first e (events_up_to most rest))
+        (thenRead-among among (read_event s) _ (event-among s) λ e rest. andThen-among among (events_up_to most rest) _ (events-among most rest) λ es. refl)

@@ -10,29 +10,29 @@ use Rattle.trace.specs.declared.EventRead.{EventRead}
 use Rattle.trace.specs.declared.EventRead.TheVariants.{Found, End, NoEvent}
 use Rattle.trace.specs.declared.Stepped.{Stepped}
 use Rattle.number.specs.Basics.{pick, flat_map, within}
-use Rattle.number.specs.Refusal.{badKind}
+use Rattle.number.specs.Refusal.{bad_kind}
 use Rattle.number.specs.Reply.{Reply, refuse, accept, need, passed}
-use Rattle.number.specs.Number.{Got, got, thenRead, readNumber, place_of, Reading, reading, bytes_of, Wrote, wroteIf}
+use Rattle.number.specs.Number.{Got, got, then_read, read_number, place_of, Reading, reading, bytes_of, Wrote, wrote_if}
 use Rattle.trace.specs.declared.reading.Reader.{Reader}
 
 -- "0 activate (group), 1 load address (port, address), 2 store address (port, address), 3 store data (port, word), 4 serve
 -- load (serial), 5 write store (serial), 6 take (port)": an event's numbers, its kind first.
-abbrev pub eventNumbers : Event → List ℕ
-eventNumbers (Activate group) = 0 ∷ group ∷ []
-eventNumbers (LoadAddress port address) = 1 ∷ port ∷ address ∷ []
-eventNumbers (StoreAddress port address) = 2 ∷ port ∷ address ∷ []
-eventNumbers (StoreData port word) = 3 ∷ port ∷ word ∷ []
-eventNumbers (Serve serial) = 4 ∷ serial ∷ []
-eventNumbers (Write serial) = 5 ∷ serial ∷ []
-eventNumbers (Take port) = 6 ∷ port ∷ []
+abbrev pub event_numbers : Event → List ℕ
+event_numbers (Activate group) = 0 ∷ group ∷ []
+event_numbers (LoadAddress port address) = 1 ∷ port ∷ address ∷ []
+event_numbers (StoreAddress port address) = 2 ∷ port ∷ address ∷ []
+event_numbers (StoreData port word) = 3 ∷ port ∷ word ∷ []
+event_numbers (Serve serial) = 4 ∷ serial ∷ []
+event_numbers (Write serial) = 5 ∷ serial ∷ []
+event_numbers (Take port) = 6 ∷ port ∷ []
 
 -- the kinds that have a second number
-abbrev pub hasSecond : ℕ → Bool
-hasSecond kind = within 1 3 kind
+abbrev pub has_second : ℕ → Bool
+has_second kind = within 1 3 kind
 
 -- the event of a kind and its numbers
-abbrev pub eventOf : ℕ → ℕ → ℕ → Event
-eventOf kind x y =
+abbrev pub event_of : ℕ → ℕ → ℕ → Event
+event_of kind x y =
     pick (eqb kind 0) (Activate x)
     (pick (eqb kind 1) (LoadAddress x y)
     (pick (eqb kind 2) (StoreAddress x y)
@@ -42,85 +42,85 @@ eventOf kind x y =
     (Take x))))))
 
 -- what follows an event's kind: "35 kind above 6, 1 or 2 for the rest", and 42 for it by S-4
-abbrev pub readKind : ℕ → List ℕ → Reply (Got Event)
-readKind kind s =
-    need (leb kind 6) badKind
-    (thenRead (readNumber s) λ x s₁.
-    pick (hasSecond kind)
-    (thenRead (readNumber s₁) λ y s₂. accept (got (eventOf kind x y) s₂))
-    (accept (got (eventOf kind x 0) s₁)))
+abbrev pub read_kind : ℕ → List ℕ → Reply (Got Event)
+read_kind kind s =
+    need (leb kind 6) bad_kind
+    (then_read (read_number s) λ x s₁.
+    pick (has_second kind)
+    (then_read (read_number s₁) λ y s₂. accept (got (event_of kind x y) s₂))
+    (accept (got (event_of kind x 0) s₁)))
 
 -- "Reading an event: 1 or 2 for the kind, 35 kind above 6, 1 or 2 for the rest." S-4: and 42, after 1 and 2 of each number; a padded
 -- kind above 6 gets 42.
-unfoldable pub readEvent : List ℕ → Reply (Got Event)
-readEvent s = thenRead (readNumber s) readKind
+unfoldable pub read_event : List ℕ → Reply (Got Event)
+read_event s = then_read (read_number s) read_kind
 
 -- what a reader yields: an event and the place after it, or the end
 pub data Yield : Type 0 where
   yielded : Event → ℕ → Yield
-  atEnd : Yield
+  at_end : Yield
 
 -- the number and the values of each case of `EventRead`; the paper gives "end" no number, and here it is accepted
-abbrev pub eventReply : EventRead → Reply Yield
-eventReply (Found e next) = accept (yielded e next)
-eventReply End = accept atEnd
-eventReply (NoEvent k) = refuse k
+abbrev pub event_reply : EventRead → Reply Yield
+event_reply (Found e next) = accept (yielded e next)
+event_reply End = accept at_end
+event_reply (NoEvent k) = refuse k
 
 -- the reply of a call that reads an event in s
-abbrev pub eventReadIn : List ℕ → Reply (Got Event) → Reply Yield
-eventReadIn s r = thenRead r λ e rest. accept (yielded e (place_of s rest))
+abbrev pub event_read_in : List ℕ → Reply (Got Event) → Reply Yield
+event_read_in s r = then_read r λ e rest. accept (yielded e (place_of s rest))
 
 -- the same at a part of s: "at the end of the bytes it answers "end""
-abbrev pub eventIn : List ℕ → List ℕ → Reply Yield
-eventIn s [] = accept atEnd
-eventIn s (b ∷ rest) = eventReadIn s (readEvent (b ∷ rest))
+abbrev pub event_in : List ℕ → List ℕ → Reply Yield
+event_in s [] = accept at_end
+event_in s (b ∷ rest) = event_read_in s (read_event (b ∷ rest))
 
 -- at a place of s: "a place past the end counts as the end"
-unfoldable pub eventAt : List ℕ → ℕ → Reply Yield
-eventAt s place = eventIn s (drop place s)
+unfoldable pub event_at : List ℕ → ℕ → Reply Yield
+event_at s place = event_in s (drop place s)
 
 -- where a reader stands after it has read: past the event, or where it was
-abbrev pub placeAfter : ℕ → Reply Yield → ℕ
-placeAfter place (accept (yielded e next)) = next
-placeAfter place (accept atEnd) = place
-placeAfter place (refuse k) = place
+abbrev pub place_after : ℕ → Reply Yield → ℕ
+place_after place (accept (yielded e next)) = next
+place_after place (accept at_end) = place
+place_after place (refuse k) = place
 
 -- one step of a reader at a place of s: what it yields, and where it stands then
 pub record Steps (s : List ℕ) (place : ℕ) (r : Stepped) : Type 0 where
-  pub read : eventReply r.read ≡ eventAt s place
-  pub next : r.next ≡ placeAfter place (eventAt s place)
+  pub read : event_reply r.read ≡ event_at s place
+  pub next : r.next ≡ place_after place (event_at s place)
 
 -- "A reader stays attached to the lent trace and yields one event per step": it is a byte slice and a position. The same slice, at
 -- another position:
 abbrev pub moved_to : Reader → ℕ → Reader
 moved_to r n = record { bytes = r.bytes; at = n }
 
-abbrev pub eventBytes : Event → List ℕ
-eventBytes e = bytes_of (eventNumbers e)
+abbrev pub event_bytes : Event → List ℕ
+event_bytes e = bytes_of (event_numbers e)
 
 -- writing an event by its kind and its numbers: 35 kind above 6, then 10; a kind with one number leaves the second alone
-abbrev pub wroteEventOf : ℕ → ℕ → ℕ → List ℕ → Wrote
-wroteEventOf kind x y = wroteIf (need (leb kind 6) badKind passed) (eventBytes (eventOf kind x y))
+abbrev pub wrote_event_of : ℕ → ℕ → ℕ → List ℕ → Wrote
+wrote_event_of kind x y = wrote_if (need (leb kind 6) bad_kind passed) (event_bytes (event_of kind x y))
 
-abbrev pub eventsBytes : List Event → List ℕ
-eventsBytes = flat_map eventBytes
+abbrev pub events_bytes : List Event → List ℕ
+events_bytes = flat_map event_bytes
 
 -- the four leading numbers of a trace
-abbrev pub headerNumbers : Header → List ℕ
-headerNumbers h = h.load_depth ∷ h.store_depth ∷ h.first ∷ h.memory_length ∷ []
+abbrev pub header_numbers : Header → List ℕ
+header_numbers h = h.load_depth ∷ h.store_depth ∷ h.first ∷ h.memory_length ∷ []
 
-abbrev pub headerBytes : Header → List ℕ
-headerBytes h = bytes_of (headerNumbers h)
+abbrev pub header_bytes : Header → List ℕ
+header_bytes h = bytes_of (header_numbers h)
 
-unfoldable pub readHeader : List ℕ → Reply (Got Header)
-readHeader s =
-    thenRead (readNumber s) λ loads s₁.
-    thenRead (readNumber s₁) λ stores s₂.
-    thenRead (readNumber s₂) λ serial s₃.
-    thenRead (readNumber s₃) λ words s₄.
+unfoldable pub read_header : List ℕ → Reply (Got Header)
+read_header s =
+    then_read (read_number s) λ loads s₁.
+    then_read (read_number s₁) λ stores s₂.
+    then_read (read_number s₂) λ serial s₃.
+    then_read (read_number s₃) λ words s₄.
     accept (got (record { load_depth = loads; store_depth = stores; first = serial; memory_length = words }) s₄)
 
 -- the number and the values of each case of `HeaderRead`
-abbrev pub headerReply : HeaderRead → Reply (Reading Header)
-headerReply (Leading h next) = accept (reading h next)
-headerReply (NoHeader k) = refuse k
+abbrev pub header_reply : HeaderRead → Reply (Reading Header)
+header_reply (Leading h next) = accept (reading h next)
+header_reply (NoHeader k) = refuse k

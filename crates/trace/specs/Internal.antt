@@ -3,5 +3,5 @@ use Rattle.std.specs.Prelude.{ℕ, List, take}
 use Rattle.trace.specs.declared.writing.Numbers.{Numbers}
 
 -- the numbers that are written together
-abbrev pub numbersListed : Numbers → List ℕ
-numbersListed ns = take ns.count ns.values
+abbrev pub numbers_listed : Numbers → List ℕ
+numbers_listed ns = take ns.count ns.values

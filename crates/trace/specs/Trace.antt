@@ -5,8 +5,8 @@ use Rattle.trace.specs.declared.Header.{Header}
 use Rattle.number.specs.Basics.{flat_map}
 use Rattle.number.specs.Refusal.{ended}
 use Rattle.number.specs.Reply.{Reply, refuse, accept, and_then}
-use Rattle.number.specs.Number.{thenRead}
-use Rattle.trace.specs.Event.{eventNumbers, readEvent, eventsBytes, headerNumbers, headerBytes, readHeader}
+use Rattle.number.specs.Number.{then_read}
+use Rattle.trace.specs.Event.{event_numbers, read_event, events_bytes, header_numbers, header_bytes, read_header}
 
 -- a trace as it is meant: its four leading numbers and its events
 pub record Trace : Type 0 where
@@ -14,34 +14,34 @@ pub record Trace : Type 0 where
   pub events : List Event
 
 -- at the end of the bytes there is no event; else what follows
-abbrev pub unlessEnd : List ℕ → Reply (List Event) → Reply (List Event)
-unlessEnd [] rest = accept []
-unlessEnd (b ∷ s) rest = rest
+abbrev pub unless_end : List ℕ → Reply (List Event) → Reply (List Event)
+unless_end [] rest = accept []
+unless_end (b ∷ s) rest = rest
 
 -- an event before those that follow it
-abbrev pub withFirst : Event → Reply (List Event) → Reply (List Event)
-withFirst e r = and_then r λ es. accept (e ∷ es)
+abbrev pub with_first : Event → Reply (List Event) → Reply (List Event)
+with_first e r = and_then r λ es. accept (e ∷ es)
 
 -- the events of the bytes, or the first fault: at most `most` events, since an event takes a byte at least
-unfoldable pub eventsUpTo : ℕ → List ℕ → Reply (List Event)
-eventsUpTo zero s = unlessEnd s (refuse ended)
-eventsUpTo (suc most) s = unlessEnd s (thenRead (readEvent s) λ e rest. withFirst e (eventsUpTo most rest))
+unfoldable pub events_up_to : ℕ → List ℕ → Reply (List Event)
+events_up_to zero s = unless_end s (refuse ended)
+events_up_to (suc most) s = unless_end s (then_read (read_event s) λ e rest. with_first e (events_up_to most rest))
 
 -- "events to the end of the bytes"
-abbrev pub readEvents : List ℕ → Reply (List Event)
-readEvents s = eventsUpTo (length s) s
+abbrev pub read_events : List ℕ → Reply (List Event)
+read_events s = events_up_to (length s) s
 
 -- the leading numbers and then the events, or the first fault
-unfoldable pub readTrace : List ℕ → Reply Trace
-readTrace s =
-    thenRead (readHeader s) λ h rest.
-    and_then (readEvents rest) λ es.
+unfoldable pub read_trace : List ℕ → Reply Trace
+read_trace s =
+    then_read (read_header s) λ h rest.
+    and_then (read_events rest) λ es.
     accept (record { header = h; events = es })
 
 -- the numbers of a trace, in the order of its bytes
-abbrev pub traceNumbers : Trace → List ℕ
-traceNumbers t = headerNumbers t.header ++ flat_map eventNumbers t.events
+abbrev pub trace_numbers : Trace → List ℕ
+trace_numbers t = header_numbers t.header ++ flat_map event_numbers t.events
 
 -- what is written of a trace: its leading numbers, and then each event
-abbrev pub traceBytes : Trace → List ℕ
-traceBytes t = headerBytes t.header ++ eventsBytes t.events
+abbrev pub trace_bytes : Trace → List ℕ
+trace_bytes t = header_bytes t.header ++ events_bytes t.events

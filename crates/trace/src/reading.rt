@@ -1,7 +1,7 @@
 // Reading events and traces: a trace is four leading numbers, then events to the end of its bytes.
 ghost use Rattle.std.specs.Prelude.{◌≡◌, drop};
-ghost use Rattle.number.specs.Number.{readIn};
-ghost use Rattle.trace.specs.Event.{readHeader, headerReply, eventOf, readKind, eventReply, eventReadIn, eventAt, placeAfter, Steps, moved_to};
+ghost use Rattle.number.specs.Number.{read_in};
+ghost use Rattle.trace.specs.Event.{read_header, header_reply, event_of, read_kind, event_reply, event_read_in, event_at, place_after, Steps, moved_to};
 
 use crate::{Event, EventRead, Header, HeaderRead, Stepped};
 use number::NumberRead;
@@ -10,7 +10,7 @@ use number::refusal::BAD_KIND;
 
 // Reads the four leading numbers of a trace.
 pub fn read_header(bytes: &[u8]) -> HeaderRead
-    ensures { headerReply result ≡ readIn bytes.now (readHeader bytes.now) }
+    ensures { header_reply result ≡ read_in bytes.now (read_header bytes.now) }
 {
     let first = read_number(bytes, 0);
     let NumberRead::Number {
@@ -55,7 +55,7 @@ pub fn read_header(bytes: &[u8]) -> HeaderRead
 
 // The event of a kind and its numbers.
 pub(crate) fn event_of(kind: u32, first: u32, second: u32) -> Event
-    ensures { result ≡ eventOf kind first second }
+    ensures { result ≡ event_of kind first second }
 {
     match kind {
         0 => Event::Activate { group: first },
@@ -79,7 +79,7 @@ pub(crate) fn event_of(kind: u32, first: u32, second: u32) -> Event
 
 // Reads what follows an event's kind.
 fn read_kind(bytes: &[u8], kind: u32, at: usize) -> EventRead
-    ensures { eventReply result ≡ eventReadIn bytes.now (readKind kind (drop at bytes.now)) }
+    ensures { event_reply result ≡ event_read_in bytes.now (read_kind kind (drop at bytes.now)) }
 {
     if 6 < kind {
         return EventRead::NoEvent(BAD_KIND);
@@ -111,7 +111,7 @@ fn read_kind(bytes: &[u8], kind: u32, at: usize) -> EventRead
 
 // Reads the event at a place; a place past the end is the end.
 pub fn read_event(bytes: &[u8], at: usize) -> EventRead
-    ensures { eventReply result ≡ eventAt bytes.now at }
+    ensures { event_reply result ≡ event_at bytes.now at }
 {
     if bytes.len() <= at {
         return EventRead::End;
@@ -149,9 +149,9 @@ pub struct Reader<'a> {
 impl<'a> Reader<'a> {
     // Yields one event, and moves past it; it stays at the end and where it is refused.
     pub fn step(&mut self) -> EventRead
-        ensures { (eventReply result ≡ eventAt self.old.bytes.now self.old.at)
+        ensures { (event_reply result ≡ event_at self.old.bytes.now self.old.at)
             × (self.new ≡ moved_to self.old
-            (placeAfter self.old.at (eventAt self.old.bytes.now self.old.at))) }
+            (place_after self.old.at (event_at self.old.bytes.now self.old.at))) }
     {
         let stepped = step_at(self.bytes, self.at);
         self.at = stepped.next;

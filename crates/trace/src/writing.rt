@@ -2,9 +2,9 @@
 // buffer as it was.
 ghost use Rattle.std.specs.Prelude.{◌≡◌, ◌≤◌, length};
 ghost use Rattle.number.specs.Number.{bytes_of, HasWritten, wrote};
-ghost use Rattle.trace.specs.Event.{headerBytes, eventNumbers, eventBytes, wroteEventOf};
+ghost use Rattle.trace.specs.Event.{header_bytes, event_numbers, event_bytes, wrote_event_of};
 ghost use Rattle.number.specs.Basics.{splice};
-ghost use Rattle.trace.specs.Internal.{numbersListed};
+ghost use Rattle.trace.specs.Internal.{numbers_listed};
 
 use crate::reading::event_of;
 use crate::{Event, Header};
@@ -22,7 +22,7 @@ pub(crate) struct Numbers {
 // How many bytes the numbers take.
 fn numbers_length(numbers: Numbers) -> usize
     requires { numbers.count ≤ 4 }
-    ensures { result ≡ length (bytes_of (numbersListed numbers)) }
+    ensures { result ≡ length (bytes_of (numbers_listed numbers)) }
 {
     let count = numbers.count;
     let mut total: usize = 0;
@@ -36,8 +36,8 @@ fn numbers_length(numbers: Numbers) -> usize
 
 // Puts the numbers' bytes at the front of a buffer where they fit.
 fn put_numbers(numbers: Numbers, out: &mut [u8])
-    requires { (numbers.count ≤ 4) × (length (bytes_of (numbersListed numbers)) ≤ length out.old) }
-    ensures { out.new ≡ splice out.old 0 (bytes_of (numbersListed numbers)) }
+    requires { (numbers.count ≤ 4) × (length (bytes_of (numbers_listed numbers)) ≤ length out.old) }
+    ensures { out.new ≡ splice out.old 0 (bytes_of (numbers_listed numbers)) }
 {
     let count = numbers.count;
     let mut place: usize = 0;
@@ -51,7 +51,7 @@ fn put_numbers(numbers: Numbers, out: &mut [u8])
 // Writes the numbers at the front of a buffer.
 fn write_numbers(numbers: Numbers, out: &mut [u8]) -> BytesWritten
     requires { numbers.count ≤ 4 }
-    ensures { HasWritten (wrote (bytes_of (numbersListed numbers)) out.old) result out.new }
+    ensures { HasWritten (wrote (bytes_of (numbers_listed numbers)) out.old) result out.new }
 {
     let length = numbers_length(numbers);
     if out.len() < length {
@@ -63,7 +63,7 @@ fn write_numbers(numbers: Numbers, out: &mut [u8]) -> BytesWritten
 
 // An event's numbers, its kind first.
 fn numbers_of(event: Event) -> Numbers
-    ensures { (result.count ≤ 4) × (numbersListed result ≡ eventNumbers event) }
+    ensures { (result.count ≤ 4) × (numbers_listed result ≡ event_numbers event) }
 {
     match event {
         Event::Activate { group } => Numbers {
@@ -99,7 +99,7 @@ fn numbers_of(event: Event) -> Numbers
 
 // Writes an event at the front of a buffer.
 pub fn write_event(event: Event, out: &mut [u8]) -> BytesWritten
-    ensures { HasWritten (wrote (eventBytes event) out.old) result out.new }
+    ensures { HasWritten (wrote (event_bytes event) out.old) result out.new }
 {
     write_numbers(numbers_of(event), out)
 }
@@ -107,7 +107,7 @@ pub fn write_event(event: Event, out: &mut [u8]) -> BytesWritten
 // Writes an event, by its kind and its numbers, at the front of a buffer: 35, then 10. A kind with one number leaves the second
 // alone.
 pub fn write_event_of(kind: u32, first: u32, second: u32, out: &mut [u8]) -> BytesWritten
-    ensures { HasWritten (wroteEventOf kind first second out.old) result out.new }
+    ensures { HasWritten (wrote_event_of kind first second out.old) result out.new }
 {
     if 6 < kind {
         return BytesWritten::Unwritten(BAD_KIND);
@@ -118,7 +118,7 @@ pub fn write_event_of(kind: u32, first: u32, second: u32, out: &mut [u8]) -> Byt
 
 // Writes a trace's leading numbers at the front of a buffer.
 pub fn write_header(header: Header, out: &mut [u8]) -> BytesWritten
-    ensures { HasWritten (wrote (headerBytes header) out.old) result out.new }
+    ensures { HasWritten (wrote (header_bytes header) out.old) result out.new }
 {
     let load_depth = header.load_depth;
     let store_depth = header.store_depth;

@@ -4,8 +4,8 @@ use mathlib.Core.Path.{◌≡◌}
 use mathlib.Core.List.{List}
 use Rattle.number.specs.Reply.{accept}
 use Rattle.table.specs.Table.{groups_of}
-use Rattle.table.specs.TableBytes.{readTable}
-use Rattle.table.proofs.RoundTrip.{table-refused, table-given}
+use Rattle.table.specs.TableBytes.{read_table}
+use Rattle.table.proofs.RoundTrip.{table-refused, table_given}
 use Rattle.exports.specs.Replay.{Lent, lent}
 use Rattle.exports.proofs.ReplayLaws.{lent-table, lent-short, answered-refused, answered-lent}
 use borrow.Author.Rules.{rules}
@@ -24,8 +24,8 @@ lent_at t =
     let a = t.before.before.before.before.before.before.before.before.args in
     lent a.memory.now a.counts.now a.answers.now a.given.now a.values.now
 
-table-right : (e : tie.Else1) → readTable (bytes_at e.before.before) ≡ accept (groups_of e.before.before.read_table.result.table)
-table-right e = table-given (bytes_at e.before.before) e.before.before.read_table.result e.before.before.read_table.ensures e.if1.false
+table-right : (e : tie.Else1) → read_table (bytes_at e.before.before) ≡ accept (groups_of e.before.before.read_table.result.table)
+table-right e = table_given (bytes_at e.before.before) e.before.before.read_table.result e.before.before.read_table.ensures e.if1.false
 
 returns : tie.Need-returns
 returns c =

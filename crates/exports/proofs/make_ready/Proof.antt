@@ -1,5 +1,5 @@
 -- The table is refused, or read; then the trace is made ready on the groups that were read.
-use Rattle.table.proofs.RoundTrip.{table-refused, table-given}
+use Rattle.table.proofs.RoundTrip.{table-refused, table_given}
 use Rattle.exports.proofs.PreparedLaws.{tells-table, tells-trace}
 use borrow.Author.Rules.{rules}
 use Rattle.exports.proofs.make_ready.Statement.{statement}
@@ -18,7 +18,7 @@ returns-2 c =
     let t = e.before.before in
     let a = t.before.before.before.args in
     tells-trace a.table.now a.trace.now c.prepare.result
-    (table-given a.table.now t.read_table.result t.read_table.ensures e.if1.false) c.prepare.ensures
+    (table_given a.table.now t.read_table.result t.read_table.ensures e.if1.false) c.prepare.ensures
 
 pub make-ready-spec : {M : Type 1} → statement M
 make-ready-spec =

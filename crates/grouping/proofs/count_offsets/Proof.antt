@@ -4,14 +4,14 @@ use native.Mathlib.Omega.{arith}
 use mathlib.Core.Path.{◌≡◌, refl}
 use lib.ListN.{length, take, get_or}
 use borrow.Author.Rules.{rules}
-use Rattle.grouping.specs.Grouping.{inOrder}
+use Rattle.grouping.specs.Grouping.{in_order}
 use Rattle.grouping.specs.Internal.{HoldsGroup}
-use Rattle.grouping.proofs.CountLaws.{group-none, group-room, group-more, order-count, order-here, one_more, fewer, group-all}
+use Rattle.grouping.proofs.CountLaws.{group_none, group-room, group-more, order-count, order-here, one_more, fewer, group_all}
 use Rattle.grouping.proofs.count_offsets.Statement.{statement}
 use Rattle.grouping.proofs.count_offsets.Tie as tie
 
 abbrev invariant-loop : tie.invariant-loop
-invariant-loop order accesses count group₀ i₀ group i = (i ≤ order.count) × HoldsGroup (inOrder accesses (take i order.accesses)) group
+invariant-loop order accesses count group₀ i₀ group i = (i ≤ order.count) × HoldsGroup (in_order accesses (take i order.accesses)) group
 
 abbrev decreases-loop : tie.decreases-loop
 decreases-loop order accesses count group₀ i₀ group i = count - i
@@ -22,7 +22,7 @@ room c = (search rules, order-count c.before.args.t1 c.before.args.t2 c.before.r
 below : (c : tie.In-loop invariant-loop decreases-loop) → get_or c.before.before.args.t1.accesses c.before.loop.i 0 < 32
 below c = let s = c.before.before in order-here s.args.t1 s.args.t2 s.requires (room c.before).0 c.before.loop.i c.loop-test.true
 
-short : (c : tie.In-loop invariant-loop decreases-loop) → let s = c.before.before in length (inOrder s.args.t2 (take c.before.loop.i s.args.t1.accesses)) < 32
+short : (c : tie.In-loop invariant-loop decreases-loop) → let s = c.before.before in length (in_order s.args.t2 (take c.before.loop.i s.args.t1.accesses)) < 32
 short c =
     let s = c.before.before in
     let (size, few) = room c.before in
@@ -33,7 +33,7 @@ cast-count : tie.Need-overflow-cast-count invariant-loop decreases-loop
 cast-count c = search rules
 
 loop-holds : tie.Need-loop-init invariant-loop decreases-loop
-loop-holds c = (omega arith, group-none refl refl)
+loop-holds c = (omega arith, group_none refl refl)
 
 element-copy-out-access : tie.Need-element-copy-out-access invariant-loop decreases-loop
 element-copy-out-access c = let few = (room c.before).1 in omega arith
@@ -71,7 +71,7 @@ loop-again c =
 returns : tie.Need-returns invariant-loop decreases-loop
 returns c =
     let s = c.before.before in
-    group-all s.args.t2 s.args.t1.accesses c.before.loop.i s.args.t1.count (omega arith) c.before.loop.invariant.1
+    group_all s.args.t2 s.args.t1.accesses c.before.loop.i s.args.t1.count (omega arith) c.before.loop.invariant.1
 
 pub count-offsets-spec : {M : Type 1} → statement M
 count-offsets-spec =

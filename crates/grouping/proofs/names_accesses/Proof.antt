@@ -9,7 +9,7 @@ use borrow.Author.Tests.{lt-ltb, le-ltb, le-leb, lt-leb, eq-eqb, ne_eqb}
 use borrow.Author.Rules.{rules}
 use Rattle.number.proofs.AllLaws.{AllYet, all_none, all-on, all-stop, all_end}
 use Rattle.number.specs.Basics.{all_of}
-use Rattle.grouping.specs.Grouping.{namesAccesses}
+use Rattle.grouping.specs.Grouping.{names_accesses}
 use Rattle.grouping.proofs.names_accesses.Statement.{statement}
 use Rattle.grouping.proofs.names_accesses.Tie as tie
 
@@ -35,7 +35,7 @@ here c = let r = c.before.before.before.before.args.t1 in get_or-take r.count r.
 
 -- the tests before the loop
 passed : (c : tie.At-loop invariant-loop decreases-loop) → let r = c.before.before.before.args.t1 in
-    namesAccesses r ≡ all_of (λ a. ltb a 32) (take r.count r.accesses)
+    names_accesses r ≡ all_of (λ a. ltb a 32) (take r.count r.accesses)
 passed c = rw (eq-eqb _ 0 c.before.before.if1.false, le-leb _ 32 c.before.if2.false)
 
 returns : tie.Need-returns invariant-loop decreases-loop

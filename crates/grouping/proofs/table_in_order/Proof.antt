@@ -4,12 +4,12 @@ use mathlib.Core.Bool.{true}
 use borrow.Author.Tests.{not-true, not-false}
 use borrow.Author.Rules.{rules}
 use Rattle.table.specs.TableBytes.{pack}
-use Rattle.grouping.specs.Grouping.{namesAccesses}
-use Rattle.grouping.proofs.CountLaws.{an-order, no-order, one-packed}
+use Rattle.grouping.specs.Grouping.{names_accesses}
+use Rattle.grouping.proofs.CountLaws.{an-order, no-order, one_packed}
 use Rattle.grouping.proofs.table_in_order.Statement.{statement}
 use Rattle.grouping.proofs.table_in_order.Tie as tie
 
-right : (c : tie.Else1) → namesAccesses c.before.before.args.order ≡ true
+right : (c : tie.Else1) → names_accesses c.before.before.args.order ≡ true
 right c = sym c.before.names-accesses.ensures ∙ not-false _ c.if1.false
 
 names-accesses-requires : tie.Need-names-accesses-requires
@@ -34,7 +34,7 @@ returns-2 : tie.Need-returns-2
 returns-2 c =
     let t = c.before.before in
     let s = t.before.before in
-    c.one-group.ensures ∙ one-packed c.before.count-offsets.ensures ∙ ap pack (sym (an-order s.args.order s.args.accesses (right t)))
+    c.one-group.ensures ∙ one_packed c.before.count-offsets.ensures ∙ ap pack (sym (an-order s.args.order s.args.accesses (right t)))
 
 pub table-in-order-spec : {M : Type 1} → statement M
 table-in-order-spec = tie.close (tie.spec names-accesses-requires no-group-requires returns count-offsets-requires one-group-requires returns-2)

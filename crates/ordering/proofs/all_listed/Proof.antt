@@ -8,23 +8,23 @@ use lib.ListN.{length, get_or}
 use borrow.Author.Tests.{lt-ltb, le-ltb}
 use borrow.Author.Rules.{rules}
 use Rattle.number.proofs.AllLaws.{AllYet, all_none, all-on, all-stop, all_end}
-use Rattle.ordering.specs.Records.{blankPrecedence, precedencesOf}
+use Rattle.ordering.specs.Records.{blank_precedence, precedences_of}
 use Rattle.ordering.proofs.RecordLaws.{pairs-length, pair-here}
 use Rattle.ordering.proofs.all_listed.Statement.{statement}
 use Rattle.ordering.proofs.all_listed.Tie as tie
 
 abbrev invariant-loop : tie.invariant-loop
-invariant-loop accesses pairs count i₀ i = (i ≤ pairs.count) × AllYet (λ p. ltb p.first accesses && ltb p.second accesses) (precedencesOf pairs) i
+invariant-loop accesses pairs count i₀ i = (i ≤ pairs.count) × AllYet (λ p. ltb p.first accesses && ltb p.second accesses) (precedences_of pairs) i
 
 abbrev decreases-loop : tie.decreases-loop
 decreases-loop accesses pairs count i₀ i = count - i
 
 -- the pair looked at
-within : (c : tie.In-loop invariant-loop decreases-loop) → c.before.loop.i < length (precedencesOf c.before.before.args.t2)
+within : (c : tie.In-loop invariant-loop decreases-loop) → c.before.loop.i < length (precedences_of c.before.before.args.t2)
 within c = rw (pairs-length c.before.before.args.t2) c.loop-test.true
 
 here : (c : tie.In-loop invariant-loop decreases-loop)
-    → get_or (precedencesOf c.before.before.args.t2) c.before.loop.i blankPrecedence ≡ get_or c.before.before.args.t2.pairs c.before.loop.i blankPrecedence
+    → get_or (precedences_of c.before.before.args.t2) c.before.loop.i blank_precedence ≡ get_or c.before.before.args.t2.pairs c.before.loop.i blank_precedence
 here c = pair-here c.before.before.args.t2 c.before.loop.i c.loop-test.true
 
 cast-count : tie.Need-overflow-cast-count invariant-loop decreases-loop
@@ -45,7 +45,7 @@ cast-if1 c = search rules
 returns : tie.Need-returns invariant-loop decreases-loop
 returns c =
     let w = c.before.before.before in
-    sym (all-stop w.before.loop.invariant.1 blankPrecedence (within w) (rw (here w, le-ltb _ _ c.if1.true)))
+    sym (all-stop w.before.loop.invariant.1 blank_precedence (within w) (rw (here w, le-ltb _ _ c.if1.true)))
 
 cast-if2 : tie.Need-overflow-cast-if2 invariant-loop decreases-loop
 cast-if2 c = search rules
@@ -53,7 +53,7 @@ cast-if2 c = search rules
 returns-2 : tie.Need-returns-2 invariant-loop decreases-loop
 returns-2 c =
     let w = c.before.before.before.before.before in
-    sym (all-stop w.before.loop.invariant.1 blankPrecedence (within w) (rw (here w, lt-ltb _ _ c.before.before.if1.false, le-ltb _ _ c.if2.true)))
+    sym (all-stop w.before.loop.invariant.1 blank_precedence (within w) (rw (here w, lt-ltb _ _ c.before.before.if1.false, le-ltb _ _ c.if2.true)))
 
 add-i : tie.Need-overflow-add-i invariant-loop decreases-loop
 add-i c = omega arith
@@ -64,7 +64,7 @@ loop-less c = omega arith
 loop-again : tie.Need-loop-preserved invariant-loop decreases-loop
 loop-again c =
     let w = c.before.before.before.before.before in
-    (omega arith, all-on w.before.loop.invariant.1 blankPrecedence (within w) (rw (here w, lt-ltb _ _ c.before.before.if1.false, lt-ltb _ _ c.if2.false)))
+    (omega arith, all-on w.before.loop.invariant.1 blank_precedence (within w) (rw (here w, lt-ltb _ _ c.before.before.if1.false, lt-ltb _ _ c.if2.false)))
 
 returns-3 : tie.Need-returns-3 invariant-loop decreases-loop
 returns-3 c = sym (all_end c.before.loop.invariant.1 (rw (pairs-length c.before.before.args.t2) c.loop-test.false))

@@ -4,20 +4,20 @@ use native.Mathlib.Omega.{arith}
 use mathlib.Core.Path.{◌≡◌, refl, sym, ap, ◌∙◌}
 use lib.ListN.{length, length-set}
 use borrow.Author.Rules.{rules}
-use Rattle.ordering.specs.Records.{precedencesOf, ordered}
-use Rattle.ordering.proofs.Loops.{Placing, placing-none, placing-on, placing-stop, placing-record}
+use Rattle.ordering.specs.Records.{precedences_of, ordered}
+use Rattle.ordering.proofs.Loops.{Placing, placing_none, placing-on, placing-stop, placing-record}
 use Rattle.ordering.proofs.arrange.Statement.{statement}
 use Rattle.ordering.proofs.arrange.Tie as tie
 
 abbrev invariant-loop : tie.invariant-loop
 invariant-loop accesses pairs placed₀ order₀ i₀ placed order i =
-    (i ≤ accesses) × (length placed ≡ 32) × (length order ≡ 32) × Placing accesses (precedencesOf pairs) placed order i
+    (i ≤ accesses) × (length placed ≡ 32) × (length order ≡ 32) × Placing accesses (precedences_of pairs) placed order i
 
 abbrev decreases-loop : tie.decreases-loop
 decreases-loop accesses pairs placed₀ order₀ i₀ placed order i = accesses - i
 
 loop-holds : tie.Need-loop-init invariant-loop decreases-loop
-loop-holds c = (search rules, refl, refl, placing-none)
+loop-holds c = (search rules, refl, refl, placing_none)
 
 next-ready-requires : tie.Need-next-ready-requires invariant-loop decreases-loop
 next-ready-requires c κs = c.before.before.requires

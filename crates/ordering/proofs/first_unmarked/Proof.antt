@@ -4,7 +4,7 @@ use native.Mathlib.Omega.{arith}
 use mathlib.Core.Path.{sym}
 use borrow.Author.Rules.{rules}
 use Rattle.ordering.specs.Internal.{unmarked}
-use Rattle.ordering.proofs.Loops.{Sought, sought-none, sought-on, sought-stop, sought-end}
+use Rattle.ordering.proofs.Loops.{Sought, sought_none, sought-on, sought-stop, sought-end}
 use Rattle.ordering.proofs.first_unmarked.Statement.{statement}
 use Rattle.ordering.proofs.first_unmarked.Tie as tie
 
@@ -15,7 +15,7 @@ abbrev decreases-loop : tie.decreases-loop
 decreases-loop accesses marks access₀ access = accesses - access
 
 loop-holds : tie.Need-loop-init invariant-loop decreases-loop
-loop-holds c = (search rules, sought-none)
+loop-holds c = (search rules, sought_none)
 
 array-read-if1 : tie.Need-array-read-if1 invariant-loop decreases-loop
 array-read-if1 c = let few = c.before.before.requires in omega arith

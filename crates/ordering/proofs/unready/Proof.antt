@@ -8,7 +8,7 @@ use borrow.Author.Tests.{lt-ltb}
 use borrow.Author.Rules.{rules}
 use Rattle.ordering.specs.Internal.{waits}
 use Rattle.ordering.proofs.RecordLaws.{listed_here}
-use Rattle.ordering.proofs.Loops.{Marked, marked-none, marked-keep, marked-set, marked-unready}
+use Rattle.ordering.proofs.Loops.{Marked, marked_none, marked-keep, marked-set, marked-unready}
 use Rattle.ordering.proofs.unready.Statement.{statement}
 use Rattle.ordering.proofs.unready.Tie as tie
 
@@ -26,7 +26,7 @@ cast-count : tie.Need-overflow-cast-count invariant-loop decreases-loop
 cast-count c = search rules
 
 loop-holds : tie.Need-loop-init invariant-loop decreases-loop
-loop-holds c = (omega arith, search rules, marked-none)
+loop-holds c = (omega arith, search rules, marked_none)
 
 mul-pair : tie.Need-overflow-mul-pair invariant-loop decreases-loop
 mul-pair c = let few = c.before.before.requires.count in omega arith

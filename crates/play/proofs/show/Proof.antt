@@ -4,7 +4,7 @@ use native.Mathlib.Omega.{arith}
 use lib.ListN.{length}
 use lib.Seq.{length-take-le}
 use borrow.Author.Rules.{rules}
-use Rattle.number.specs.Number.{writtenReply}
+use Rattle.number.specs.Number.{written_reply}
 use Rattle.printed.proofs.TextFits.{bytes-few}
 use Rattle.play.proofs.show.Statement.{statement}
 use Rattle.play.proofs.show.Tie as tie
@@ -20,7 +20,7 @@ fits c =
     omega (
       arith,
       bytes-few a.table.now a.trace.now at-text-buffer.text-buffer.result
-          (sym (ap writtenReply c.before.written.given.1) ∙ at-print.print.ensures.0),
+          (sym (ap written_reply c.before.written.given.1) ∙ at-print.print.ensures.0),
     )
 
 array-share-prefix-out : tie.Need-array-share-prefix-out

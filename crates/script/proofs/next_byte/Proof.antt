@@ -4,7 +4,7 @@ use borrow.Author.Rules.{rules}
 use native.Mathlib.Omega.{arith}
 use lib.ListN.{length, drop}
 use Rattle.script.specs.Lines.{until}
-use Rattle.script.proofs.LineLaws.{until-here, until-next, until_end}
+use Rattle.script.proofs.LineLaws.{until_here, until_next, until_end}
 use Rattle.script.proofs.next_byte.Statement.{statement}
 use Rattle.script.proofs.next_byte.Tie as tie
 
@@ -18,13 +18,13 @@ returns : tie.Need-returns invariant-loop decreases-loop
 returns c =
     let loop = c.before.before.before in
     let a = loop.before.args in
-    omega (arith, until-here a.byte a.text.now loop.loop.i c.before.before.loop-test.true c.if1.true, loop.loop.invariant.0)
+    omega (arith, until_here a.byte a.text.now loop.loop.i c.before.before.loop-test.true c.if1.true, loop.loop.invariant.0)
 
 loop-again : tie.Need-loop-preserved invariant-loop decreases-loop
 loop-again c =
     let loop = c.before.before.before in
     let a = loop.before.args in
-    omega (arith, until-next a.byte a.text.now loop.loop.i c.before.before.loop-test.true c.if1.false, loop.loop.invariant.0)
+    omega (arith, until_next a.byte a.text.now loop.loop.i c.before.before.loop-test.true c.if1.false, loop.loop.invariant.0)
 
 returns-2 : tie.Need-returns-2 invariant-loop decreases-loop
 returns-2 c =

@@ -3,13 +3,13 @@ use Prim.Native.Nat.{◌-◌}
 use borrow.Author.Rules.{rules}
 use lib.ListN.{length, drop}
 use native.Mathlib.Numerals.{add-one}
-use Rattle.script.specs.Decimal.{numberSteps, noNumbers}
-use Rattle.script.proofs.LineLaws.{number-steps-next, number-steps-end}
+use Rattle.script.specs.Decimal.{number_steps, no_numbers}
+use Rattle.script.proofs.LineLaws.{number_steps_next, number_steps_end}
 use Rattle.script.proofs.numbers_of.Statement.{statement}
 use Rattle.script.proofs.numbers_of.Tie as tie
 
 abbrev invariant-loop : tie.invariant-loop
-invariant-loop line from found₀ i₀ found i = numberSteps found (drop i line) ≡ numberSteps noNumbers (drop from line)
+invariant-loop line from found₀ i₀ found i = number_steps found (drop i line) ≡ number_steps no_numbers (drop from line)
 
 abbrev decreases-loop : tie.decreases-loop
 decreases-loop line from found₀ i₀ found i = length line - i
@@ -18,10 +18,10 @@ loop-holds : tie.Need-loop-init invariant-loop decreases-loop
 loop-holds c = refl
 
 loop-again : tie.Need-loop-preserved invariant-loop decreases-loop
-loop-again c = rw (add-one, c.number_step.ensures, ← number-steps-next _ _ _ c.before.before.loop-test.true) c.before.before.before.loop.invariant
+loop-again c = rw (add-one, c.number_step.ensures, ← number_steps_next _ _ _ c.before.before.loop-test.true) c.before.before.before.loop.invariant
 
 returns : tie.Need-returns invariant-loop decreases-loop
-returns c = rw (← c.before.before.loop.invariant, number-steps-end _ _ _ c.before.loop-test.false) c.end-numbers.ensures
+returns c = rw (← c.before.before.loop.invariant, number_steps_end _ _ _ c.before.loop-test.false) c.end-numbers.ensures
 
 pub numbers-of-spec : {M : Type 1} → statement M
 numbers-of-spec =

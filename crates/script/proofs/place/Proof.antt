@@ -5,13 +5,13 @@ use lib.ListN.{length, drop, get_or}
 use native.Mathlib.Numerals.{add-one}
 use native.Mathlib.Omega.{arith}
 use Rattle.script.specs.declared.Looking.{Looking}
-use Rattle.script.specs.Names.{lookLast, lookSteps, notFound}
-use Rattle.script.proofs.LineLaws.{look-steps-next, look-steps-end, look-few}
+use Rattle.script.specs.Names.{look_last, look_steps, not_found}
+use Rattle.script.proofs.LineLaws.{look_steps_next, look_steps_end, look-few}
 use Rattle.script.proofs.place.Statement.{statement}
 use Rattle.script.proofs.place.Tie as tie
 
 abbrev invariant-loop : tie.invariant-loop
-invariant-loop names word looking₀ i₀ looking i = (lookSteps word looking (drop i names) ≡ lookSteps word notFound names) × (looking.number ≤ i) × (i ≤ length names)
+invariant-loop names word looking₀ i₀ looking i = (look_steps word looking (drop i names) ≡ look_steps word not_found names) × (looking.number ≤ i) × (i ≤ length names)
 
 abbrev decreases-loop : tie.decreases-loop
 decreases-loop names word looking₀ i₀ looking i = length names - i
@@ -25,7 +25,7 @@ loop-again c =
     let a = loop.before.before.before.args in
     let taken = c.before.before.loop-test.true in
     let few = look-few a.word.now loop.loop.looking (get_or a.names.now loop.loop.i 0) in (
-      rw (add-one, c.look-step.ensures, ← look-steps-next _ _ _ _ taken) loop.loop.invariant.0,
+      rw (add-one, c.look-step.ensures, ← look_steps_next _ _ _ _ taken) loop.loop.invariant.0,
       rw c.look-step.ensures (omega (arith, few, loop.loop.invariant.1)),
       omega arith,
     )
@@ -34,9 +34,9 @@ returns : tie.Need-returns invariant-loop decreases-loop
 returns c =
     let loop = c.before.before in
     let a = loop.before.before.before.args in
-    let all : loop.loop.looking ≡ lookSteps a.word.now notFound a.names.now
-    = sym (look-steps-end a.word.now loop.loop.looking a.names.now loop.loop.i c.before.loop-test.false) ∙ loop.loop.invariant.0 in
-    ap (λ (l : Looking). l.number) (c.look-last.ensures ∙ ap (λ (l : Looking). lookLast a.word.now l) all)
+    let all : loop.loop.looking ≡ look_steps a.word.now not_found a.names.now
+    = sym (look_steps_end a.word.now loop.loop.looking a.names.now loop.loop.i c.before.loop-test.false) ∙ loop.loop.invariant.0 in
+    ap (λ (l : Looking). l.number) (c.look-last.ensures ∙ ap (λ (l : Looking). look_last a.word.now l) all)
 
 pub place-spec : {M : Type 1} → statement M
 place-spec =

@@ -3,13 +3,13 @@ use Prim.Native.Nat.{◌≤◌, ◌-◌, ◌*◌}
 use borrow.Author.Rules.{rules}
 use native.Mathlib.Omega.{arith}
 use borrow.Author.Tests.{not-true, not-false, le-ltb}
-use Rattle.script.specs.Shapes.{fitFrom}
+use Rattle.script.specs.Shapes.{fit_from}
 use Rattle.script.proofs.LineLaws.{fit_on, taken_not, taken-all}
 use Rattle.script.proofs.takes.Statement.{statement}
 use Rattle.script.proofs.takes.Tie as tie
 
 abbrev invariant-loop : tie.invariant-loop
-invariant-loop shapes command found i₀ i = (fitFrom shapes (command * 8) found i (8 - i) ≡ fitFrom shapes (command * 8) found 0 8) × (i ≤ 8)
+invariant-loop shapes command found i₀ i = (fit_from shapes (command * 8) found i (8 - i) ≡ fit_from shapes (command * 8) found 0 8) × (i ≤ 8)
 
 abbrev decreases-loop : tie.decreases-loop
 decreases-loop shapes command found i₀ i = 8 - i

@@ -1,6 +1,6 @@
 -- The numbers of the writer's answer.
 use mathlib.Core.Path.{ap, ◌∙◌}
-use Rattle.live.specs.Bytes.{liveWritten}
+use Rattle.live.specs.Bytes.{live_written}
 use borrow.Author.Rules.{rules}
 use Rattle.live.proofs.page.lsq_page.Statement.{statement}
 use Rattle.live.proofs.page.lsq_page.Tie as tie
@@ -8,7 +8,7 @@ use Rattle.live.proofs.page.lsq_page.Tie as tie
 returns : tie.Need-returns
 returns c =
     let k = c.before.before.before in
-    (c.live_written.ensures ∙ ap liveWritten k.write-page.ensures.0, k.write-page.ensures.1)
+    (c.live_written.ensures ∙ ap live_written k.write-page.ensures.0, k.write-page.ensures.1)
 
 pub lsq-page-spec : {M : Type 1} → statement M
 lsq-page-spec = tie.close (tie.spec (λ c κs. search rules) (λ c κs. search rules) (λ c. search rules) returns)

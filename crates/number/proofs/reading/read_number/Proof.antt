@@ -4,7 +4,7 @@ use mathlib.Core.Path.{◌∙◌}
 use native.Mathlib.Omega.{arith}
 use lib.ListN.{get_or}
 use borrow.Author.Rules.{rules}
-use Rattle.number.proofs.NumberLaws.{NumberSoFar, number-begun, number-ended, group-fits, number-one, number_more, last_fits, number-last}
+use Rattle.number.proofs.NumberLaws.{NumberSoFar, number_begun, number-ended, group-fits, number-one, number_more, last_fits, number_last}
 use Rattle.number.proofs.NumberLaws.{number-too-large}
 use Rattle.number.proofs.reading.read_number.Statement.{statement}
 use Rattle.number.proofs.reading.read_number.Tie as tie
@@ -16,7 +16,7 @@ abbrev decreases-loop : tie.decreases-loop
 decreases-loop bytes at value₀ scale₀ place₀ value scale place = 2 ^ 28 - scale
 
 loop-holds : tie.Need-loop-init invariant-loop decreases-loop
-loop-holds c = number-begun
+loop-holds c = number_begun
 
 returns : tie.Need-returns invariant-loop decreases-loop
 returns c = number-ended c.before.before.loop.invariant c.if1.true
@@ -96,7 +96,7 @@ ended-by-requires-2 c κs = let l = c.before.before.before in omega (arith, l.be
 returns-4 : tie.Need-returns-4 invariant-loop decreases-loop
 returns-4 c =
     let l = c.before.before.before.before in
-    c.ended-by2.ensures ∙ number-last l.before.loop.invariant l.loop-test.false c.before.before.before.if3.false c.before.if4.true
+    c.ended-by2.ensures ∙ number_last l.before.loop.invariant l.loop-test.false c.before.before.before.if3.false c.before.if4.true
 
 returns-5 : tie.Need-returns-5 invariant-loop decreases-loop
 returns-5 c =

@@ -8,7 +8,7 @@ use lib.ListN.{length, take}
 use lib.Seq.{take_all}
 use Rattle.number.specs.Number.{Puts}
 use Rattle.number.proofs.SpliceLaws.{put-fits, put-nothing}
-use Rattle.number.proofs.PutLaws.{puts_none, puts-as, put-place, put-long, put_next}
+use Rattle.number.proofs.PutLaws.{puts_none, puts_as, put-place, put-long, put_next}
 use Rattle.number.proofs.texts.put_bytes.Statement.{statement}
 use Rattle.number.proofs.texts.put_bytes.Tie as tie
 
@@ -61,7 +61,7 @@ loop-again c =
 returns-3 : tie.Need-returns-3 invariant-loop decreases-loop
 returns-3 c =
     let l = c.before in
-    put-fits (fits l.before) (puts-as (take_all l.loop.i (lent l) c.loop-test.false) l.loop.invariant.1)
+    put-fits (fits l.before) (puts_as (take_all l.loop.i (lent l) c.loop-test.false) l.loop.invariant.1)
 
 pub put-bytes-spec : {M : Type 1} → statement M
 put-bytes-spec =

@@ -2,7 +2,7 @@
 use native.Mathlib.Omega.{arith}
 use lib.ListN.{length-set}
 use borrow.Author.Rules.{rules}
-use Rattle.number.proofs.SpliceLaws.{Putting, putting-none, putting-room, putting-more, putting-end}
+use Rattle.number.proofs.SpliceLaws.{Putting, putting_none, putting-room, putting-more, putting-end}
 use Rattle.number.proofs.writing.put_fitting.Statement.{statement}
 use Rattle.number.proofs.writing.put_fitting.Tie as tie
 
@@ -13,7 +13,7 @@ abbrev decreases-loop : tie.decreases-loop
 decreases-loop out₀ at value left₀ place₀ out left place = left
 
 loop-holds : tie.Need-loop-init invariant-loop decreases-loop
-loop-holds c = putting-none (search rules)
+loop-holds c = putting_none (search rules)
 
 slice-write-out : tie.Need-slice-write-out invariant-loop decreases-loop
 slice-write-out c = putting-room c.before.loop.invariant c.before.before.requires

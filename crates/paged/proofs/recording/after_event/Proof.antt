@@ -11,7 +11,7 @@ use Rattle.trace.specs.declared.Event.{Event}
 use Rattle.trace.specs.declared.Event.TheVariants.{Activate, LoadAddress, StoreAddress, StoreData, Serve, Write, Take}
 use Rattle.trace.specs.contracts.Event.{the_type}
 use Rattle.shift.specs.declared.ShiftRecord.{ShiftRecord}
-use Rattle.paged.specs.Recorded.{afterEvent, valueGiven}
+use Rattle.paged.specs.Recorded.{after_event, value_given}
 use Rattle.paged.proofs.recording.after_event.Statement.{statement}
 use Rattle.paged.proofs.recording.after_event.Tie as tie
 
@@ -27,7 +27,7 @@ none_of n e (inr (inr (inr (inr (inl z))))) = omega (arith, e, z)
 none_of n e (inr (inr (inr (inr (inr z))))) = omega (arith, e, z)
 
 other : (kept : ShiftRecord) (event : Event) (given value : ℕ) → OneOf (0 ∷ 1 ∷ 2 ∷ 3 ∷ 4 ∷ 5 ∷ []) (tag_of the_type event)
-    → kept ≡ afterEvent kept event (valueGiven given value)
+    → kept ≡ after_event kept event (value_given given value)
 other kept (Activate g) given value k = refl
 other kept (LoadAddress p a) given value k = refl
 other kept (StoreAddress p a) given value k = refl

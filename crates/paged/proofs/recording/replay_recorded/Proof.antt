@@ -19,7 +19,7 @@ returns c =
     let a = d.before.before.before.before.before.before.before.before.before.before.args in
     record {
       replays = d.replay.ensures;
-      kept-is =
+      kept_is =
           kept-refused (groups_of a.table) a.trace.now a.memory.now a.counts (lent d) a.kept d.replay.result _ _ d.replay.ensures
           c.if1.true;
     }
@@ -31,7 +31,7 @@ returns-2 c =
     let a = d.before.before.before.before.before.before.before.before.before.before.args in
     record {
       replays = d.replay.ensures;
-      kept-is =
+      kept_is =
           kept-accepted (groups_of a.table) a.trace.now a.memory.now a.counts (lent d) a.kept d.replay.result _ _ d.replay.ensures
           e.if1.false c.record-replay.ensures;
     }

@@ -1,8 +1,8 @@
 use mathlib.Core.Path.{ap, ◌∙◌}
-use Rattle.number.proofs.PutLaws.{puts-as}
+use Rattle.number.proofs.PutLaws.{puts_as}
 use Rattle.shift.specs.declared.ShiftRecord.{ShiftRecord}
 use Rattle.shift.specs.Page.{page}
-use Rattle.paged.specs.Recorded.{recordBuffered, traceEvents}
+use Rattle.paged.specs.Recorded.{record_buffered, trace_events}
 use Rattle.paged.proofs.TextLaws.{page-put}
 use borrow.Author.Rules.{rules}
 use Rattle.paged.proofs.text.put_page.Statement.{statement}
@@ -14,7 +14,7 @@ returns c =
     let k = w.before.before in
     let n = k.before in
     let s = n.before.before.before.before.before in
-    puts-as (ap page (k.record-replay.ensures ∙ ap (λ (r : ShiftRecord). recordBuffered r (traceEvents s.args.trace.now) s.args.given.now
+    puts_as (ap page (k.record-replay.ensures ∙ ap (λ (r : ShiftRecord). record_buffered r (trace_events s.args.trace.now) s.args.given.now
     s.args.values.now) n.no_takes.ensures))
     (page-put k.record-replay.result s.requires w.write-page.ensures.1 w.write-page.auto.1.0)
 

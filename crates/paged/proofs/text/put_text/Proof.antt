@@ -5,17 +5,17 @@ use mathlib.Core.Path.{◌≡◌, sym, ap, ◌∙◌}
 use native.Mathlib.Omega.{arith}
 use lib.ListN.{length}
 use Rattle.number.proofs.SpliceLaws.{put-at}
-use Rattle.number.proofs.PutLaws.{puts-as}
+use Rattle.number.proofs.PutLaws.{puts_as}
 use Rattle.replay.specs.Replay.{Buffers}
 use Rattle.replay.proofs.ReplayLaws.{buffers}
 use Rattle.printed.specs.declared.files.FilesPlayed.{FilesPlayed}
 use Rattle.printed.specs.Files.{Files, files}
 use Rattle.shift.specs.Page.{page}
-use Rattle.paged.specs.Text.{filesPage}
-use Rattle.printed.specs.Played.{playedOn, HasPlayed}
+use Rattle.paged.specs.Text.{files_page}
+use Rattle.printed.specs.Played.{played_on, HasPlayed}
 use Rattle.printed.proofs.LineLaws.{fault-few}
 use Rattle.printed.proofs.FilesLaws.{enough, room-told, table-told, trace-told, run-told, no-room-told}
-use Rattle.paged.proofs.TextLaws.{run-record}
+use Rattle.paged.proofs.TextLaws.{run_record}
 use borrow.Author.Rules.{rules}
 use Rattle.paged.proofs.text.put_text.Statement.{statement}
 use Rattle.paged.proofs.text.put_text.Tie as tie
@@ -43,7 +43,7 @@ left p = let l = p.play-files.new.1.1.1 in buffers l.0 l.1.0 l.1.1.0
 
 -- what was played: what is lent has room
 told : (p : tie.After-play-files) {r : FilesPlayed} → p.play-files.result ≡ r
-    → HasPlayed (playedOn (memoryLent p) (lent p) (filesAt p)) r (memoryLeft p) (left p)
+    → HasPlayed (played_on (memoryLent p) (lent p) (filesAt p)) r (memoryLeft p) (left p)
 told p e =
     let m : length (memoryLent p) ≡ 4096 = search rules in
     let a : length (lent p).answers ≡ 16384 = search rules in
@@ -59,7 +59,7 @@ returns c =
     let p = d.before.before.before.before.before.before in
     let number = d.played.given.0.0 in
     let small : number < 2 ^ 8 = search rules in
-    puts-as (sym (ap filesPage (table-told _ _ (filesAt p) (told p d.played.given.1))))
+    puts_as (sym (ap files_page (table-told _ _ (filesAt p) (told p d.played.given.1))))
     (put-at (omega (arith, fault-few true number small, (start_at p).requires)) f.put-fault.ensures)
 
 returns-2 : tie.Need-returns-2
@@ -69,7 +69,7 @@ returns-2 c =
     let p = d.before.before.before.before.before.before in
     let number = d.played2.given.0.0 in
     let small : number < 2 ^ 8 = search rules in
-    puts-as (sym (ap filesPage (trace-told _ _ (filesAt p) (told p d.played2.given.1))))
+    puts_as (sym (ap files_page (trace-told _ _ (filesAt p) (told p d.played2.given.1))))
     (put-at (omega (arith, fault-few false number small, (start_at p).requires)) f.put-fault2.ensures)
 
 returns-3 : tie.Need-returns-3
@@ -79,7 +79,7 @@ returns-3 c =
     let p = e.before.before.before.before.before.before in
     let a = (start_at p).args in
     let ran = run-told _ _ (filesAt p) (told p e.enum_told.given.1) in
-    puts-as (ap page (run-record a.table.now a.trace.now ran.is (lent p) (left p) ran.buffers-are) ∙ sym (ap filesPage ran.is))
+    puts_as (ap page (run_record a.table.now a.trace.now ran.is (lent p) (left p) ran.buffers-are) ∙ sym (ap files_page ran.is))
     f.put-page.ensures
 
 -- what is lent has room

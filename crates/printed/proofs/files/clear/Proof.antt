@@ -3,7 +3,7 @@ use Prim.Native.Nat.{◌-◌}
 use native.Mathlib.Omega.{arith}
 use lib.ListN.{length}
 use borrow.Author.Rules.{rules}
-use Rattle.printed.proofs.FilesLaws.{ClearedTo, cleared-none, cleared-long, cleared_more, cleared-end}
+use Rattle.printed.proofs.FilesLaws.{ClearedTo, cleared_none, cleared-long, cleared_more, cleared-end}
 use Rattle.printed.proofs.files.clear.Statement.{statement}
 use Rattle.printed.proofs.files.clear.Tie as tie
 
@@ -14,7 +14,7 @@ abbrev decreases-loop : tie.decreases-loop
 decreases-loop memory₀ i₀ memory i = length memory₀ - i
 
 loop-holds : tie.Need-loop-init invariant-loop decreases-loop
-loop-holds c = cleared-none
+loop-holds c = cleared_none
 
 mul-memory : tie.Need-overflow-mul-memory invariant-loop decreases-loop
 mul-memory c = search rules

@@ -4,7 +4,7 @@ use mathlib.Core.Path.{sym}
 use native.Mathlib.Omega.{arith}
 use lib.ListN.{length, drop}
 use lib.Seq.{length-take-le}
-use Rattle.queue.specs.Contents.{contentsOf}
+use Rattle.queue.specs.Contents.{contents_of}
 use Rattle.queue.proofs.ContentsLaws.{words-held}
 use Rattle.replay.specs.Replay.{Buffers}
 use Rattle.replay.proofs.ReplayLaws.{buffers}
@@ -40,12 +40,12 @@ filled r = let l = r.replay-from.new.1.1.1.1.1 in buffers l.0 l.1.0 l.1.1.0
 told : (r : tie.After-replay-from)
     → let a = (lent_at r).args in
     let words = a.queue.frame.memory_length in
-    PlaysAs (contentsOf a.queue) a.trace.now a.at a.memory.now (lent r) words r.replay-from.result
+    PlaysAs (contents_of a.queue) a.trace.now a.at a.memory.now (lent r) words r.replay-from.result
     (r.replay-from.new.1.1.1.0 ++ drop words a.memory.now) (filled r)
 told r =
     let s = lent_at r in
     let a = s.args in
-    plays (contentsOf a.queue) a.at a.queue.frame.memory_length r.replay-from.result r.replay-from.new.1.1.1.0 (filled r)
+    plays (contents_of a.queue) a.at a.queue.frame.memory_length r.replay-from.result r.replay-from.new.1.1.1.0 (filled r)
     s.pre (sym (words-held a.queue)) r.replay-from.ensures
 
 returns : tie.Need-returns

@@ -3,10 +3,10 @@ use mathlib.Core.Bool.{true}
 use borrow.Author.Tests.{not-true, not-false}
 use Rattle.replay.specs.Replay.{Buffers}
 use Rattle.replay.proofs.ReplayLaws.{buffers}
-use Rattle.table.proofs.RoundTrip.{table-refused, table-given}
+use Rattle.table.proofs.RoundTrip.{table-refused, table_given}
 use Rattle.printed.specs.Files.{Files, files}
-use Rattle.printed.specs.Played.{hasRoom}
-use Rattle.printed.proofs.FilesLaws.{has_room, table-long, table-fault, table-right, told-as, told-table, told-short, told_in}
+use Rattle.printed.specs.Played.{has_room}
+use Rattle.printed.proofs.FilesLaws.{has_room_lem, table-long, table-fault, table-right, told-as, told-table, told-short, told_in}
 use borrow.Author.Rules.{rules}
 use Rattle.printed.proofs.files.play_files.Statement.{statement}
 use Rattle.printed.proofs.files.play_files.Tie as tie
@@ -27,7 +27,7 @@ returns c =
     told-short s.args.memory.now (lent s) (filesAt s) (sym h.have-room.ensures ∙ not-true _ c.if1.true)
 
 -- once there is room
-room : (e : tie.Else1) → let s = start_at e.before in hasRoom s.args.memory.now (lent s) ≡ true
+room : (e : tie.Else1) → let s = start_at e.before in has_room s.args.memory.now (lent s) ≡ true
 room e = sym e.before.have-room.ensures ∙ not-false _ e.if1.false
 
 returns-2 : tie.Need-returns-2
@@ -51,7 +51,7 @@ play-trace-requires c κs =
     let t = c.before.before.before.before.before.before.before in
     let e = t.before.before in
     let s = start_at e.before in
-    has_room s.args.memory.now (lent s) (room e)
+    has_room_lem s.args.memory.now (lent s) (room e)
 
 returns-4 : tie.Need-returns-4
 returns-4 c =
@@ -60,7 +60,7 @@ returns-4 c =
     let t = right.before.before in
     let e = t.before.before in
     let s = start_at e.before in
-    let is = table-given s.args.table.now t.read_table.result t.read_table.ensures right.if3.false in
+    let is = table_given s.args.table.now t.read_table.result t.read_table.ensures right.if3.false in
     told_in s.args.memory.now (lent s) (filesAt s) (room e)
     (told-as s.args.memory.now (lent s) (table-right s.args.table.now s.args.trace.now t.before.if2.false is)
     p.play-trace.ensures)

@@ -2,8 +2,8 @@ use native.Mathlib.Omega.{arith}
 use lib.ListN.{length-append}
 use Rattle.counts.specs.Counts.{share}
 use Rattle.printed.specs.Internal.{item}
-use Rattle.number.proofs.PutLaws.{puts-as, puts-length, both, both_end, both_long}
-use Rattle.printed.proofs.LineLaws.{item-few, loadsSpace, forwardedSpace, shareSpace, counts-line}
+use Rattle.number.proofs.PutLaws.{puts_as, puts-length, both, both_end, both_long}
+use Rattle.printed.proofs.LineLaws.{item-few, loads_space, forwarded_space, share_space, counts-line}
 use borrow.Author.Rules.{rules}
 use Rattle.printed.proofs.lines.put_counts.Statement.{statement}
 use Rattle.printed.proofs.lines.put_counts.Tie as tie
@@ -12,7 +12,7 @@ put-item-requires-2 : tie.Need-put-item-requires-2
 put-item-requires-2 c κs =
     let w = c.before.before.before.before.before.put_item.ensures in
     let s = c.before.before.before.before.before.before.before.before.before.before in
-    let few = item-few loadsSpace s.args.counts.loads 32 in
+    let few = item-few loads_space s.args.counts.loads 32 in
     omega (arith, s.requires, few, w.ends, puts-length w (omega (arith, s.requires, few)))
 
 put-item-requires-3 : tie.Need-put-item-requires-3
@@ -21,8 +21,8 @@ put-item-requires-3 c κs =
     let w = k.before.before.before.before.before.before.before.before.put_item.ensures in
     let v = k.before.before.put-item2.ensures in
     let s = k.before.before.before.before.before.before.before.before.before.before.before.before.before in
-    let f = item-few loadsSpace s.args.counts.loads 32 in
-    let g = item-few forwardedSpace s.args.counts.forwarded 32 in
+    let f = item-few loads_space s.args.counts.loads 32 in
+    let g = item-few forwarded_space s.args.counts.forwarded 32 in
     let h = s.requires in
     omega (arith, f, g, h, both_end w v (omega (arith, f, g, h)), both_long w v (omega (arith, f, g, h)))
 
@@ -32,15 +32,15 @@ returns c =
     let w = k.before.before.before.before.before.before.before.before.put_item.ensures in
     let v = k.before.before.put-item2.ensures in
     let s = k.before.before.before.before.before.before.before.before.before.before.before.before.before in
-    let f = item-few loadsSpace s.args.counts.loads 32 in
-    let g = item-few forwardedSpace s.args.counts.forwarded 32 in
+    let f = item-few loads_space s.args.counts.loads 32 in
+    let g = item-few forwarded_space s.args.counts.forwarded 32 in
     let h = s.requires in
-    let i = item loadsSpace s.args.counts.loads 32 in
-    let j = item forwardedSpace s.args.counts.forwarded 32 in
+    let i = item loads_space s.args.counts.loads 32 in
+    let j = item forwarded_space s.args.counts.forwarded 32 in
     let p = c.before.before.before.share.ensures in
     let z = both (both w v (omega (arith, f, g, h))) c.before.before.put-item3.ensures
-    (omega (arith, f, g, h, item-few shareSpace c.before.before.before.share.result 10, length-append i j)) in
-    puts-as (counts-line s.args.counts) (rw p at z)
+    (omega (arith, f, g, h, item-few share_space c.before.before.before.share.result 10, length-append i j)) in
+    puts_as (counts-line s.args.counts) (rw p at z)
 
 pub put-counts-spec : {M : Type 1} → statement M
 put-counts-spec =

@@ -5,8 +5,8 @@ use borrow.Author.Rules.{rules}
 use lib.ListN.{length, length-append}
 use Rattle.printed.specs.Internal.{item}
 use Rattle.number.proofs.SpliceLaws.{put-at}
-use Rattle.number.proofs.PutLaws.{puts-as, puts-length, both, both_end, both_long}
-use Rattle.printed.proofs.LineLaws.{item-few, event-value, event-none}
+use Rattle.number.proofs.PutLaws.{puts_as, puts-length, both, both_end, both_long}
+use Rattle.printed.proofs.LineLaws.{item-few, event_value, event_none}
 use Rattle.printed.proofs.lines.put_event.Statement.{statement}
 use Rattle.printed.proofs.lines.put_event.Tie as tie
 
@@ -41,7 +41,7 @@ returns c =
     let v = k.before.before.put-item2.ensures in
     let s = k.before.before.before.before.before.before.before.before.before.before.before.args in
     let h = fits k in
-    puts-as (event-value s.number s.answer s.given s.word c.before.before.before.before.before.if1.true)
+    puts_as (event_value s.number s.answer s.given s.word c.before.before.before.before.before.if1.true)
     (both (both w v (omega arith)) c.before.before.put-item3.ensures
     (omega (arith, h, item-few [] s.word 10, length-append (item [] s.number 32) (item [] s.answer 32))))
 
@@ -53,7 +53,7 @@ returns-2 c =
     let s = k.before.before.before.before.before.before.before.before.before.before.before.args in
     let h = fits k in
     let end = put-at (omega (arith, h, both_end w v (omega arith), both_long w v (omega arith))) c.before.before.put-bytes.ensures in
-    puts-as (event-none s.number s.answer s.given s.word c.before.before.before.before.before.if1.false)
+    puts_as (event_none s.number s.answer s.given s.word c.before.before.before.before.before.if1.false)
     (both (both w v (omega arith)) end (omega (arith, h, length-append (item [] s.number 32) (item [] s.answer 32))))
 
 pub put-event-spec : {M : Type 1} → statement M

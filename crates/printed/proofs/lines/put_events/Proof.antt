@@ -2,10 +2,10 @@ use Prim.Native.Nat.{◌-◌, ◌≤◌}
 use mathlib.Core.Path.{◌≡◌}
 use native.Mathlib.Omega.{arith}
 use lib.ListN.{take}
-use Rattle.printed.specs.Text.{eventLines}
+use Rattle.printed.specs.Text.{event_lines}
 use Rattle.number.specs.Number.{Puts}
 use Rattle.printed.specs.Internal.{rows}
-use Rattle.number.proofs.PutLaws.{puts_none, puts-as, puts-length, puts-puts}
+use Rattle.number.proofs.PutLaws.{puts_none, puts_as, puts-length, puts-puts}
 use Rattle.printed.proofs.LineLaws.{rows-text-few, rows_next}
 use borrow.Author.Rules.{rules}
 use Rattle.printed.proofs.lines.put_events.Statement.{statement}
@@ -13,7 +13,7 @@ use Rattle.printed.proofs.lines.put_events.Tie as tie
 
 abbrev invariant-loop : tie.invariant-loop
 invariant-loop out₀ answers given words count place₀ i₀ out place i =
-    (i ≤ count) × Puts out₀ 0 (eventLines 1 (take i (rows answers given words))) place out
+    (i ≤ count) × Puts out₀ 0 (event_lines 1 (take i (rows answers given words))) place out
 
 abbrev decreases-loop : tie.decreases-loop
 decreases-loop out₀ answers given words count place₀ i₀ out place i = count - i
@@ -62,7 +62,7 @@ loop-again c =
     let few = rows-text-few a.answers.now a.given.now a.values.now a.count s.requires.0 s.requires.1 s.requires.2 l.i l.invariant.0 in
     let w = l.invariant.1 in (
       omega (arith, at-loop-test.loop-test.true),
-      puts-as (rows_next a.answers.now a.given.now a.values.now a.count s.requires.0 s.requires.1 s.requires.2 l.i
+      puts_as (rows_next a.answers.now a.given.now a.values.now a.count s.requires.0 s.requires.1 s.requires.2 l.i
           at-loop-test.loop-test.true)
           (puts-puts w (omega (arith, few, s.requires.3, at-loop-test.loop-test.true)) c.before.before.put-event.ensures),
     )

@@ -3,7 +3,7 @@ use mathlib.Core.Path.{◌≡◌, sym}
 use native.Mathlib.Omega.{arith}
 use lib.ListN.{length}
 use lib.Seq.{length-take-le}
-use Rattle.printed.proofs.LineLaws.{item-few, puts-taken, fits-as}
+use Rattle.printed.proofs.LineLaws.{item-few, puts-taken, fits_as}
 use borrow.Author.Rules.{rules}
 use Rattle.printed.proofs.lines.put_line.Statement.{statement}
 use Rattle.printed.proofs.lines.put_line.Tie as tie
@@ -24,7 +24,7 @@ slice-aggregate-put-bytes c = sym (length-take-le _ _ (few c.before.before.befor
 returns : tie.Need-returns
 returns c =
     let b = c.before.before in
-    fits-as (puts-taken b.before.before.before.before.put_item.ensures) b.put-bytes.ensures
+    fits_as (puts-taken b.before.before.before.before.put_item.ensures) b.put-bytes.ensures
 
 pub put-line-spec : {M : Type 1} → statement M
 put-line-spec =

@@ -2,7 +2,7 @@ use Prim.Native.Nat.{ℕ, ◌+◌, ◌*◌, ◌≤◌}
 use mathlib.Core.List.{List}
 use native.Mathlib.Omega.{arith}
 use lib.ListN.{length, take, length-append}
-use Rattle.printed.specs.Text.{eventLines, wordLines}
+use Rattle.printed.specs.Text.{event_lines, word_lines}
 use Rattle.printed.specs.Internal.{rows}
 use Rattle.number.proofs.PutLaws.{puts-length, puts-puts, both, both_end, both_long}
 use Rattle.printed.proofs.LineLaws.{rows-text-few, words-few}
@@ -12,16 +12,16 @@ use Rattle.printed.proofs.lines.put_run.Tie as tie
 
 -- the lines of the events and of the memory, and that those of the counts fit behind them
 abbrev events : tie.Start → List ℕ
-events s = eventLines 1 (take s.args.count (rows s.args.answers.now s.args.given.now s.args.values.now))
+events s = event_lines 1 (take s.args.count (rows s.args.answers.now s.args.given.now s.args.values.now))
 
 abbrev memory : tie.Start → List ℕ
-memory s = wordLines 0 s.args.memory.now
+memory s = word_lines 0 s.args.memory.now
 
 few : (s : tie.Start) → length (events s) ≤ 63 * s.args.count
 few s =
     let a = s.args in
     let w = s.requires in
-    rows-text-few a.answers.now a.given.now a.values.now a.count w.answers-hold w.given-hold w.values-hold a.count (omega arith)
+    rows-text-few a.answers.now a.given.now a.values.now a.count w.answers_hold w.given_hold w.values_hold a.count (omega arith)
 
 fits : (s : tie.Start) → 0 + length (events s) + length (memory s) + 85 ≤ length s.args.out.now
 fits s = omega (arith, few s, words-few 0 s.args.memory.now, s.requires.few, s.requires.memory-few, s.requires.room)

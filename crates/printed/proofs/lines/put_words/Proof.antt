@@ -2,9 +2,9 @@ use Prim.Native.Nat.{◌-◌, ◌≤◌}
 use native.Mathlib.Omega.{arith}
 use lib.ListN.{length, take}
 use lib.Seq.{take_all}
-use Rattle.printed.specs.Text.{wordLines}
+use Rattle.printed.specs.Text.{word_lines}
 use Rattle.number.specs.Number.{Puts}
-use Rattle.number.proofs.PutLaws.{puts_none, puts-as, puts-length, puts-puts}
+use Rattle.number.proofs.PutLaws.{puts_none, puts_as, puts-length, puts-puts}
 use Rattle.printed.proofs.LineLaws.{words-text-few, words-next}
 use mathlib.Core.Path.{ap}
 use borrow.Author.Rules.{rules}
@@ -12,7 +12,7 @@ use Rattle.printed.proofs.lines.put_words.Statement.{statement}
 use Rattle.printed.proofs.lines.put_words.Tie as tie
 
 abbrev invariant-loop : tie.invariant-loop
-invariant-loop out₀ at memory place₀ i₀ out place i = (i ≤ length memory) × Puts out₀ at (wordLines 0 (take i memory)) place out
+invariant-loop out₀ at memory place₀ i₀ out place i = (i ≤ length memory) × Puts out₀ at (word_lines 0 (take i memory)) place out
 
 abbrev decreases-loop : tie.decreases-loop
 decreases-loop out₀ at memory place₀ i₀ out place i = length memory - i
@@ -45,7 +45,7 @@ loop-again c =
     let few = words-text-few m l.i l.invariant.0 in
     let w = l.invariant.1 in (
       omega (arith, at-loop-test.loop-test.true),
-      puts-as (words-next m l.i at-loop-test.loop-test.true)
+      puts_as (words-next m l.i at-loop-test.loop-test.true)
           (puts-puts w (omega (arith, few, s.requires, at-loop-test.loop-test.true)) c.before.before.put_word.ensures),
     )
 
@@ -59,7 +59,7 @@ same_length c =
     puts-length w (omega (arith, few, s.requires, l.invariant.0))
 
 returns : tie.Need-returns invariant-loop decreases-loop
-returns c = puts-as (ap (wordLines 0) (take_all c.before.loop.i c.before.before.before.before.args.memory.now c.loop-test.false))
+returns c = puts_as (ap (word_lines 0) (take_all c.before.loop.i c.before.before.before.before.args.memory.now c.loop-test.false))
     c.before.loop.invariant.1
 
 pub put-words-spec : {M : Type 1} → statement M

@@ -7,8 +7,8 @@ use lib.ListN.{length, length-set}
 use borrow.Author.Rules.{rules}
 use borrow.Fn.Kinds.{In}
 use borrow.Fn.PlainCycle.{Measures, is, falls, and}
-use Rattle.number.specs.Texts.{digitsUpTo}
-use Rattle.number.proofs.PutLaws.{puts_none, puts-as, puts-length, put_byte, digits-zero, digits-one, digits_more, digits-room}
+use Rattle.number.specs.Texts.{digits_up_to}
+use Rattle.number.proofs.PutLaws.{puts_none, puts_as, puts-length, put_byte, digits_zero, digits-one, digits_more, digits-room}
 use Rattle.printed.proofs.put.put_digits.Reads as reads
 use Rattle.printed.proofs.put.put_digits.Kinds as kinds
 use Rattle.printed.proofs.put.+put_digits.Lts-put_digits as lts
@@ -34,12 +34,12 @@ cast-out t c = search rules
 slice-write-out : (t : ℕ) → lts.Need-slice-write-out (below t, reads.Post) (here t) reads.Post
 slice-write-out t c =
     let a = c.before.before.args in
-    omega (arith, c.before.before.requires.1, ap length (digits-zero a.more a.n c.if1.true))
+    omega (arith, c.before.before.requires.1, ap length (digits_zero a.more a.n c.if1.true))
 
 add-result : (t : ℕ) → lts.Need-overflow-add-result (below t, reads.Post) (here t) reads.Post
 add-result t c =
     let a = c.before.before.args in
-    omega (arith, c.before.before.requires.1, ap length (digits-zero a.more a.n c.if1.true))
+    omega (arith, c.before.before.requires.1, ap length (digits_zero a.more a.n c.if1.true))
 
 same_length : (t : ℕ) → lts.Need-same-length (below t, reads.Post) (here t) reads.Post
 same_length t c = search rules
@@ -47,8 +47,8 @@ same_length t c = search rules
 returns : (t : ℕ) → lts.Need-returns (below t, reads.Post) (here t) reads.Post
 returns t c =
     let a = c.before.before.args in
-    let one = digits-zero a.more a.n c.if1.true in
-    puts-as (sym one) (put_byte _ puts_none (omega (arith, c.before.before.requires.1, ap length one)))
+    let one = digits_zero a.more a.n c.if1.true in
+    puts_as (sym one) (put_byte _ puts_none (omega (arith, c.before.before.requires.1, ap length one)))
 
 -- a number of one digit
 add-out-2 : (t : ℕ) → lts.Need-overflow-add-out-2 (below t, reads.Post) (here t) reads.Post
@@ -74,7 +74,7 @@ returns-2 : (t : ℕ) → lts.Need-returns-2 (below t, reads.Post) (here t) read
 returns-2 t c =
     let a = c.before.before.before.args in
     let one = digits-one a.more a.n c.before.if1.false c.if2.true in
-    puts-as (sym one) (put_byte _ puts_none (omega (arith, c.before.before.before.requires.1, ap length one)))
+    puts_as (sym one) (put_byte _ puts_none (omega (arith, c.before.before.before.requires.1, ap length one)))
 
 -- a tenth of it first
 sub-put-digits : (t : ℕ) → lts.Need-overflow-sub-put-digits (below t, reads.Post) (here t) reads.Post
@@ -95,7 +95,7 @@ cast-out-3 t c = search rules
 -- room for the digit behind them
 room : (t : ℕ) (c : lts.After-slice-known2 (below t, reads.Post) (here t) reads.Post) →
     let start = c.before.before.before.before.before.before.before in
-    start.args.at + length (digitsUpTo (start.args.more - 1) (start.args.n / 10)) < length start.args.out.now
+    start.args.at + length (digits_up_to (start.args.more - 1) (start.args.n / 10)) < length start.args.out.now
 room t c =
     let s = c.before.before.before.before.before.before.before in
     omega (
@@ -123,7 +123,7 @@ same-length-3 t c =
 returns-3 : (t : ℕ) → lts.Need-returns-3 (below t, reads.Post) (here t) reads.Post
 returns-3 t c =
     let s = c.before.before.before.before.before.before.before in
-    puts-as (sym (digits_more s.args.more s.args.n c.before.before.before.before.before.if1.false
+    puts_as (sym (digits_more s.args.more s.args.n c.before.before.before.before.before.if1.false
     c.before.before.before.before.if2.false)) (put_byte _ c.before.before.put-digits.ensures (room t c))
 
 pub +put-digits-spec : {M : Type 1} → statement M

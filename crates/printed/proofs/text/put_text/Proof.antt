@@ -5,16 +5,16 @@ use native.Mathlib.Omega.{arith}
 use lib.ListN.{length}
 use lib.Seq.{length-take-le}
 use Rattle.number.proofs.SpliceLaws.{put-at}
-use Rattle.number.proofs.PutLaws.{puts-as}
+use Rattle.number.proofs.PutLaws.{puts_as}
 use Rattle.replay.specs.Replay.{Buffers}
 use Rattle.replay.proofs.ReplayLaws.{buffers}
 use Rattle.printed.specs.declared.files.FilesPlayed.{FilesPlayed}
 use Rattle.printed.specs.Files.{Files, files}
-use Rattle.printed.specs.Text.{filesText}
-use Rattle.printed.specs.Played.{playedOn, HasPlayed}
-use Rattle.printed.proofs.LineLaws.{fits-as}
+use Rattle.printed.specs.Text.{files_text}
+use Rattle.printed.specs.Played.{played_on, HasPlayed}
+use Rattle.printed.proofs.LineLaws.{fits_as}
 use Rattle.printed.proofs.FilesLaws.{enough, room-told, table-told, trace-told, run-told, no-room-told}
-use Rattle.printed.proofs.TextLaws.{run-left}
+use Rattle.printed.proofs.TextLaws.{run_left}
 use Rattle.printed.proofs.TextFits.{text-fits}
 use borrow.Author.Rules.{rules}
 use Rattle.printed.proofs.text.put_text.Statement.{statement}
@@ -43,7 +43,7 @@ left p = let l = p.play-files.new.1.1.1 in buffers l.0 l.1.0 l.1.1.0
 
 -- what was played: what is lent has room
 told : (p : tie.After-play-files) {r : FilesPlayed} → p.play-files.result ≡ r
-    → HasPlayed (playedOn (memoryLent p) (lent p) (filesAt p)) r (memoryLeft p) (left p)
+    → HasPlayed (played_on (memoryLent p) (lent p) (filesAt p)) r (memoryLeft p) (left p)
 told p e =
     let m : length (memoryLent p) ≡ 4096 = search rules in
     let a : length (lent p).answers ≡ 16384 = search rules in
@@ -59,7 +59,7 @@ returns c =
     let p = d.before.before.before.before.before.before in
     let s = start_at p in
     put-at (omega (arith, text-fits s.args.table.now s.args.trace.now, s.pre))
-    (fits-as (sym (ap filesText (table-told _ _ (filesAt p) (told p d.played.given.1)))) f.put-fault.ensures)
+    (fits_as (sym (ap files_text (table-told _ _ (filesAt p) (told p d.played.given.1)))) f.put-fault.ensures)
 
 returns-2 : tie.Need-returns-2
 returns-2 c =
@@ -68,7 +68,7 @@ returns-2 c =
     let p = d.before.before.before.before.before.before in
     let s = start_at p in
     put-at (omega (arith, text-fits s.args.table.now s.args.trace.now, s.pre))
-    (fits-as (sym (ap filesText (trace-told _ _ (filesAt p) (told p d.played2.given.1)))) f.put-fault2.ensures)
+    (fits_as (sym (ap files_text (trace-told _ _ (filesAt p) (told p d.played2.given.1)))) f.put-fault2.ensures)
 
 -- a run as it was left
 abbrev ranAt : tie.After-played3 → tie.After-play-files
@@ -78,26 +78,26 @@ array-share-prefix-memory : tie.Need-array-share-prefix-memory
 array-share-prefix-memory c =
     let d = c.before.before.before.before.before in
     let p = ranAt d in
-    (run-left (run-told _ _ (filesAt p) (told p d.played3.given.1))).words-few
+    (run_left (run-told _ _ (filesAt p) (told p d.played3.given.1))).words-few
 
 slice-aggregate-put-run-4 : tie.Need-slice-aggregate-put-run-4
 slice-aggregate-put-run-4 c =
     let d = c.before.before.before.before.before.before in
     let p = ranAt d in
-    sym (length-take-le _ (memoryLeft p) (run-left (run-told _ _ (filesAt p) (told p d.played3.given.1))).words-few)
+    sym (length-take-le _ (memoryLeft p) (run_left (run-told _ _ (filesAt p) (told p d.played3.given.1))).words-few)
 
 put-run-requires : tie.Need-put-run-requires
 put-run-requires c κs =
     let d = c.before.before.before.before.before.before in
     let p = ranAt d in
-    let w = run-left (run-told _ _ (filesAt p) (told p d.played3.given.1)) in
+    let w = run_left (run-told _ _ (filesAt p) (told p d.played3.given.1)) in
     let m : length (memoryLeft p) ≡ 4096 = search rules in
     let a : length (left p).answers ≡ 16384 = search rules in
     let words = length-take-le _ (memoryLeft p) w.words-few in
     record {
-      answers-hold = w.answers;
-      given-hold = w.given;
-      values-hold = w.values;
+      answers_hold = w.answers;
+      given_hold = w.given;
+      values_hold = w.values;
       few = omega (arith, w.answers, a);
       memory-few = omega (arith, words, w.words-few, m);
       room = (start_at p).pre;
@@ -108,7 +108,7 @@ returns-3 c =
     let r = c.before.before in
     let d = r.before.before.before.before.before.before.before in
     let p = ranAt d in
-    puts-as (run-left (run-told _ _ (filesAt p) (told p d.played3.given.1))).text r.put-run.ensures
+    puts_as (run_left (run-told _ _ (filesAt p) (told p d.played3.given.1))).text r.put-run.ensures
 
 -- what is lent has room
 returns-4 : tie.Need-returns-4

@@ -41,7 +41,7 @@ use denote.Triple.Table.{entered, cited}
 use denote.Triple.Walked.{says, Stays, stay_none, stay_dropped, walk_of, Goes-none, Goes-spent_slice, Walks, ends_at, walked, walk_Meets}
 use denote.Exit.{yes, no}
 use denote.Signature.{plain, mut_slice_of}
-use Rattle.queue.specs.Contents.{contentsOf}
+use Rattle.queue.specs.Contents.{contents_of}
 use Rattle.queue.specs.Ready.{ready as readyRule, Readies}
 use Rattle.queue.specs.declared.Kind.{Kind}
 use Rattle.queue.specs.declared.Queue.{Queue}
@@ -56,7 +56,7 @@ use Rattle.queue.proofs.Readied.TheLaws as F'
 use Rattle.queue.specs.contracts.ReadySerials as T
 use Rattle.queue.proofs.ReadySerials.TheLaws as T'
 use Rattle.queue.proofs.Again.{LentAgain, lends_again, comes_back}
-use Rattle.queue.proofs.Front.{room-front, front_out}
+use Rattle.queue.proofs.Front.{room_front, front_out}
 use Rattle.queue.proofs.Leave.{leaves}
 use Rattle.queue.proofs.ReadyLaws.{fronts}
 use Rattle.queue.specs.contracts.Queue.ready_into as fill
@@ -123,7 +123,7 @@ module _ {M : Type 1} {𝓤 : Ura M} (𝓛 : Logic 𝓤) (mem : Memory → SProp
 
   -- what `ready_into` ensures of its result f and of the last list zs
   abbrev Said : Readied → List ℕ → Type 0
-  Said f zs = Readies d ys (readyRule k (contentsOf d) ys) f zs
+  Said f zs = Readies d ys (readyRule k (contents_of d) ys) f zs
 
   -- the result, and its machine value
   abbrev made : Readied → List ℕ → GName → ReadySerials
@@ -138,7 +138,7 @@ module _ {M : Type 1} {𝓤 : Ura M} (𝓛 : Logic 𝓤) (mem : Memory → SProp
   made-is : (f : Readied) (vs : List Val) (zs : List ℕ) (δ : GName) → Is F.the_row f vs → Room u32 (length zs)
       → Is (T.the_row α) (made f zs δ) (rval f zs δ ∷ [])
   made-is f vs zs δ is r = let fields = LL.owed F.the_type F'.the_laws f vs is in
-      LL.owes (T.the_type α) (T'.the_laws α) (made f zs δ) (fields.0, (((refl, room-front u32 f.count zs r), (tt, tt)), (fields.1.1.0, tt)))
+      LL.owes (T.the_type α) (T'.the_laws α) (made f zs δ) (fields.0, (((refl, room_front u32 f.count zs r), (tt, tt)), (fields.1.1.0, tt)))
 
   -- The values by their fields, by name: written out, they are too long for antt to carry.
   record Fields (f : Readied) : Type 0 where
@@ -160,7 +160,7 @@ module _ {M : Type 1} {𝓤 : Ura M} (𝓛 : Logic 𝓤) (mem : Memory → SProp
       qed 𝓛 (‵ (flft κ q) ∷ ‵ ((MutSlice (named 0) κ u32).own_val (x δ (take f.count zs)) (s (length (take f.count zs)) ∷ [])) ∷ []) ∵
       suffices ! _ (ends_at 𝓛 ready.ended stayed (ready.clauses 𝓛 mem run) (((κ, tt), (q, tt), tt, a, vals), tt) (rval f zs δ) (made f zs δ)
       (tt, (tt, (tt, tt))) (tt, (tt, (tt, tt)))) $
-      says ! ((fronts d ys (readyRule k (contentsOf d) ys) f zs e).1, refl) $
+      says ! ((fronts d ys (readyRule k (contents_of d) ys) f zs e).1, refl) $
       nothing ! $ move ! (1 ∷ 0 ∷ []) $ join ! $ frame ! $
       nothing ! $ owned ! Q.the_row (Is Q.the_row) (LL.makes Q.the_type Q'.the_plain 𝓛) f.queue _ fields.1.1.0 $ fjoin !
       $ move ! (1 ∷ 0 ∷ []) $ fjoin ! $
@@ -250,11 +250,11 @@ module _ {M : Type 1} {𝓤 : Ura M} (𝓛 : Logic 𝓤) (mem : Memory → SProp
           assigns ! (of_opd ! (load ! (from ! (fld ! refl (stop !))) (look_in ! 16 (sub ! 1 refl (whole !))))) (from ! (stop !))
           (init ! 14 refl (tt, record { fits = (LL.owed F.the_type F'.the_laws f _ is).1.0.1 })) $
           rewrite ! 14 (λ (n : ℕ). ‵ (fat full_share (ty_int w64) l₅ 0 (vint w64 n)))
-          (sym (length-take-le f.count zs.1.1.0 (fronts d ys (readyRule k (contentsOf d) ys) f zs.1.1.0 ef.0).0)) refl $
+          (sym (length-take-le f.count zs.1.1.0 (fronts d ys (readyRule k (contents_of d) ys) f zs.1.1.0 ef.0).0)) refl $
           assigns ! (addr ! (from ! (fld ! refl (hop ! (look_in ! 18 (sub ! 0 refl (whole !))) (stop !))))) (from ! (stop !)) (init ! 8 refl (tt, tt)) $
           assigns ! (agg ! (and_then ! (load ! (from ! (stop !)) (look ! 8 refl))
           (and_then ! (load ! (from ! (stop !)) (look ! 14 refl)) (no_more !)))) (from ! (stop !))
-          (init ! 6 refl (tt, (tt, (record { fits = (room-front u32 f.count zs.1.1.0 (room_of zs.1.1.0 l)).0 }, tt)))) $
+          (init ! 6 refl (tt, (tt, (record { fits = (room_front u32 f.count zs.1.1.0 (room_of zs.1.1.0 l)).0 }, tt)))) $
           assigns ! (agg ! (and_then ! (load ! (from ! (fld ! refl (stop !))) (look_in ! 16 (sub ! 0 refl (whole !))))
           (and_then ! (load ! (from ! (stop !)) (look ! 6 refl))
           (and_then ! (load ! (from ! (fld ! refl (stop !))) (look_in ! 16 (sub ! 2 refl (whole !)))) (no_more !))))) (from ! (stop !))

@@ -45,8 +45,8 @@ use Rattle.counts.specs.declared.Counts.{Counts}
 use Rattle.counts.specs.contracts.Counts as N
 use Rattle.counts.proofs.Counts.TheLaws as N'
 use Rattle.queue.proofs.Leave.{leaves}
-use Rattle.queue.specs.Contents.{contentsOf}
-use Rattle.queue.specs.Outcome.{Serves, withoutCounts}
+use Rattle.queue.specs.Contents.{contents_of}
+use Rattle.queue.specs.Outcome.{Serves, without_counts}
 use Rattle.queue.specs.Serve as rule
 use Rattle.queue.specs.declared.Queue.{Queue}
 use Rattle.queue.specs.declared.Counted.{Counted}
@@ -94,7 +94,7 @@ record Fields (k : Counted) : Type 0 where
   vc : Val
   whole_is : kval k ≡ vstruct (of_list (va ∷ vv ∷ vq ∷ vc ∷ []))
   counts-is : (vs : List Val) → Is K.the_row k vs → Is N.the_row k.counts (vc ∷ [])
-  out-is : (vs : List Val) → Is K.the_row k vs → Is O.the_row (withoutCounts k) (vstruct (of_list (va ∷ vv ∷ vq ∷ [])) ∷ [])
+  out-is : (vs : List Val) → Is K.the_row k vs → Is O.the_row (without_counts k) (vstruct (of_list (va ∷ vv ∷ vq ∷ [])) ∷ [])
 
 fields-of : (k : Counted) → Fields k
 fields-of k = record {
@@ -105,7 +105,7 @@ fields-of k = record {
   whole_is = refl;
   counts-is = λ vs is. (LL.owed K.the_type K'.the_laws k vs is).1.1.1.0;
   out-is = λ vs is. let fields = LL.owed K.the_type K'.the_laws k vs is in
-      LL.owes O.the_type O'.the_laws (withoutCounts k) (fields.0, (fields.1.0, (fields.1.1.0, tt)));
+      LL.owes O.the_type O'.the_laws (without_counts k) (fields.0, (fields.1.0, (fields.1.1.0, tt)));
 }
 
 module _ {M : Type 1} {𝓤 : Ura M} (𝓛 : Logic 𝓤) (at_mem : Memory → SProp 𝓤) (run : Routine
@@ -124,7 +124,7 @@ module _ {M : Type 1} {𝓤 : Ura M} (𝓛 : Logic 𝓤) (at_mem : Memory → SP
 
   -- what serving by value says of what it hands back
   abbrev Said : Counted → Type 0
-  Said k = Serves d c (rule.serve (contentsOf d) s.now n) k
+  Said k = Serves d c (rule.serve (contents_of d) s.now n) k
 
   abbrev Post : Val → SProp 𝓤
   Post = (walk_of 𝓛 serve.ended stayed (serve.clauses 𝓛 at_mem run)).post (((κ, (κ', tt)), (q, (q', tt)), bounds, x, at), tt)
@@ -151,21 +151,21 @@ module _ {M : Type 1} {𝓤 : Ura M} (𝓛 : Logic 𝓤) (at_mem : Memory → SP
   said k = via 𝓤 _ (ex_e 𝓤 _ (λ ws. snd∗ 𝓤 (sem 𝓛 (lasts inner.ended (κ, tt) (d, (s, (c, (n, tt)))) ws)) (fact 𝓤 (Said k))))
       (fact_mono 𝓤 (Said k) (Said k × Fields k) (λ e. (e, fields-of k)))
 
-  exits : (k : Counted) (ov : Val) → Is O.the_row (withoutCounts k) (ov ∷ []) → Said k
+  exits : (k : Counted) (ov : Val) → Is O.the_row (without_counts k) (ov ∷ []) → Said k
       → ent 𝓤 (⋆ 𝓛 (‵ (fobs γ ((N.the_row).coded.code k.counts)) ∷ ‵ (fbor κ' (Body (mem N.the_row) b o γ)) ∷ ‵
       (flft κ' q') ∷ (‵ (flft κ q) ⊛ ‵ ftrue) ∷ ‵ Own ∷ [])) (Post ov)
   exits k ov o_is e =
       qed 𝓛 (‵ (fobs γ ((N.the_row).coded.code k.counts)) ∷ ‵ (fbor κ' (Body (mem N.the_row) b o γ)) ∷ ‵
       (flft κ' q') ∷ (‵ (flft κ q) ⊛ ‵ ftrue) ∷ ‵ Own ∷ []) ∵
       suffices ! _ (ends_at 𝓛 serve.ended stayed (serve.clauses 𝓛 at_mem run) (((κ, (κ', tt)), (q, (q', tt)), bounds, x, at), tt) ov
-      (withoutCounts k) (tt, (tt, (k.counts, (tt, tt)))) (tt, (tt, (tt, (tt, tt))))) $
+      (without_counts k) (tt, (tt, (k.counts, (tt, tt)))) (tt, (tt, (tt, (tt, tt))))) $
       says ! e $
       move ! (3 ∷ []) $ split ! $ move ! (4 ∷ 1 ∷ []) $ join ! $ move ! (1 ∷ 0 ∷ []) $ join ! $ frame ! $
       -- [obs; the borrow; what mem owns]
       feq_i ! (List Val) (vptr b o ∷ []) (vptr b o ∷ []) refl $ fjoin3 ! $ nothing ! $ owned ! u32 (Is u32) (uint_Makes 𝓛 w32) n _ (refl, n-fits)
       $ fjoin ! $ move ! (1 ∷ 0 ∷ []) $ fjoin ! $ move ! (1 ∷ 0 ∷ []) $ fjoin ! $
       owned ! Q.the_row (Is Q.the_row) (LL.makes Q.the_type Q'.the_plain 𝓛) d _ d-is $ fjoin ! $
-      owned ! O.the_row (Is O.the_row) (LL.makes O.the_type O'.the_plain 𝓛) (withoutCounts k) _ o_is $ move ! (1 ∷ 0 ∷ []) $ done !
+      owned ! O.the_row (Is O.the_row) (LL.makes O.the_type O'.the_plain 𝓛) (without_counts k) _ o_is $ move ! (1 ∷ 0 ∷ []) $ done !
 
   module _ (C : Calls 𝓤 H) (Λ : Loops 𝓤 H) (fm : FmC 𝓤 H 𝓛.laws C) (known : Triple 𝓤 (C #inner) (Inner 𝓛 at_mem run)) where
     -- The body, whatever the types of the large locals: written out, they are too long for antt to carry.
@@ -177,7 +177,7 @@ module _ {M : Type 1} {𝓤 : Ura M} (𝓛 : Logic 𝓤) (at_mem : Memory → SP
       E = (TO, l₀) ∷ (TQ, l₁) ∷ (TS, l₂) ∷ (TP, l₃) ∷ (ty_int w32, l₄) ∷ (N'.mir, l₅) ∷ (TK, l₆) ∷ []
 
       body : ((k : Counted) (u : Val) → Is K.the_row k (u ∷ []) → T (has_ty TK u) × WT u)
-          → ((k : Counted) (u : Val) → Is O.the_row (withoutCounts k) (u ∷ []) → T (has_ty TO u) × WT u)
+          → ((k : Counted) (u : Val) → Is O.the_row (without_counts k) (u ∷ []) → T (has_ty TO u) × WT u)
           → Sq 𝓛
           (‵ (froom TK l₆ 0) ∷ ‵ (fdies TK l₆) ∷ ‵ (froom N'.mir l₅ 0) ∷ ‵ (fdies N'.mir l₅)
           ∷ ‵ (fat full_share (ty_int w32) l₄ 0 (vint w32 n)) ∷ ‵
@@ -245,7 +245,7 @@ module _ {M : Type 1} {𝓤 : Ura M} (𝓛 : Logic 𝓤) (at_mem : Memory → SP
         $ pass1 ! (init ! 8 refl ((shr_slice_Lawful 𝓛 (named 0) κ u32).typed s (v ∷ []) s-is).0) $ pass1 ! (init ! 6 refl (tt, tt))
         $ pass1 ! (init ! 4 refl (tt, record { fits = n-fits })) $ pass0 ! $
         body _ _ _ _ _ _ _ _ l₀ l₁ l₂ l₃ l₄ l₅ l₆ (λ k u is. ((LL.lawful K.the_type K'.the_laws 𝓛).typed k _ is).0)
-        (λ k u is. ((LL.lawful O.the_type O'.the_laws 𝓛).typed (withoutCounts k) _ is).0))))))))
+        (λ k u is. ((LL.lawful O.the_type O'.the_laws 𝓛).typed (without_counts k) _ is).0))))))))
 
 module _ {M : Type 1} {𝓤 : Ura M} (𝓛 : Logic 𝓤) (mem : Memory → SProp 𝓤) (run : Routine → Fun 𝓤) where
   open 𝓛 use {H}

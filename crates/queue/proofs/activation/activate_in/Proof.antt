@@ -1,25 +1,25 @@
 -- Each test that is left behind is a step of the rule; the test that fails is its refusal.
 use Rattle.std.proofs.Common.{◌≡◌, ◌<◌, true, sym, refl, ap, ◌∙◌, rules}
 use Rattle.queue.specs.declared.Kind.TheVariants as Kind
-use Rattle.queue.specs.Contents.{contentsOf}
-use Rattle.queue.specs.Activate.{room, withGroup, activate}
+use Rattle.queue.specs.Contents.{contents_of}
+use Rattle.queue.specs.Activate.{room, with_group, activate}
 use Rattle.queue.specs.Outcome.{Handed, handed}
-use Rattle.queue.specs.Parts.{frame_of, queueOf, outcomeOf}
+use Rattle.queue.specs.Parts.{frame_of, queue_of, outcome_of}
 use Rattle.queue.specs.Internal.{PairsFit}
 use Rattle.queue.proofs.PartsLaws.{PartsFit, fit, unfit}
 use borrow.Author.Tests.{not-true, not-false}
-use Rattle.table.specs.Group.{GroupPairs, pairsOf}
+use Rattle.table.specs.Group.{GroupPairs, pairs_of}
 use Rattle.table.proofs.CheckLaws.{group-inside}
 use Rattle.table.proofs.OrderOffsets.{GroupRight}
 use Rattle.queue.specs.declared.Frame.{Frame}
 use Rattle.queue.specs.declared.Queue.{Queue}
 use mathlib.Core.Option.{none}
 use Rattle.queue.specs.declared.answering.Step.{Step}
-use Rattle.number.specs.Refusal.{noPlace}
+use Rattle.number.specs.Refusal.{no_place}
 use Rattle.number.specs.Reply.{accept, need}
 use Rattle.queue.proofs.SoundLaws.{table-right, count_most}
 use Rattle.queue.proofs.GroupLaws.{groups-few, group-right}
-use Rattle.queue.proofs.ActivateLaws.{with-group-is, room-record, appended-both, group-fits, activate-unsound, activate-no-group, activate-group}
+use Rattle.queue.proofs.ActivateLaws.{with_group_is, room-record, appended-both, group-fits, activate-unsound, activate-no-group, activate-group}
 use Rattle.queue.proofs.activation.activate_in.Statement.{statement}
 use Rattle.queue.proofs.activation.activate_in.Tie as tie
 
@@ -31,11 +31,11 @@ abbrev frame : tie.Start → Frame
 frame s = let a = s.args in frame_of a.outline a.groups.now a.load-places.now a.store-places.now
 
 abbrev queueIn : tie.Start → Queue
-queueIn s = queueOf (frame s) s.args.load-entries.now s.args.store-entries.now
+queueIn s = queue_of (frame s) s.args.load-entries.now s.args.store-entries.now
 
 -- what is handed back where the entries are as they were
 abbrev unchanged : tie.Start → Step → Handed
-unchanged s t = handed (outcomeOf (frame s) t s.args.load-entries.now s.args.store-entries.now)
+unchanged s t = handed (outcome_of (frame s) t s.args.load-entries.now s.args.store-entries.now)
 
 abbrev queue : tie.After-sound-in → Queue
 queue c = queueIn (start c)
@@ -53,7 +53,7 @@ begun g = start (checked g).before
 
 -- the group as it is meant
 abbrev meant : tie.After-group-at → GroupPairs
-meant g = pairsOf (frame (begun g)).table.loads (frame (begun g)).table.stores g.group_at.result
+meant g = pairs_of (frame (begun g)).table.loads (frame (begun g)).table.stores g.group_at.result
 
 below : (g : tie.After-group-at) → (begun g).args.group < (frame (begun g)).table.count
 below g = g.before.if2.false
@@ -65,17 +65,17 @@ good-group g =
     group-right (frame s).table (groups-few (frame s).table t) s.args.group (below g) g.group_at.ensures t
 
 rule : (g : tie.After-group-at) → let s = begun g in
-    activate (contentsOf (queueIn s)) s.args.group ≡ need (room (contentsOf (queueIn s)) (meant g)) noPlace
-    (accept (withGroup (contentsOf (queueIn s)) (meant g)))
+    activate (contents_of (queueIn s)) s.args.group ≡ need (room (contents_of (queueIn s)) (meant g)) no_place
+    (accept (with_group (contents_of (queueIn s)) (meant g)))
 rule g = let s = begun g in activate-group (queueIn s) s.args.group (good (checked g)).right (below g) g.group_at.ensures
 
 abbrev chosen : tie.After-has-room → tie.After-group-at
 chosen h = h.before.before.before
 
-has-place : (h : tie.After-has-room) → room (contentsOf (queueIn (begun (chosen h)))) (meant (chosen h)) ≡ h.has_room.result
+has-place : (h : tie.After-has-room) → room (contents_of (queueIn (begun (chosen h)))) (meant (chosen h)) ≡ h.has_room.result
 has-place h = room-record (queueIn (begun (chosen h))) (chosen h).group_at.result ∙ sym h.has_room.ensures
 
-place : (e : tie.Else3) → room (contentsOf (queueIn (begun (chosen e.before)))) (meant (chosen e.before)) ≡ true
+place : (e : tie.Else3) → room (contents_of (queueIn (begun (chosen e.before)))) (meant (chosen e.before)) ≡ true
 place e = has-place e.before ∙ not-false _ e.if3.false
 
 fits : (e : tie.Else3) → let g = chosen e.before in let s = begun g in
@@ -89,8 +89,8 @@ returns : tie.Need-returns
 returns c =
     let s = start c.before.before in
     let q = queueIn s in
-    rw (unfit q (activate (contentsOf q) s.args.group) c.before.before.sound-in.ensures c.before.if1.true
-    (activate-unsound (contentsOf q) s.args.group)) (ap (unchanged s) c.refused.ensures)
+    rw (unfit q (activate (contents_of q) s.args.group) c.before.before.sound-in.ensures c.before.if1.true
+    (activate-unsound (contents_of q) s.args.group)) (ap (unchanged s) c.refused.ensures)
 
 returns-2 : tie.Need-returns-2
 returns-2 c =
@@ -138,7 +138,7 @@ returns-4 c =
       gives = refl {a = none};
       holds = rw (d.before.longer.ensures, d.longer2.ensures)
           (appended-both (queueIn s) g.group_at.result a.append.ensures b.append2.ensures
-          ∙ with-group-is (contentsOf (queueIn s)) (meant g) (good-group g));
+          ∙ with_group_is (contents_of (queueIn s)) (meant g) (good-group g));
     })
 
 pub activate-in-spec : {M : Type 1} → statement M

@@ -1,24 +1,24 @@
 -- The entries are those held, and behind them the group's first j.
 use Rattle.std.proofs.Common.{◌≡◌, ℕ, ◌+◌, ◌-◌, ◌<◌, ◌≤◌, List, length, get_or, take, sym, refl, ap, ◌∙◌, arith, length-set, take_all, rules}
 use Rattle.table.specs.declared.Pair.{Pair}
-use Rattle.table.specs.Group.{blankPair, list_of}
+use Rattle.table.specs.Group.{blank_pair, list_of}
 use Rattle.table.proofs.CheckLaws.{view-length, view-at}
-use Rattle.queue.specs.Entry.{entry_of, entryIn, number_of}
-use Rattle.queue.specs.Internal.{entryAfter, structAfter}
-use Rattle.queue.proofs.EntryLaws.{entry-number}
-use Rattle.queue.proofs.AppendLaws.{Pasted, pasted-none, pasted-more, mapped-appended}
+use Rattle.queue.specs.Entry.{entry_of, entry_in, number_of}
+use Rattle.queue.specs.Internal.{entry_after, struct_after}
+use Rattle.queue.proofs.EntryLaws.{entry_number}
+use Rattle.queue.proofs.AppendLaws.{Pasted, pasted-none, pasted-more, mapped_appended}
 use Rattle.queue.proofs.activation.append.Statement.{statement}
 use Rattle.queue.proofs.activation.append.Tie as tie
 
 -- the number of a pair's entry, where `others` of the other kind are held
 abbrev numberAfter : ℕ → Pair → ℕ
-numberAfter others p = number_of (structAfter others p)
+numberAfter others p = number_of (struct_after others p)
 
 -- it has room for the entry
-after-number : (others : ℕ) (p : Pair) → others ≤ 64 → p.port < 32 → p.offset ≤ 16 → entryIn (numberAfter others p) ≡ entryAfter others p
+after-number : (others : ℕ) (p : Pair) → others ≤ 64 → p.port < 32 → p.offset ≤ 16 → entry_in (numberAfter others p) ≡ entry_after others p
 after-number others p few port offset =
     let before : others + p.offset < 256 = omega arith in
-    ap entry_of (entry-number (structAfter others p) (record { port = port; before = before; address = omega arith; word = omega arith }))
+    ap entry_of (entry_number (struct_after others p) (record { port = port; before = before; address = omega arith; word = omega arith }))
 
 abbrev invariant-loop : tie.invariant-loop
 invariant-loop entries₀ held places others start more first j₀ entries j =
@@ -42,7 +42,7 @@ left s = omega (arith, view-length s.args.places.now s.args.pairs)
 abbrev turn : tie.After-unpack-pair invariant-loop decreases-loop → tie.In-loop invariant-loop decreases-loop
 turn u = u.before.before
 
-this : (u : tie.After-unpack-pair invariant-loop decreases-loop) → get_or (listed (start (turn u).before)) (turn u).before.loop.j blankPair ≡ u.unpack-pair.result
+this : (u : tie.After-unpack-pair invariant-loop decreases-loop) → get_or (listed (start (turn u).before)) (turn u).before.loop.j blank_pair ≡ u.unpack-pair.result
 this u =
     let l = turn u in
     let a = (start l.before).args in
@@ -55,8 +55,8 @@ offset-few u =
     rw (this u) at ((start l.before).pre.0.offsets l.before.loop.j l.loop-test.taken)
 
 -- and its number has room for all of it
-fits : (s : tie.Start invariant-loop decreases-loop) (i : ℕ) → i < s.args.pairs.count → let p = get_or (listed s) i blankPair in
-    entryIn (numberAfter s.args.others p) ≡ entryAfter s.args.others p
+fits : (s : tie.Start invariant-loop decreases-loop) (i : ℕ) → i < s.args.pairs.count → let p = get_or (listed s) i blank_pair in
+    entry_in (numberAfter s.args.others p) ≡ entry_after s.args.others p
 fits s i k = after-number s.args.others _ s.requires.1 (s.requires.0.ports i k) (s.requires.0.offsets i k)
 
 loop-holds : tie.Need-loop-init invariant-loop decreases-loop
@@ -104,7 +104,7 @@ loop-again c =
     let i = l.before.loop.inv in (
       omega (arith, l.loop-test.taken),
       rw c.pack.ensures
-          (pasted-more i.1 blankPair (this u) (omega (arith, s.pre.2, s.pre.0.room, l.loop-test.taken))
+          (pasted-more i.1 blank_pair (this u) (omega (arith, s.pre.2, s.pre.0.room, l.loop-test.taken))
           (omega (arith, left s, l.loop-test.taken))),
       simp length-set i.2,
     )
@@ -119,7 +119,7 @@ returns c =
     let n = s.args.pairs.count in
     let all : take n (listed s) ≡ listed s = take_all n (listed s) (omega (arith, view-length s.args.places.now s.args.pairs)) in
     record {
-      holds = rw all at (mapped-appended entryIn 0 (numberAfter s.args.others) (entryAfter s.args.others) blankPair i.1 n
+      holds = rw all at (mapped_appended entry_in 0 (numberAfter s.args.others) (entry_after s.args.others) blank_pair i.1 n
           (omega (arith, i.0, c.loop-test.false)) (omega (arith, s.pre.2, s.pre.0.room)) (left s) (fits s));
     }
 

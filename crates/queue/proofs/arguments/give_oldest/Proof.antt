@@ -1,30 +1,30 @@
 use Rattle.std.proofs.Common.{◌≡◌, get_or, refl, ap, ◌∙◌, arith, rules, le-ltb, lt-ltb}
-use Rattle.queue.specs.Entry.{entryIn, number_of}
-use Rattle.queue.specs.Contents.{firstPlace, entriesHeld}
-use Rattle.queue.specs.Arguments.{withArgument}
-use Rattle.queue.specs.Internal.{waitingAt, lacksMark, setArgument}
+use Rattle.queue.specs.Entry.{entry_in, number_of}
+use Rattle.queue.specs.Contents.{first_place, entries_held}
+use Rattle.queue.specs.Arguments.{with_argument}
+use Rattle.queue.specs.Internal.{waiting_at, lacks_mark, set_argument}
 use Rattle.queue.specs.declared.entries.Mark.{Mark}
-use Rattle.queue.proofs.ArgumentLaws.{argument-number}
+use Rattle.queue.proofs.ArgumentLaws.{argument_number}
 use Rattle.queue.proofs.arguments.give_oldest.Statement.{statement}
 use Rattle.queue.proofs.arguments.give_oldest.Tie as tie
 
 place : (c : tie.After-oldest-without) → let s = c.before.before.before.before in
-    c.oldest-without.result ≡ waitingAt s.args.held s.args.port s.args.argument s.args.entries.now
+    c.oldest-without.result ≡ waiting_at s.args.held s.args.port s.args.argument s.args.entries.now
 place c =
     let m = c.before.before in
     let a = m.before.before.args in
-    c.oldest-without.ensures ∙ ap (λ (mark : Mark). firstPlace (lacksMark mark a.port) (entriesHeld a.held a.entries.now)) m.mark_of.ensures
+    c.oldest-without.ensures ∙ ap (λ (mark : Mark). first_place (lacks_mark mark a.port) (entries_held a.held a.entries.now)) m.mark_of.ensures
 
 -- what stands there once the argument is given
 given : (c : tie.After-pack) → let a = c.before.before.before.before.before.before.before.before.before.args in
-    entryIn c.pack.result ≡ withArgument a.argument a.number (entryIn (get_or a.entries.now c.before.before.before.before.before.oldest-without.result 0))
+    entry_in c.pack.result ≡ with_argument a.argument a.number (entry_in (get_or a.entries.now c.before.before.before.before.before.oldest-without.result 0))
 given c =
     let w = c.before in
     let u = w.before in
     let i = u.before.before in
     let s = i.before.before.before.before.before in
-    argument-number s.args.argument s.args.number _ (omega arith) s.requires.1
-    (c.pack.ensures ∙ ap number_of (w.with-argument.ensures ∙ ap (setArgument s.args.argument s.args.number) u.unpack.ensures))
+    argument_number s.args.argument s.args.number _ (omega arith) s.requires.1
+    (c.pack.ensures ∙ ap number_of (w.with-argument.ensures ∙ ap (set_argument s.args.argument s.args.number) u.unpack.ensures))
 
 returns : tie.Need-returns
 returns c =

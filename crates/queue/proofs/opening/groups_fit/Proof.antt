@@ -1,16 +1,16 @@
 use Rattle.std.proofs.Common.{◌≡◌, ◌+◌, ◌-◌, ◌≤◌, ◌∷◌, drop, sym, ◌∙◌, arith, rules}
 use borrow.Author.Tests.{not-true, not-false}
 use Rattle.table.specs.declared.Table.{Table}
-use Rattle.table.specs.Group.{GroupPairs, pairsOf}
+use Rattle.table.specs.Group.{GroupPairs, pairs_of}
 use Rattle.table.specs.Table.{groups_of}
-use Rattle.queue.specs.Open.{groupFits}
-use Rattle.queue.proofs.GroupLaws.{fits-record, groups-here, groups-end}
+use Rattle.queue.specs.Open.{group_fits}
+use Rattle.queue.proofs.GroupLaws.{fits_record, groups-here, groups_end}
 use Rattle.queue.proofs.WalkLaws.{AllYet, all_none, all-on, all-stop, all_end}
 use Rattle.queue.proofs.opening.groups_fit.Statement.{statement}
 use Rattle.queue.proofs.opening.groups_fit.Tie as tie
 
 abbrev invariant-loop : tie.invariant-loop
-invariant-loop load-depth store-depth table count i₀ i = (i ≤ table.count) × AllYet (groupFits load-depth store-depth) (groups_of table) i
+invariant-loop load-depth store-depth table count i₀ i = (i ≤ table.count) × AllYet (group_fits load-depth store-depth) (groups_of table) i
 
 abbrev decreases-loop : tie.decreases-loop
 decreases-loop load-depth store-depth table count i₀ i = count - i
@@ -20,7 +20,7 @@ abbrev table_at : tie.After-group-at invariant-loop decreases-loop → Table
 table_at c = c.before.before.before.before.before.args.t1
 
 abbrev group_of : tie.After-group-at invariant-loop decreases-loop → GroupPairs
-group_of c = pairsOf (table_at c).loads (table_at c).stores c.group_at.result
+group_of c = pairs_of (table_at c).loads (table_at c).stores c.group_at.result
 
 abbrev turn : tie.After-group-at invariant-loop decreases-loop → tie.In-loop invariant-loop decreases-loop
 turn c = c.before.before.before
@@ -30,11 +30,11 @@ here : (c : tie.After-group-at invariant-loop decreases-loop)
 here c = groups-here (table_at c) (turn c).before.before.requires (turn c).before.loop.i (turn c).loop-test.true c.group_at.ensures
 
 fits : (c : tie.After-group-fits invariant-loop decreases-loop)
-    → let a = (turn c.before).before.before.args in groupFits a.load-depth a.store-depth (group_of c.before) ≡ c.group-fits.result
+    → let a = (turn c.before).before.before.args in group_fits a.load-depth a.store-depth (group_of c.before) ≡ c.group-fits.result
 fits c =
     let g = c.before in
     let a = (turn g).before.before.args in
-    fits-record a.load-depth a.store-depth (table_at g).loads (table_at g).stores g.group_at.result ∙ sym c.group-fits.ensures
+    fits_record a.load-depth a.store-depth (table_at g).loads (table_at g).stores g.group_at.result ∙ sym c.group-fits.ensures
 
 loop-holds : tie.Need-loop-init invariant-loop decreases-loop
 loop-holds c = (search rules, all_none)
@@ -60,7 +60,7 @@ loop-again c =
 returns-2 : tie.Need-returns-2 invariant-loop decreases-loop
 returns-2 c =
     let t = c.before.before.args.t1 in
-    all_end c.before.loop.invariant.1 (groups-end t c.before.loop.i c.loop-test.false)
+    all_end c.before.loop.invariant.1 (groups_end t c.before.loop.i c.loop-test.false)
 
 pub groups-fit-spec : {M : Type 1} → statement M
 groups-fit-spec =

@@ -1,13 +1,13 @@
 use Rattle.std.proofs.Common.{◌≡◌, ◌+◌, ◌-◌, ◌≤◌, ◌∷◌, drop, arith, rules, eq-eqb, ne_eqb}
 use Rattle.table.specs.Group.{list_of}
-use Rattle.queue.specs.Arguments.{isPort}
-use Rattle.queue.proofs.GroupLaws.{pairs-here, pairs_end}
-use Rattle.queue.proofs.WalkLaws.{NoneYet, none-none, none-on, none-stop, none_end}
+use Rattle.queue.specs.Arguments.{is_port}
+use Rattle.queue.proofs.GroupLaws.{pairs_here, pairs_end}
+use Rattle.queue.proofs.WalkLaws.{NoneYet, none_none, none-on, none-stop, none_end}
 use Rattle.queue.proofs.ports.names_port.Statement.{statement}
 use Rattle.queue.proofs.ports.names_port.Tie as tie
 
 abbrev invariant-loop : tie.invariant-loop
-invariant-loop places port first count i₀ i = (i ≤ count) × NoneYet (isPort port) (list_of places (record { first = first; count = count })) i
+invariant-loop places port first count i₀ i = (i ≤ count) × NoneYet (is_port port) (list_of places (record { first = first; count = count })) i
 
 abbrev decreases-loop : tie.decreases-loop
 decreases-loop places port first count i₀ i = count - i
@@ -20,10 +20,10 @@ here : (u : tie.After-unpack-pair invariant-loop decreases-loop) → let l = u.b
 here u =
     let l = u.before.before in
     let a = (start l.before).args in
-    rw u.unpack-pair.ensures (pairs-here a.places.now a.pairs l.before.loop.i l.loop-test.true)
+    rw u.unpack-pair.ensures (pairs_here a.places.now a.pairs l.before.loop.i l.loop-test.true)
 
 loop-holds : tie.Need-loop-init invariant-loop decreases-loop
-loop-holds c = (search rules, none-none)
+loop-holds c = (search rules, none_none)
 
 add-unpack-pair : tie.Need-overflow-add-unpack-pair invariant-loop decreases-loop
 add-unpack-pair c = omega (arith, (start c.before).pre)

@@ -3,25 +3,25 @@ use borrow.Author.Tests.{not-true, not-false}
 use Rattle.queue.specs.declared.serving.Source as coded
 use Rattle.number.specs.Reply.{accepted}
 use Rattle.queue.specs.Entry.{Entry, entry_of}
-use Rattle.queue.specs.Contents.{entriesHeld}
-use Rattle.queue.specs.Serve.{loadedFrom}
-use Rattle.queue.specs.Internal.{sourceIn, loadReady}
+use Rattle.queue.specs.Contents.{entries_held}
+use Rattle.queue.specs.Serve.{loaded_from}
+use Rattle.queue.specs.Internal.{source_in, load_ready}
 use Rattle.queue.proofs.ServeLaws.{may-again, may-no-address, may_load}
 use Rattle.queue.proofs.ready.load_ready.Statement.{statement}
 use Rattle.queue.proofs.ready.load_ready.Tie as tie
 
 -- the stores before the load
 abbrev before : tie.Start → List Entry
-before s = entriesHeld s.args.load.before s.args.store-entries.now
+before s = entries_held s.args.load.before s.args.store-entries.now
 
 -- the source decides, once the load has an address and no value
 sourced : (c : tie.After-source-of) (x : coded.Source) → c.source_of.result ≡ x → let s = c.before.before.before.before.before.before in
-    accepted (loadedFrom [] s.args.load.address (sourceIn x)) ≡ loadReady (before s) (entry_of s.args.load)
+    accepted (loaded_from [] s.args.load.address (source_in x)) ≡ load_ready (before s) (entry_of s.args.load)
 sourced c x is =
     let e2 = c.before.before in
     let e1 = e2.before.before in
     let s = e1.before.before in
-    sym (ap accepted (may_load [] (before s) s.args.load e1.if1.false (not-false _ e2.if2.false) (ap sourceIn (sym is) ∙ c.source_of.ensures)))
+    sym (ap accepted (may_load [] (before s) s.args.load e1.if1.false (not-false _ e2.if2.false) (ap source_in (sym is) ∙ c.source_of.ensures)))
 
 returns : tie.Need-returns
 returns c = let s = c.before.before in sym (ap accepted (may-again [] (before s) s.args.load c.if1.true))

@@ -1,6 +1,6 @@
 use Rattle.std.proofs.Common.{◌≡◌, length, sym, refl, append-nil, add-one, arith, length-set, take-suc-set, rules}
 use borrow.Author.Tests.{not-true, not-false}
-use Rattle.queue.specs.Internal.{serialsListed}
+use Rattle.queue.specs.Internal.{serials_listed}
 use Rattle.table.proofs.CheckLaws.{long}
 use Rattle.queue.proofs.ready.noted.Statement.{statement}
 use Rattle.queue.proofs.ready.noted.Tie as tie
@@ -10,7 +10,7 @@ returns c = record {
   few = omega arith;
   long = refl;
   are =
-      rw (not-true c.before.args.ready c.if1.true) (sym (append-nil (serialsListed c.before.args.t1)));
+      rw (not-true c.before.args.ready c.if1.true) (sym (append-nil (serials_listed c.before.args.t1)));
 }
 
 returns-2 : tie.Need-returns-2

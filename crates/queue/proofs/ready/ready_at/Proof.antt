@@ -1,9 +1,9 @@
 use Rattle.std.proofs.Common.{ap, ◌∙◌, arith, rules}
 use Rattle.queue.specs.declared.Entry.{Entry as EntryStruct}
 use Rattle.queue.specs.Entry.{entry_of}
-use Rattle.queue.specs.Contents.{entriesHeld}
-use Rattle.queue.specs.Internal.{loadReady, Reaches}
-use Rattle.queue.proofs.ReadyLaws.{write-fault-ready}
+use Rattle.queue.specs.Contents.{entries_held}
+use Rattle.queue.specs.Internal.{load_ready, Reaches}
+use Rattle.queue.proofs.ReadyLaws.{write_fault_ready}
 use Rattle.queue.proofs.ready.ready_at.Statement.{statement}
 use Rattle.queue.proofs.ready.ready_at.Tie as tie
 
@@ -26,12 +26,12 @@ returns c =
     let e = u.before.before in
     let stores = e.before.before.before.before.args.store-entries.now in
     rw e.enum_told.given.1
-    (c.load-ready.ensures ∙ ap (λ (x : EntryStruct). loadReady (entriesHeld x.before stores) (entry_of x)) u.unpack.ensures)
+    (c.load-ready.ensures ∙ ap (λ (x : EntryStruct). load_ready (entries_held x.before stores) (entry_of x)) u.unpack.ensures)
 
 returns-2 : tie.Need-returns-2
 returns-2 c =
     let a = c.before.before.before.before.before.args in
-    rw (c.before.enum-told2.given.1, c.write-fault.ensures) (write-fault-ready a.load-entries.now a.store-entries.now a.i)
+    rw (c.before.enum-told2.given.1, c.write-fault.ensures) (write_fault_ready a.load-entries.now a.store-entries.now a.i)
 
 pub ready-at-spec : {M : Type 1} → statement M
 ready-at-spec =

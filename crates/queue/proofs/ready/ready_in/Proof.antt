@@ -1,8 +1,8 @@
 use Rattle.std.proofs.Common.{refl, rules}
 use Rattle.queue.specs.declared.Queue.{Queue}
-use Rattle.queue.specs.Contents.{contentsOf}
+use Rattle.queue.specs.Contents.{contents_of}
 use Rattle.queue.specs.Ready.{ready}
-use Rattle.queue.specs.Parts.{frame_of, queueOf}
+use Rattle.queue.specs.Parts.{frame_of, queue_of}
 use Rattle.queue.proofs.ReadyLaws.{ready-unsound, ready-sound, handed}
 use Rattle.queue.proofs.PartsLaws.{PartsFit, fit, unfit}
 use Rattle.queue.proofs.ready.ready_in.Statement.{statement}
@@ -14,7 +14,7 @@ start c = c.before.before.before.before
 abbrev queue : tie.After-sound-in → Queue
 queue c =
     let a = (start c).args in
-    queueOf (frame_of a.outline a.groups.now a.load-places.now a.store-places.now) a.load-entries.now a.store-entries.now
+    queue_of (frame_of a.outline a.groups.now a.load-places.now a.store-places.now) a.load-entries.now a.store-entries.now
 
 -- the runs are whole and the queue is sound
 good : (c : tie.Else1) → PartsFit (queue c.before)
@@ -26,7 +26,7 @@ returns c =
     let q = queue s in
     let kind = (start s).args.kind in
     let run = (start s).args.out.now in
-    rw (unfit q (ready kind (contentsOf q) run) s.sound-in.ensures c.if1.true (ready-unsound kind (contentsOf q) run))
+    rw (unfit q (ready kind (contents_of q) run) s.sound-in.ensures c.if1.true (ready-unsound kind (contents_of q) run))
     (record { outcome = refl; run_is = refl })
 
 ready-serials-requires : tie.Need-ready-serials-requires
@@ -42,7 +42,7 @@ returns-2 c =
     let f = h.before.before in
     let e = f.before in
     let q = queue e.before in
-    rw ((good e).full, ready-sound (start e.before).args.kind (contentsOf q) (start e.before).args.out.now (good e).right)
+    rw ((good e).full, ready-sound (start e.before).args.kind (contents_of q) (start e.before).args.out.now (good e).right)
     (handed q (f.ready-serials.ensures q.frame.table (good e).right) h.hand-out.ensures)
 
 pub ready-in-spec : {M : Type 1} → statement M

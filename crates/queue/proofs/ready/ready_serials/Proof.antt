@@ -2,20 +2,20 @@ use Rattle.std.proofs.Common.{◌≡◌, ℕ, ◌-◌, ◌^◌, ◌<◌, ◌≤�
 use Rattle.table.specs.declared.Table.{Table}
 use Rattle.queue.specs.declared.Queue.{Queue}
 use Rattle.queue.specs.declared.Side.{Side as SideStruct}
-use Rattle.queue.specs.Contents.{contentsOf, oldest}
-use Rattle.queue.specs.Ready.{oldestOf}
-use Rattle.queue.specs.Parts.{queueOf}
-use Rattle.queue.specs.Internal.{frameWith, readyAt}
-use Rattle.queue.proofs.ContentsLaws.{countsOf}
+use Rattle.queue.specs.Contents.{contents_of, oldest}
+use Rattle.queue.specs.Ready.{oldest_of}
+use Rattle.queue.specs.Parts.{queue_of}
+use Rattle.queue.specs.Internal.{frame_with, ready_at}
+use Rattle.queue.proofs.ContentsLaws.{counts_of}
 use Rattle.queue.proofs.SoundLaws.{count_most}
 use Rattle.queue.proofs.Serials.{oldest-small}
-use Rattle.queue.proofs.ReadyLaws.{ReadyGathering, gathering-none, gathering-more, oldest-in, in_reach, gathered}
+use Rattle.queue.proofs.ReadyLaws.{ReadyGathering, gathering_none, gathering-more, oldest_in, in_reach, gathered}
 use Rattle.queue.proofs.ready.ready_serials.Statement.{statement}
 use Rattle.queue.proofs.ready.ready_serials.Tie as tie
 
 abbrev invariant-loop : tie.invariant-loop
 invariant-loop kind load-entries store-entries count found₀ serial₀ i₀ found serial i =
-    (i ≤ count) × ReadyGathering (readyAt kind load-entries store-entries) serial₀ count i serial found
+    (i ≤ count) × ReadyGathering (ready_at kind load-entries store-entries) serial₀ count i serial found
 
 abbrev decreases-loop : tie.decreases-loop
 decreases-loop kind load-entries store-entries count found₀ serial₀ i₀ found serial i = count - i
@@ -25,26 +25,26 @@ start c = c.before.before.before.before.before
 
 -- the queue of these parts with a table, and with the one that it was checked with
 abbrev queueWith : Table → tie.Start invariant-loop decreases-loop → Queue
-queueWith t s = queueOf (frameWith t s.args.outline) s.args.load-entries.now s.args.store-entries.now
+queueWith t s = queue_of (frame_with t s.args.outline) s.args.load-entries.now s.args.store-entries.now
 
 abbrev whole : tie.Start invariant-loop decreases-loop → Queue
 whole s = queueWith s.requires.table s
 
 -- the kind's side, whatever the table
-side : (c : tie.After-side-of invariant-loop decreases-loop) → let s = c.before.before.before in c.side-of.result ≡ countsOf s.args.kind (whole s)
+side : (c : tie.After-side-of invariant-loop decreases-loop) → let s = c.before.before.before in c.side-of.result ≡ counts_of s.args.kind (whole s)
 side c = c.side-of.ensures
 
 most : (c : tie.After-side-of invariant-loop decreases-loop) → c.side-of.result.count ≤ 64
 most c = let s = c.before.before.before in rw (side c) (count_most (whole s) s.requires.right s.args.kind)
 
 first : (c : tie.After-oldest-serial invariant-loop decreases-loop) (t : Table) → let s = start c in
-    c.oldest-serial.result ≡ oldestOf s.args.kind (contentsOf (queueWith t s))
+    c.oldest-serial.result ≡ oldest_of s.args.kind (contents_of (queueWith t s))
 first c t =
     let s = start c in
-    c.oldest-serial.ensures ∙ ap (λ (x : SideStruct). oldest x.next x.count) (side c.before.before) ∙ sym (oldest-in s.args.kind (queueWith t s))
+    c.oldest-serial.ensures ∙ ap (λ (x : SideStruct). oldest x.next x.count) (side c.before.before) ∙ sym (oldest_in s.args.kind (queueWith t s))
 
 loop-holds : tie.Need-loop-init invariant-loop decreases-loop
-loop-holds c = (search rules, gathering-none _ refl (subst (λ (x : ℕ). x < 2 ^ 32) (sym c.oldest-serial.ensures) (oldest-small _ _)))
+loop-holds c = (search rules, gathering_none _ refl (subst (λ (x : ℕ). x < 2 ^ 32) (sym c.oldest-serial.ensures) (oldest-small _ _)))
 
 ready-at-requires : tie.Need-ready-at-requires invariant-loop decreases-loop
 ready-at-requires c κs =

@@ -1,5 +1,5 @@
 use Rattle.std.proofs.Common.{◌≤◌, arith, rules}
-use Rattle.queue.specs.Internal.{frameWith}
+use Rattle.queue.specs.Internal.{frame_with}
 use Rattle.queue.proofs.RetireLaws.{entries-retiring, retire-sides}
 use Rattle.queue.proofs.retiring.retire.Statement.{statement}
 use Rattle.queue.proofs.retiring.retire.Tie as tie
@@ -43,7 +43,7 @@ returns c t =
     let s = b.shorter2.ensures in
     let f = b.before.before in
     rw (l, s)
-    (retire-sides (frameWith t (start f.before.before).args.outline) f.before.before.retiring.ensures f.retiring2.ensures
+    (retire-sides (frame_with t (start f.before.before).args.outline) f.before.before.retiring.ensures f.retiring2.ensures
     (rw l at a.shift.ensures) (rw s at d.shift2.ensures))
 
 pub retire-spec : {M : Type 1} → statement M

@@ -1,21 +1,21 @@
 -- The first i places hold the entries from the `gone`th on, which remember the fewer of the other kind; the rest is as it was.
 use Rattle.std.proofs.Common.{◌≡◌, ℕ, ◌+◌, ◌-◌, ◌≤◌, length, get_or, sym, refl, ap, ◌∙◌, arith, length-set, rules}
-use Rattle.queue.specs.Entry.{entryIn}
-use Rattle.queue.specs.Contents.{entriesHeld}
-use Rattle.queue.specs.Retire.{afterRetiring}
-use Rattle.queue.proofs.RetireLaws.{loweredIn, Moved, moved_none, moved_more, moved-side, lowered-number}
+use Rattle.queue.specs.Entry.{entry_in}
+use Rattle.queue.specs.Contents.{entries_held}
+use Rattle.queue.specs.Retire.{after_retiring}
+use Rattle.queue.proofs.RetireLaws.{lowered_in, Moved, moved_none, moved_more, moved-side, lowered_number}
 use Rattle.queue.proofs.retiring.shift.Statement.{statement}
 use Rattle.queue.proofs.retiring.shift.Tie as tie
 
 abbrev invariant-loop : tie.invariant-loop
-invariant-loop entries₀ gone left others from count i₀ entries i = (i ≤ left) × Moved (loweredIn others) gone entries₀ i entries × (length entries ≡ length entries₀)
+invariant-loop entries₀ gone left others from count i₀ entries i = (i ≤ left) × Moved (lowered_in others) gone entries₀ i entries × (length entries ≡ length entries₀)
 
 abbrev decreases-loop : tie.decreases-loop
 decreases-loop entries₀ gone left others from count i₀ entries i = left - i
 
 -- what a turn puts at its place
 put : (c : tie.After-pack invariant-loop decreases-loop) → let l = c.before.before.before.before in let s = l.before.before.before in
-    c.pack.result ≡ loweredIn s.args.others (get_or l.before.loop.entries (l.before.loop.i + s.args.gone) 0)
+    c.pack.result ≡ lowered_in s.args.others (get_or l.before.loop.entries (l.before.loop.i + s.args.gone) 0)
 put c = c.pack.ensures ∙ rw (c.before.less.ensures, c.before.before.unpack.ensures)
 
 loop-holds : tie.Need-loop-init invariant-loop decreases-loop
@@ -37,8 +37,8 @@ returns c =
     let n : ℕ = s.args.gone + s.args.left in
     let left : n - s.args.gone ≡ s.args.left = omega arith in
     record {
-      holds = ap (λ (m : ℕ). entriesHeld m c.before.loop.entries) (sym left)
-          ∙ moved-side i.1 entryIn 0 (afterRetiring s.args.others) (lowered-number s.args.others) n (omega (arith, i.0, c.loop-test.false))
+      holds = ap (λ (m : ℕ). entries_held m c.before.loop.entries) (sym left)
+          ∙ moved-side i.1 entry_in 0 (after_retiring s.args.others) (lowered_number s.args.others) n (omega (arith, i.0, c.loop-test.false))
           (omega arith) (omega (arith, s.requires));
     }
 

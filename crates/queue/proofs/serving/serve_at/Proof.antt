@@ -8,11 +8,11 @@ use Rattle.queue.specs.declared.serving.Service.{Service}
 use Rattle.queue.specs.declared.serving.Source as coded
 use Rattle.number.specs.Reply.{Reply, accept, and_then}
 use Rattle.queue.specs.Entry.{Entry, entry_of}
-use Rattle.queue.specs.Contents.{contentsOf, entriesHeld}
-use Rattle.queue.specs.Serve.{Served, Loaded, loadedFrom, mayServe, servedWith, serveAt}
-use Rattle.queue.specs.Outcome.{handedCounts}
-use Rattle.queue.specs.Parts.{queueOf, countedOf}
-use Rattle.queue.specs.Internal.{frameWith, sourceIn}
+use Rattle.queue.specs.Contents.{contents_of, entries_held}
+use Rattle.queue.specs.Serve.{Served, Loaded, loaded_from, may_serve, served_with, serve_at}
+use Rattle.queue.specs.Outcome.{handed_counts}
+use Rattle.queue.specs.Parts.{queue_of, counted_of}
+use Rattle.queue.specs.Internal.{frame_with, source_in}
 use Rattle.queue.proofs.SoundLaws.{count_most, before-held, address-low}
 use Rattle.queue.proofs.ServeLaws.{may-again, may-no-address, may_load, serve-none, serve-held, served-well}
 use Rattle.queue.proofs.serving.serve_at.Statement.{statement}
@@ -20,7 +20,7 @@ use Rattle.queue.proofs.serving.serve_at.Tie as tie
 
 -- the queue of these parts with a table, and with the one that it was checked with
 abbrev queueWith : Table → tie.Start → Queue
-queueWith t s = queueOf (frameWith t s.args.outline) s.args.load-entries.now s.args.store-entries.now
+queueWith t s = queue_of (frame_with t s.args.outline) s.args.load-entries.now s.args.store-entries.now
 
 abbrev queueIn : tie.Start → Queue
 queueIn s = queueWith s.requires.0.table s
@@ -53,25 +53,25 @@ in_memory c a =
 
 -- what the rule says, once the place is one of the queue, and once the load's source is known
 abbrev byRule : Table → tie.After-unpack → Reply Loaded → Reply Served
-byRule t u x = and_then x λ v. accept (servedWith (contentsOf (queueWith t (start (held u)))) (start (held u)).args.place v)
+byRule t u x = and_then x λ v. accept (served_with (contents_of (queueWith t (start (held u)))) (start (held u)).args.place v)
 
 abbrev before : tie.After-unpack → List Entry
-before u = entriesHeld u.unpack.result.before (start (held u)).args.store-entries.now
+before u = entries_held u.unpack.result.before (start (held u)).args.store-entries.now
 
 may : (u : tie.After-unpack) (t : Table) → let s = start (held u) in
-    serveAt (contentsOf (queueWith t s)) s.args.memory.now s.args.place
-    ≡ byRule t u (mayServe s.args.memory.now (before u) (entry_of u.unpack.result))
+    serve_at (contents_of (queueWith t s)) s.args.memory.now s.args.place
+    ≡ byRule t u (may_serve s.args.memory.now (before u) (entry_of u.unpack.result))
 may u t =
     let s = start (held u) in
     serve-held (queueWith t s) s.args.memory.now s.args.place (held u).if1.false
     (before-held (queueIn s) s.pre.0.right Kind.Load s.args.place (held u).if1.false)
-    ∙ ap (λ (e : EntryStruct). byRule t u (mayServe s.args.memory.now (entriesHeld e.before s.args.store-entries.now) (entry_of e)))
+    ∙ ap (λ (e : EntryStruct). byRule t u (may_serve s.args.memory.now (entries_held e.before s.args.store-entries.now) (entry_of e)))
     (sym u.unpack.ensures)
 
 sourced : (c : tie.After-source-of) (t : Table) (x : coded.Source) → c.source_of.result ≡ x
     → let u = c.before.before.before.before.before in let s = start (held u) in
-    serveAt (contentsOf (queueWith t s)) s.args.memory.now s.args.place
-    ≡ byRule t u (loadedFrom s.args.memory.now u.unpack.result.address (sourceIn x))
+    serve_at (contents_of (queueWith t s)) s.args.memory.now s.args.place
+    ≡ byRule t u (loaded_from s.args.memory.now u.unpack.result.address (source_in x))
 sourced c t x is =
     let e3 = c.before.before in
     let e2 = e3.before.before in
@@ -79,13 +79,13 @@ sourced c t x is =
     may u t
     ∙ ap (byRule t u)
     (may_load (start (held u)).args.memory.now (before u) u.unpack.result e2.if2.false (not-false u.unpack.result.addressed e3.if3.false)
-    (ap sourceIn (sym is) ∙ c.source_of.ensures))
+    (ap source_in (sym is) ∙ c.source_of.ensures))
 
 returns : tie.Need-returns
 returns c t =
     let s = c.before.before.before.before.before.before.before in
     rw (serve-none (queueWith t s) s.args.memory.now s.args.place c.before.if1.true)
-    (ap (λ (r : Service). handedCounts (countedOf r (queueWith t s))) c.serve-refused.ensures)
+    (ap (λ (r : Service). handed_counts (counted_of r (queueWith t s))) c.serve-refused.ensures)
 
 slice-read-unpack : tie.Need-slice-read-unpack
 slice-read-unpack c = le_trans c.before.if1.false (room (start c.before))
@@ -95,7 +95,7 @@ returns-2 c t =
     let u = c.before.before in
     let s = start (held u) in
     rw (may u t, may-again s.args.memory.now (before u) u.unpack.result c.before.if2.true)
-    (ap (λ (r : Service). handedCounts (countedOf r (queueWith t s))) c.serve-refused2.ensures)
+    (ap (λ (r : Service). handed_counts (counted_of r (queueWith t s))) c.serve-refused2.ensures)
 
 returns-3 : tie.Need-returns-3
 returns-3 c t =
@@ -103,7 +103,7 @@ returns-3 c t =
     let u = e2.before in
     let s = start (held u) in
     rw (may u t, may-no-address s.args.memory.now (before u) u.unpack.result e2.if2.false (not-true _ c.before.if3.true))
-    (ap (λ (r : Service). handedCounts (countedOf r (queueWith t s))) c.serve-refused3.ensures)
+    (ap (λ (r : Service). handed_counts (counted_of r (queueWith t s))) c.serve-refused3.ensures)
 
 source-of-requires : tie.Need-source-of-requires
 source-of-requires c κs =
@@ -131,13 +131,13 @@ returns-4 : tie.Need-returns-4
 returns-4 c t =
     let m = c.before.before.before in
     let s = start (held m.before.before.before.before.before) in
-    rw (sourced m t _ c.before.enum_told.given.1) (ap (λ (r : Service). handedCounts (countedOf r (queueWith t s))) c.serve-refused4.ensures)
+    rw (sourced m t _ c.before.enum_told.given.1) (ap (λ (r : Service). handed_counts (counted_of r (queueWith t s))) c.serve-refused4.ensures)
 
 returns-5 : tie.Need-returns-5
 returns-5 c t =
     let m = c.before.before.before in
     let s = start (held m.before.before.before.before.before) in
-    rw (sourced m t _ c.before.enum-told2.given.1) (ap (λ (r : Service). handedCounts (countedOf r (queueWith t s))) c.serve-refused5.ensures)
+    rw (sourced m t _ c.before.enum-told2.given.1) (ap (λ (r : Service). handed_counts (counted_of r (queueWith t s))) c.serve-refused5.ensures)
 
 returns-6 : tie.Need-returns-6
 returns-6 c t =

@@ -1,8 +1,8 @@
 use Rattle.std.proofs.Common.{ap, rules}
-use Rattle.queue.specs.Contents.{contentsOf}
+use Rattle.queue.specs.Contents.{contents_of}
 use Rattle.queue.specs.Serve.{serve}
-use Rattle.queue.specs.Outcome.{handedCounts}
-use Rattle.queue.specs.Parts.{frame_of, queueOf, countedOf}
+use Rattle.queue.specs.Outcome.{handed_counts}
+use Rattle.queue.specs.Parts.{frame_of, queue_of, counted_of}
 use Rattle.queue.proofs.PartsLaws.{PartsFit, fit, unfit}
 use Rattle.queue.specs.declared.Frame.{Frame}
 use Rattle.queue.specs.declared.Queue.{Queue}
@@ -16,7 +16,7 @@ abbrev frame : tie.Start → Frame
 frame s = let a = s.args in frame_of a.outline a.groups.now a.load-places.now a.store-places.now
 
 abbrev queueIn : tie.Start → Queue
-queueIn s = queueOf (frame s) s.args.load-entries.now s.args.store-entries.now
+queueIn s = queue_of (frame s) s.args.load-entries.now s.args.store-entries.now
 
 abbrev start : tie.After-sound-in → tie.Start
 start c = c.before.before.before.before.before
@@ -33,16 +33,16 @@ returns c =
     let p = c.before.before in
     let s = start p in
     let q = queueIn s in
-    rw (unfit q (serve (contentsOf q) s.args.memory.now s.args.serial) c.before.before.sound-in.ensures c.before.if1.true
+    rw (unfit q (serve (contents_of q) s.args.memory.now s.args.serial) c.before.before.sound-in.ensures c.before.if1.true
     (serve-unsound q s.args.memory.now s.args.serial))
-    (ap (λ (r : Service). handedCounts (countedOf r (queueIn s))) c.serve-refused.ensures)
+    (ap (λ (r : Service). handed_counts (counted_of r (queueIn s))) c.serve-refused.ensures)
 
 returns-2 : tie.Need-returns-2
 returns-2 c =
     let e = c.before.before.before in
     let s = start e.before in
     rw ((good e).full, serve-memory (queueIn s) s.args.memory.now s.args.serial (good e).right c.before.if2.true)
-    (ap (λ (r : Service). handedCounts (countedOf r (queueIn s))) c.serve-refused2.ensures)
+    (ap (λ (r : Service). handed_counts (counted_of r (queueIn s))) c.serve-refused2.ensures)
 
 serve-at-requires : tie.Need-serve-at-requires
 serve-at-requires c κs =

@@ -2,13 +2,13 @@
 use Rattle.std.proofs.Common.{◌≡◌, ℕ, true, ◌&&◌, leb, List, sym, refl, ◌∙◌, arith, rules}
 use borrow.Author.Tests.{not-true, not-false}
 use Rattle.number.specs.Basics.{all_of}
-use Rattle.number.proofs.ReplyLaws.{accepted-number, notZero}
-use Rattle.table.specs.Table.{groups_of, checkTable}
-use Rattle.table.proofs.Among.{check-table-among}
+use Rattle.number.proofs.ReplyLaws.{accepted_number, not_zero}
+use Rattle.table.specs.Table.{groups_of, check_table}
+use Rattle.table.proofs.Among.{check_table_among}
 use Rattle.queue.specs.declared.Queue.{Queue}
-use Rattle.queue.specs.Contents.{entriesHeld}
-use Rattle.queue.specs.Sound.{depthRight, memoryRight, entryRight}
-use Rattle.queue.specs.Parts.{frame_of, queueOf, whole}
+use Rattle.queue.specs.Contents.{entries_held}
+use Rattle.queue.specs.Sound.{depth_right, memory_right, entry_right}
+use Rattle.queue.specs.Parts.{frame_of, queue_of, whole}
 use Rattle.queue.proofs.SoundLaws.{sound-sides, side-few}
 use Rattle.queue.proofs.PartsLaws.{both-whole, loads-not-whole, stores-not-whole}
 use Rattle.queue.proofs.sound.sound_in.Statement.{statement}
@@ -18,7 +18,7 @@ use Rattle.queue.proofs.sound.sound_in.Tie as tie
 abbrev queue : tie.After-side-right → Queue
 queue c =
     let a = c.before.before.before.before.before.before.before.args in
-    queueOf (frame_of a.outline a.groups.now a.load-places.now a.store-places.now) a.load-entries.now a.store-entries.now
+    queue_of (frame_of a.outline a.groups.now a.load-places.now a.store-places.now) a.load-entries.now a.store-entries.now
 
 -- the queue where each test was left behind
 abbrev at1 : tie.Else3 → Queue
@@ -36,23 +36,23 @@ at4 c = at3 c.before.before
 abbrev at5 : tie.Else7 → Queue
 at5 c = at4 c.before.before
 
-load_side : (c : tie.Else3) → (depthRight (at1 c).frame.loads.depth && leb (at1 c).frame.loads.count (at1 c).frame.loads.depth) ≡ true
+load_side : (c : tie.Else3) → (depth_right (at1 c).frame.loads.depth && leb (at1 c).frame.loads.count (at1 c).frame.loads.depth) ≡ true
 load_side c = sym c.before.side_right.ensures ∙ not-false _ c.if3.false
 
-store-side : (c : tie.Else4) → (depthRight (at2 c).frame.stores.depth && leb (at2 c).frame.stores.count (at2 c).frame.stores.depth) ≡ true
+store-side : (c : tie.Else4) → (depth_right (at2 c).frame.stores.depth && leb (at2 c).frame.stores.count (at2 c).frame.stores.depth) ≡ true
 store-side c = sym c.before.side-right2.ensures ∙ not-false _ c.if4.false
 
-memory : (c : tie.Else5) → memoryRight (at3 c).frame.memory_length ≡ true
+memory : (c : tie.Else5) → memory_right (at3 c).frame.memory_length ≡ true
 memory c = sym c.before.memory-right.ensures ∙ not-false _ c.if5.false
 
 loads : (c : tie.Else6)
-    → all_of (entryRight (at4 c).frame.memory_length (at4 c).frame.stores.count)
-    (entriesHeld (at4 c).frame.loads.count (at4 c).load_entries) ≡ true
+    → all_of (entry_right (at4 c).frame.memory_length (at4 c).frame.stores.count)
+    (entries_held (at4 c).frame.loads.count (at4 c).load_entries) ≡ true
 loads c = sym c.before.entries-right.ensures ∙ not-false _ c.if6.false
 
 stores : (c : tie.Else7)
-    → all_of (entryRight (at5 c).frame.memory_length (at5 c).frame.loads.count)
-    (entriesHeld (at5 c).frame.stores.count (at5 c).store_entries) ≡ true
+    → all_of (entry_right (at5 c).frame.memory_length (at5 c).frame.loads.count)
+    (entries_held (at5 c).frame.stores.count (at5 c).store_entries) ≡ true
 stores c = sym c.before.entries-right2.ensures ∙ not-false _ c.if7.false
 
 -- both runs have the length of a side's
@@ -149,7 +149,7 @@ returns-8 c =
       loads r,
       stores z,
       c.fault-in.ensures,
-    ) (let gs = groups_of (at5 z).frame.table in accepted-number (checkTable gs) (check-table-among notZero refl gs))
+    ) (let gs = groups_of (at5 z).frame.table in accepted_number (check_table gs) (check_table_among not_zero refl gs))
 
 pub sound-in-spec : {M : Type 1} → statement M
 sound-in-spec =

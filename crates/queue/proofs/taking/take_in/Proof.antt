@@ -5,15 +5,15 @@ use Rattle.number.specs.Basics.{any_of}
 use Rattle.table.specs.Table.{groups_of}
 use Rattle.queue.specs.declared.Queue.{Queue}
 use Rattle.queue.specs.declared.Entry.{Entry as EntryStruct}
-use Rattle.queue.specs.Entry.{number_of, entryIn, markFinished}
-use Rattle.queue.specs.Contents.{contentsOf, firstPlace, entriesHeld}
-use Rattle.queue.specs.Arguments.{namesPort}
-use Rattle.queue.specs.Take.{untaken, takeRule}
+use Rattle.queue.specs.Entry.{number_of, entry_in, mark_finished}
+use Rattle.queue.specs.Contents.{contents_of, first_place, entries_held}
+use Rattle.queue.specs.Arguments.{names_port}
+use Rattle.queue.specs.Take.{untaken, take_rule}
 use Rattle.queue.specs.Retire.{retire}
-use Rattle.queue.specs.Parts.{frame_of, queueOf}
-use Rattle.queue.specs.Internal.{setFinished}
+use Rattle.queue.specs.Parts.{frame_of, queue_of}
+use Rattle.queue.specs.Internal.{set_finished}
 use Rattle.queue.specs.declared.Kind.TheVariants.{Load as load}
-use Rattle.queue.proofs.EntryLaws.{finished-number}
+use Rattle.queue.proofs.EntryLaws.{finished_number}
 use Rattle.queue.proofs.ContentsLaws.{side-anew}
 use Rattle.queue.proofs.SoundLaws.{table-right}
 use Rattle.queue.proofs.TakeLaws.{take-unsound, take-no-port, take_none, take-unserved, take-served}
@@ -28,7 +28,7 @@ start c = c.before.before.before.before.before
 abbrev queue : tie.After-sound-in → Queue
 queue c =
     let a = (start c).args in
-    queueOf (frame_of a.outline a.groups.now a.load-places.now a.store-places.now) a.load-entries.now a.store-entries.now
+    queue_of (frame_of a.outline a.groups.now a.load-places.now a.store-places.now) a.load-entries.now a.store-entries.now
 
 -- the runs are whole and the queue is sound
 good : (c : tie.Else1) → PartsFit (queue c.before)
@@ -41,11 +41,11 @@ sure c = c.before
 abbrev known : tie.After-oldest-without → tie.Else2
 known c = c.before.before.before
 
-port : (c : tie.Else2) → let s = (sure c.before).before in any_of (namesPort load (start s).args.port) (groups_of (queue s).frame.table) ≡ true
+port : (c : tie.Else2) → let s = (sure c.before).before in any_of (names_port load (start s).args.port) (groups_of (queue s).frame.table) ≡ true
 port c = sym c.before.has-port.ensures ∙ not-false _ c.if2.false
 
 place : (c : tie.After-oldest-without) → let s = (sure (known c).before).before in
-    c.oldest-without.result ≡ firstPlace (untaken (start s).args.port) (entriesHeld (queue s).frame.loads.count (queue s).load_entries)
+    c.oldest-without.result ≡ first_place (untaken (start s).args.port) (entries_held (queue s).frame.loads.count (queue s).load_entries)
 place c = c.oldest-without.ensures
 
 -- it is a place of the array
@@ -53,23 +53,23 @@ inside : (c : tie.Else3)
     → let s = (sure (known c.before.before).before).before in c.before.before.oldest-without.result < length (queue s).load_entries
 inside c =
     let e = sure (known c.before.before).before in
-    le_trans c.if3.false (good e).loads-room
+    le_trans c.if3.false (good e).loads_room
 
 -- what stands there once the load is taken
 taken : (c : tie.After-pack) → let u = c.before.before.before in let o = u.before.before.before.before in
-    entryIn c.pack.result ≡ markFinished (entryIn (get_or (queue (sure (known o).before).before).load_entries o.oldest-without.result 0))
+    entry_in c.pack.result ≡ mark_finished (entry_in (get_or (queue (sure (known o).before).before).load_entries o.oldest-without.result 0))
 taken c =
     let u = c.before.before.before in
     let o = u.before.before.before.before in
     let l = (queue (sure (known o).before).before).load_entries in
-    finished-number (get_or l o.oldest-without.result 0) (c.pack.ensures ∙ ap (λ (e : EntryStruct). number_of (setFinished e)) u.unpack.ensures)
+    finished_number (get_or l o.oldest-without.result 0) (c.pack.ensures ∙ ap (λ (e : EntryStruct). number_of (set_finished e)) u.unpack.ensures)
 
 returns : tie.Need-returns
 returns c =
     let s = c.before.before in
     let q = queue s in
     rw (
-      unfit q (takeRule (contentsOf q) (start s).args.port) c.before.before.sound-in.ensures c.before.if1.true
+      unfit q (take_rule (contents_of q) (start s).args.port) c.before.before.sound-in.ensures c.before.if1.true
           (take-unsound q (start s).args.port),
       c.refused.ensures,
     )
@@ -91,7 +91,7 @@ returns-2 c =
 oldest-without-requires : tie.Need-oldest-without-requires
 oldest-without-requires c κs =
     let e = sure c.before.before.before in
-    (good e).loads-room
+    (good e).loads_room
 
 returns-3 : tie.Need-returns-3
 returns-3 c =
@@ -133,7 +133,7 @@ retire-requires c κs =
     let o = w.before.before.before.before.before.before.before in
     let e = sure (known o).before in
     let s = e.before in
-    (rw (length-set (queue s).load_entries o.oldest-without.result w.pack.result) (good e).loads-room, (good e).stores-room)
+    (rw (length-set (queue s).load_entries o.oldest-without.result w.pack.result) (good e).loads_room, (good e).stores_room)
 
 same-length-9 : tie.Need-same-length-9
 same-length-9 c =
@@ -164,7 +164,7 @@ returns-5 c =
       answer = refl;
       gives = refl;
       holds = t.retire.ensures q.frame.table
-          ∙ ap retire (side-anew load q o.oldest-without.result (good e).loads-room i.if3.false
+          ∙ ap retire (side-anew load q o.oldest-without.result (good e).loads_room i.if3.false
           (record { number = w.pack.result; holds = taken w; leaves = refl }));
     })
 

@@ -6,9 +6,9 @@ use Rattle.queue.specs.declared.Entry.{Entry as EntryStruct}
 use Rattle.queue.specs.declared.Kind.TheVariants as Kind
 use Rattle.number.specs.Reply.{number}
 use Rattle.queue.specs.Entry.{Entry, entry_of, served, written}
-use Rattle.queue.specs.Contents.{entriesHeld}
-use Rattle.queue.specs.Write.{noConflict, may_write}
-use Rattle.queue.specs.Internal.{mayWriteAt}
+use Rattle.queue.specs.Contents.{entries_held}
+use Rattle.queue.specs.Write.{no_conflict, may_write}
+use Rattle.queue.specs.Internal.{may_write_at}
 use Rattle.queue.proofs.WriteLaws.{may-not-again, may-no-address, may-no-data, may_load, may-store, may-put}
 use Rattle.queue.proofs.writing.write_fault.Statement.{statement}
 use Rattle.queue.proofs.writing.write_fault.Tie as tie
@@ -18,25 +18,25 @@ abbrev store : tie.After-unpack → EntryStruct
 store u = u.unpack.result
 
 abbrev loads : tie.After-unpack → List Entry
-loads u = entriesHeld (store u).before u.before.before.before.before.args.load-entries.now
+loads u = entries_held (store u).before u.before.before.before.before.args.load-entries.now
 
 abbrev stores : tie.After-unpack → List Entry
 stores u =
     let start = u.before.before.before.before in
-    entriesHeld start.args.at start.args.store-entries.now
+    entries_held start.args.at start.args.store-entries.now
 
 told : (u : tie.After-unpack) (n : ℕ) → n ≡ number (may_write (loads u) (stores u) (entry_of (store u)))
-    → n ≡ number (mayWriteAt u.before.before.before.before.args.load-entries.now
+    → n ≡ number (may_write_at u.before.before.before.before.args.load-entries.now
     u.before.before.before.before.args.store-entries.now u.before.before.before.before.args.at)
 told u n e = rw (← u.unpack.ensures) e
 
 -- does no load, no store, before it conflict?
 loads-way : (c : tie.After-none-conflict) → let u = c.before.before.before.before.before.before.before in
-    c.none-conflict.result ≡ all_of (noConflict served (store u).address) (loads u)
+    c.none-conflict.result ≡ all_of (no_conflict served (store u).address) (loads u)
 loads-way c = c.none-conflict.ensures
 
 stores-way : (c : tie.After-none-conflict2) → let u = c.before.before.before.before.before.before.before.before.before in
-    c.none-conflict2.result ≡ all_of (noConflict written (store u).address) (stores u)
+    c.none-conflict2.result ≡ all_of (no_conflict written (store u).address) (stores u)
 stores-way c = c.none-conflict2.ensures
 
 returns : tie.Need-returns

@@ -1,8 +1,8 @@
 use Rattle.std.proofs.Common.{refl, ap, rules}
-use Rattle.queue.specs.Contents.{contentsOf}
+use Rattle.queue.specs.Contents.{contents_of}
 use Rattle.queue.specs.Write.{write}
 use Rattle.queue.specs.Outcome.{Handed, handed}
-use Rattle.queue.specs.Parts.{frame_of, queueOf, outcomeOf}
+use Rattle.queue.specs.Parts.{frame_of, queue_of, outcome_of}
 use Rattle.queue.proofs.PartsLaws.{PartsFit, fit, unfit}
 use Rattle.queue.specs.declared.Frame.{Frame}
 use Rattle.queue.specs.declared.Queue.{Queue}
@@ -19,11 +19,11 @@ abbrev frame : tie.Start → Frame
 frame s = let a = s.args in frame_of a.outline a.groups.now a.load-places.now a.store-places.now
 
 abbrev queueIn : tie.Start → Queue
-queueIn s = queueOf (frame s) s.args.load-entries.now s.args.store-entries.now
+queueIn s = queue_of (frame s) s.args.load-entries.now s.args.store-entries.now
 
 -- what is handed back where the entries are as they were
 abbrev unchanged : tie.Start → Step → Handed
-unchanged s t = handed (outcomeOf (frame s) t s.args.load-entries.now s.args.store-entries.now)
+unchanged s t = handed (outcome_of (frame s) t s.args.load-entries.now s.args.store-entries.now)
 
 abbrev queue : tie.After-sound-in → Queue
 queue c = queueIn (start c)
@@ -36,16 +36,16 @@ returns : tie.Need-returns
 returns c =
     let s = start c.before.before in
     let q = queueIn s in
-    rw (unfit q (write (contentsOf q) s.args.memory.now s.args.serial) c.before.before.sound-in.ensures c.before.if1.true
+    rw (unfit q (write (contents_of q) s.args.memory.now s.args.serial) c.before.before.sound-in.ensures c.before.if1.true
     (write-unsound q s.args.memory.now s.args.serial))
-    (record { outcome = ap (unchanged s) c.refused.ensures; memory-is = refl })
+    (record { outcome = ap (unchanged s) c.refused.ensures; memory_is = refl })
 
 returns-2 : tie.Need-returns-2
 returns-2 c =
     let e1 = c.before.before.before in
     let s = start e1.before in
     rw ((good e1).full, write-memory (queueIn s) s.args.memory.now s.args.serial (good e1).right c.before.if2.true)
-    (record { outcome = ap (unchanged s) c.refused2.ensures; memory-is = refl })
+    (record { outcome = ap (unchanged s) c.refused2.ensures; memory_is = refl })
 
 write-at-requires : tie.Need-write-at-requires
 write-at-requires c κs =

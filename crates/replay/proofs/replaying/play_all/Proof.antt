@@ -11,23 +11,23 @@ use denote.Enum.Declared.{tag_of}
 use Rattle.trace.specs.declared.EventRead.{EventRead}
 use Rattle.trace.specs.declared.EventRead.TheVariants.{Found, End, NoEvent}
 use Rattle.trace.specs.contracts.EventRead.{the_type}
-use Rattle.trace.specs.Event.{eventReply}
+use Rattle.trace.specs.Event.{event_reply}
 use Rattle.number.specs.Reply.{accept}
-use Rattle.queue.specs.Contents.{contentsOf}
-use Rattle.queue.specs.Parts.{frame_of, queueOf}
+use Rattle.queue.specs.Contents.{contents_of}
+use Rattle.queue.specs.Parts.{frame_of, queue_of}
 use Rattle.queue.proofs.PartsLaws.{both-whole}
-use Rattle.replay.specs.Events.{eventsFrom}
+use Rattle.replay.specs.Events.{events_from}
 use Rattle.replay.specs.Playing.{playing}
-use Rattle.trace.proofs.TraceSteps.{EventGot, event-got, event-end, event-fault}
-use Rattle.replay.proofs.ReplayLaws.{buffers, Walk, walk_none, Room, walk-room, walk-lengths, walk_more, walk_end, walk-no-fault}
+use Rattle.trace.proofs.TraceSteps.{EventGot, event_got, event_end, event_fault}
+use Rattle.replay.proofs.ReplayLaws.{buffers, Walk, walk_none, Room, walk-room, walk-lengths, walk_more, walk_end, walk_no_fault}
 use Rattle.replay.proofs.replaying.play_all.Statement.{statement}
 use Rattle.replay.proofs.replaying.play_all.Tie as tie
 
 abbrev invariant-loop : tie.invariant-loop
 invariant-loop counts₀ trace from memory₀ answers₀ given₀ words₀ frame outline₀ loads₀ stores₀ place₀ i₀ counts memory answers given words outline loads
     stores place i =
-    Walk trace from (playing (contentsOf (queueOf frame loads₀ stores₀)) memory₀ counts₀) (buffers answers₀ given₀ words₀) place i
-    (playing (contentsOf (queueOf (frame_of outline frame.table.groups frame.table.loads frame.table.stores) loads stores)) memory
+    Walk trace from (playing (contents_of (queue_of frame loads₀ stores₀)) memory₀ counts₀) (buffers answers₀ given₀ words₀) place i
+    (playing (contents_of (queue_of (frame_of outline frame.table.groups frame.table.loads frame.table.stores) loads stores)) memory
     counts) (buffers answers given words)
     × (length memory ≡ length memory₀) × (length loads ≡ 64) × (length stores ≡ 64)
 
@@ -48,7 +48,7 @@ loop-holds c =
 event : (c : tie.After-known-told invariant-loop decreases-loop) →
     let start = c.before.before.before.before.before.before.before.before.before.before.before.before.before.before in
     EventGot start.args.trace.now c.before.before.before.before.loop.place c.before.read.given.0.0 c.before.read.given.0.1.0
-event c = event-got _ _ (sym c.before.before.before.read-event.ensures ∙ ap eventReply c.before.read.given.1)
+event c = event_got _ _ (sym c.before.before.before.read-event.ensures ∙ ap event_reply c.before.read.given.1)
 
 room : (c : tie.After-known-told invariant-loop decreases-loop) → Room c.before.before.before.before.loop.invariant.0
 room c = walk-room c.before.before.before.before.loop.invariant.0 (event c)
@@ -107,16 +107,16 @@ loop-again c =
 ended : (c : tie.At-match-keys2 invariant-loop decreases-loop)
     → let l = c.before.before in
     let start = l.before.before.before.before.before.before.before.before.before.before in
-    eventsFrom start.args.trace.now l.loop.place ≡ accept []
+    events_from start.args.trace.now l.loop.place ≡ accept []
 ended c = go c.before.read-event.result refl c.match.keys2
   where
     go : (r : EventRead) → c.before.read-event.result ≡ r → OneOf (1 ∷ 2 ∷ []) (tag_of the_type r)
         → let l = c.before.before in
-        eventsFrom l.before.before.before.before.before.before.before.before.before.before.args.trace.now l.loop.place ≡ accept []
+        events_from l.before.before.before.before.before.before.before.before.before.before.args.trace.now l.loop.place ≡ accept []
     go (Found e n) is (inl z) = let y : ◌≡◌ {A = ℕ} 0 1 = z in absurd (omega arith)
     go (Found e n) is (inr z) = let y : ◌≡◌ {A = ℕ} 0 2 = z in absurd (omega arith)
-    go End is k = event-end _ _ (sym c.before.read-event.ensures ∙ ap eventReply is)
-    go (NoEvent n) is k = absurd (walk-no-fault c.before.before.loop.invariant.0 (event-fault _ _ (sym c.before.read-event.ensures ∙ ap eventReply is)))
+    go End is k = event_end _ _ (sym c.before.read-event.ensures ∙ ap event_reply is)
+    go (NoEvent n) is k = absurd (walk_no_fault c.before.before.loop.invariant.0 (event_fault _ _ (sym c.before.read-event.ensures ∙ ap event_reply is)))
 
 returns : tie.Need-returns invariant-loop decreases-loop
 returns c = rw c.played.ensures (walk_end c.before.before.before.loop.invariant.0 (ended c.before))

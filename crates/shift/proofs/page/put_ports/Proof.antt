@@ -3,16 +3,16 @@ use Prim.Native.Nat.{◌+◌, ◌-◌, ◌*◌, ◌≤◌}
 use mathlib.Core.Path.{◌≡◌, refl, sym}
 use native.Mathlib.Omega.{arith}
 use lib.ListN.{length}
-use Rattle.shift.specs.Record.{takesOf}
-use Rattle.shift.specs.Page.{portLine, withLineFeed, valueShown}
+use Rattle.shift.specs.Record.{takes_of}
+use Rattle.shift.specs.Page.{port_line, with_line_feed, value_shown}
 use Rattle.number.proofs.PutLaws.{puts_none}
-use Rattle.shift.proofs.PageLaws.{PutsMany, many-ends, many-long, many-then, many-as, linesTo, lines_next}
+use Rattle.shift.proofs.PageLaws.{PutsMany, many-ends, many-long, many-then, many-as, lines_to, lines_next}
 use Rattle.shift.proofs.page.put_ports.Statement.{statement}
 use Rattle.shift.proofs.page.put_ports.Tie as tie
 
 abbrev invariant-loop : tie.invariant-loop
 invariant-loop out₀ at kept place₀ port₀ out place port =
-    (port ≤ 32) × PutsMany out₀ at (linesTo (takesOf kept) (valueShown kept) port) (41 * port) place out
+    (port ≤ 32) × PutsMany out₀ at (lines_to (takes_of kept) (value_shown kept) port) (41 * port) place out
 
 abbrev decreases-loop : tie.decreases-loop
 decreases-loop out₀ at kept place₀ port₀ out place port = 32 - port
@@ -39,11 +39,11 @@ loop-again c =
     let k = s.args.t3 in
     let port = l.loop.port in
     let put = c.before.before.put-port.ensures in
-    let wide : length (withLineFeed (portLine port (takesOf k port) (valueShown k port))) ≡ 41 = omega (arith, put.0.ends, put.1) in
+    let wide : length (with_line_feed (port_line port (takes_of k port) (value_shown k port))) ≡ 41 = omega (arith, put.0.ends, put.1) in
     let e : 41 * port + 41 ≡ 41 * (port + 1) = omega arith in (
       omega (arith, (turn c).loop-test.true),
       rw (← e) (many-as (many-then l.loop.inv.1 41 put.0 wide (omega (arith, s.pre, (turn c).loop-test.true)))
-          (sym (lines_next (takesOf k) (valueShown k) port))),
+          (sym (lines_next (takes_of k) (value_shown k) port))),
     )
 
 all : (c : tie.After-loop invariant-loop decreases-loop) → c.before.loop.port ≡ 32

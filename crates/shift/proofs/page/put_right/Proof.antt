@@ -4,7 +4,7 @@ use mathlib.Core.Path.{◌≡◌, sym, ap, ◌∙◌}
 use native.Mathlib.Omega.{arith}
 use lib.ListN.{length, length-set}
 use borrow.Author.Rules.{rules}
-use Rattle.shift.proofs.DigitLaws.{Righting, righting-start, righting-next, righting-end, splice-over, right-wide}
+use Rattle.shift.proofs.DigitLaws.{Righting, righting-start, righting-next, righting-end, splice_over, right_wide}
 use Rattle.shift.proofs.page.put_right.Statement.{statement}
 use Rattle.shift.proofs.page.put_right.Tie as tie
 
@@ -58,12 +58,12 @@ returns : tie.Need-returns invariant-loop decreases-loop
 returns c =
     let s = c.before.before.before in
     let a = s.args in
-    let wide = right-wide a.width a.n s.requires.0 s.requires.1 in
+    let wide = right_wide a.width a.n s.requires.0 s.requires.1 in
     record {
       ends = ap (λ (k : ℕ). a.at + k) (sym wide);
       is =
           righting-end c.before.loop.invariant c.loop-test.false
-          ∙ splice-over a.out.now a.at _ (a.at + a.width - 1) _ (omega (arith, s.requires.0)) (omega (arith, wide, s.requires.0));
+          ∙ splice_over a.out.now a.at _ (a.at + a.width - 1) _ (omega (arith, s.requires.0)) (omega (arith, wide, s.requires.0));
     }
 
 pub put-right-spec : {M : Type 1} → statement M

@@ -9,8 +9,8 @@ use borrow.Author.Rules.{rules}
 use Rattle.number.specs.Basics.{flat_map}
 use Rattle.number.proofs.SpliceLaws.{splice_front}
 use Rattle.number.proofs.PutLaws.{puts_none}
-use Rattle.shift.specs.Record.{takesOf}
-use Rattle.shift.specs.Page.{header, withLineFeed, portLines, valueShown, page, pageBytes}
+use Rattle.shift.specs.Record.{takes_of}
+use Rattle.shift.specs.Page.{header, with_line_feed, port_lines, value_shown, page, page_bytes}
 use Rattle.shift.proofs.PageLaws.{PutsMany, many-ends, many-long, many-then, many-fit, many-as, page-parts, written-short, written-fits}
 use Rattle.shift.proofs.page.write_page.Statement.{statement}
 use Rattle.shift.proofs.page.write_page.Tie as tie
@@ -22,10 +22,10 @@ abbrev start : tie.After-put-bytes → tie.Start
 start c = c.before.before.before.before.before
 
 -- there is room for a page
-room : (c : tie.After-put-bytes) → pageBytes ≤ length (start c).args.out.now
+room : (c : tie.After-put-bytes) → page_bytes ≤ length (start c).args.out.now
 room c = c.before.before.before.if1.false
 
-put₁ : (c : tie.After-put-bytes) → PutsMany (start c).args.out.now 0 (withLineFeed header) 41 c.put-bytes.result c.put-bytes.new.0
+put₁ : (c : tie.After-put-bytes) → PutsMany (start c).args.out.now 0 (with_line_feed header) 41 c.put-bytes.result c.put-bytes.new.0
 put₁ c = many-fit (record { puts = puts_none; wide = refl; room = omega arith }) 41 c.put-bytes.ensures refl (omega (arith, room c))
 
 put-ports-requires : tie.Need-put-ports-requires
@@ -37,7 +37,7 @@ abbrev header-put : tie.After-put-ports → tie.After-put-bytes
 header-put c = c.before.before.before.before
 
 put₂ : (c : tie.After-put-ports) → let a = (start (header-put c)).args in
-    PutsMany a.out.now 0 (withLineFeed header ++ flat_map withLineFeed (portLines (takesOf a.kept) (valueShown a.kept))) 1353 c.put-ports.result
+    PutsMany a.out.now 0 (with_line_feed header ++ flat_map with_line_feed (port_lines (takes_of a.kept) (value_shown a.kept))) 1353 c.put-ports.result
     c.put-ports.new.0
 put₂ c =
     let put = c.put-ports.ensures in
@@ -47,7 +47,7 @@ abbrev ports-put : tie.After-put-bytes2 → tie.After-put-ports
 ports-put c = c.before.before.before.before.before
 
 put₃ : (c : tie.After-put-bytes2) → let a = (start (header-put (ports-put c))).args in
-    PutsMany a.out.now 0 (page a.kept) pageBytes c.put-bytes2.result c.put-bytes2.new.0
+    PutsMany a.out.now 0 (page a.kept) page_bytes c.put-bytes2.result c.put-bytes2.new.0
 put₃ c =
     let h = header-put (ports-put c) in
     many-as (many-fit (put₂ (ports-put c)) 41 c.put-bytes2.ensures refl (omega (arith, room h))) (sym (page-parts (start h).args.kept))

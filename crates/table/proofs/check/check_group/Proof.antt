@@ -6,8 +6,8 @@ use mathlib.Core.List.{List}
 use native.Mathlib.Omega.{arith}
 use borrow.Author.Tests.{not-true, not-false}
 use Rattle.table.specs.declared.Group.{Group}
-use Rattle.table.specs.Table.{countsRight, Seen}
-use Rattle.table.specs.Internal.{seenIn, GroupInside}
+use Rattle.table.specs.Table.{counts_right, Seen}
+use Rattle.table.specs.Internal.{seen_in, GroupInside}
 use Rattle.table.proofs.CheckLaws.{counts-few, rising-checked, group-counts, group-loads, group-stores}
 use Rattle.table.proofs.Among.{pairs-zero}
 use borrow.Author.Rules.{rules}
@@ -18,32 +18,32 @@ abbrev start : tie.After-counts-right → tie.Start
 start c = c.before.before.before.before
 
 -- the group, the places of its accesses, and the ports seen before it
-abbrev groupIn : tie.After-counts-right → Group
-groupIn c = (start c).args.group
+abbrev group_in : tie.After-counts-right → Group
+group_in c = (start c).args.group
 
-abbrev loadsIn : tie.After-counts-right → List ℕ
-loadsIn c = (start c).args.loads.now
+abbrev loads_in : tie.After-counts-right → List ℕ
+loads_in c = (start c).args.loads.now
 
-abbrev storesIn : tie.After-counts-right → List ℕ
-storesIn c = (start c).args.stores.now
+abbrev stores_in : tie.After-counts-right → List ℕ
+stores_in c = (start c).args.stores.now
 
 abbrev seenBefore : tie.After-counts-right → Seen
-seenBefore c = seenIn (start c).args.seen-loads.now (start c).args.seen-stores.now
+seenBefore c = seen_in (start c).args.seen-loads.now (start c).args.seen-stores.now
 
-pre : (c : tie.After-counts-right) → GroupInside (groupIn c)
+pre : (c : tie.After-counts-right) → GroupInside (group_in c)
 pre c = (start c).requires
 
-right : (c : tie.Else1) → countsRight (groupIn c.before).loads.count (groupIn c.before).stores.count ≡ true
+right : (c : tie.Else1) → counts_right (group_in c.before).loads.count (group_in c.before).stores.count ≡ true
 right c = sym c.before.counts-right.ensures ∙ not-false _ c.if1.false
 
-few : (c : tie.Else1) → ((groupIn c.before).loads.count ≤ 16) × ((groupIn c.before).stores.count ≤ 16)
-few c = counts-few (groupIn c.before).loads.count (groupIn c.before).stores.count (right c)
+few : (c : tie.Else1) → ((group_in c.before).loads.count ≤ 16) × ((group_in c.before).stores.count ≤ 16)
+few c = counts-few (group_in c.before).loads.count (group_in c.before).stores.count (right c)
 
 returns : tie.Need-returns
 returns c =
     let k = c.before in
     record {
-      answer = group-counts (loadsIn k) (storesIn k) (groupIn k) (seenBefore k) (sym k.counts-right.ensures ∙ not-true _ c.if1.true);
+      answer = group-counts (loads_in k) (stores_in k) (group_in k) (seenBefore k) (sym k.counts-right.ensures ∙ not-true _ c.if1.true);
       marks = λ z. absurd (omega arith);
     }
 
@@ -58,7 +58,7 @@ returns-2 c =
     let e = c.before.before.before in
     let k = e.before in
     record {
-      answer = group-loads (loadsIn k) (storesIn k) (groupIn k) (seenBefore k) (right e) c.before.check-pairs.ensures.answer c.if2.true;
+      answer = group-loads (loads_in k) (stores_in k) (group_in k) (seenBefore k) (right e) c.before.check-pairs.ensures.answer c.if2.true;
       marks = λ z. absurd (c.if2.true z);
     }
 
@@ -84,7 +84,7 @@ returns-3 c =
     let k = e.before in
     let d = c.before.before.if2.false in
     record {
-      answer = group-stores (loadsIn k) (storesIn k) (groupIn k) (seenBefore k) (right e)
+      answer = group-stores (loads_in k) (stores_in k) (group_in k) (seenBefore k) (right e)
           (pairs-zero _ _ _ _ _ (sym p.check-pairs.ensures.answer ∙ d))
           c.check-pairs2.ensures.answer;
       marks = λ z. rw (p.check-pairs.ensures.marks d, c.check-pairs2.ensures.marks z);

@@ -7,18 +7,18 @@ use native.Mathlib.Omega.{arith}
 use lib.ListN.{length, get_or}
 use borrow.Author.Rules.{rules}
 use Rattle.table.specs.declared.Pair.{Pair}
-use Rattle.table.specs.Group.{list_of, blankPair}
+use Rattle.table.specs.Group.{list_of, blank_pair}
 use Rattle.number.specs.Reply.{Reply, number, passed}
-use Rattle.table.specs.Table.{checkPair}
-use Rattle.table.specs.Internal.{ruleOf}
-use Rattle.table.proofs.CheckLaws.{view-length, view-at, pair-passed, Checking, checking-none, checking-stop, checking-more, checking-end}
+use Rattle.table.specs.Table.{check_pair}
+use Rattle.table.specs.Internal.{rule_of}
+use Rattle.table.proofs.CheckLaws.{view-length, view-at, pair-passed, Checking, checking_none, checking-stop, checking-more, checking-end}
 use Rattle.table.proofs.Among.{pair-zero}
 use Rattle.table.proofs.check.check_pairs.Statement.{statement}
 use Rattle.table.proofs.check.check_pairs.Tie as tie
 
 abbrev invariant-loop : tie.invariant-loop
 invariant-loop storing stores load-places loads places seen₀ first count low₀ i₀ seen low i =
-    (i ≤ count) × Checking (ruleOf storing stores (list_of load-places loads)) seen₀ (list_of places (record { first = first; count = count })) i low seen
+    (i ≤ count) × Checking (rule_of storing stores (list_of load-places loads)) seen₀ (list_of places (record { first = first; count = count })) i low seen
 
 abbrev decreases-loop : tie.decreases-loop
 decreases-loop storing stores load-places loads places seen₀ first count low₀ i₀ seen low i = count - i
@@ -38,7 +38,7 @@ inside l = omega (arith, size l.before, l.loop-test.true)
 
 -- the pair that a turn looks at is the list's
 this : (u : tie.After-unpack-pair invariant-loop decreases-loop)
-    → get_or (listed u.before.before.before) u.before.before.before.loop.i blankPair ≡ u.unpack-pair.result
+    → get_or (listed u.before.before.before) u.before.before.before.loop.i blank_pair ≡ u.unpack-pair.result
 this u =
     let l = u.before.before in
     let s = start l.before in
@@ -49,10 +49,10 @@ abbrev rightOf : tie.After-unpack-pair invariant-loop decreases-loop → Bool
 rightOf u =
     let l = u.before.before.before in
     let a = (start l).args in
-    ruleOf a.storing a.stores (list_of a.load-places.now a.loads) l.loop.low l.loop.i u.unpack-pair.result.offset
+    rule_of a.storing a.stores (list_of a.load-places.now a.loads) l.loop.low l.loop.i u.unpack-pair.result.offset
 
 abbrev checkOf : tie.After-unpack-pair invariant-loop decreases-loop → Bool → Reply (Unit {0})
-checkOf u right = checkPair right u.before.before.before.loop.seen u.unpack-pair.result.port
+checkOf u right = check_pair right u.before.before.before.loop.seen u.unpack-pair.result.port
 
 abbrev turn : tie.After-pair-fault invariant-loop decreases-loop → tie.After-unpack-pair invariant-loop decreases-loop
 turn c = c.before.before.before.before.before
@@ -71,7 +71,7 @@ port-low c =
     (pair-passed (rightOf u) u.before.before.before.loop.seen u.unpack-pair.result.port (no-fault c)).1
 
 loop-holds : tie.Need-loop-init invariant-loop decreases-loop
-loop-holds c = (search rules, checking-none)
+loop-holds c = (search rules, checking_none)
 
 add-unpack-pair : tie.Need-overflow-add-unpack-pair invariant-loop decreases-loop
 add-unpack-pair c = omega (arith, (start c.before).pre.1)

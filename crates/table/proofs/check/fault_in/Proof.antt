@@ -8,10 +8,10 @@ use borrow.Author.Rules.{rules}
 use borrow.Author.Tests.{le-leb, lt-leb}
 use Rattle.table.specs.declared.Table.{Table}
 use Rattle.number.specs.Basics.{within}
-use Rattle.table.specs.Group.{GroupPairs, pairsOf}
-use Rattle.table.specs.Table.{groupsIn, groups_of, noneSeen}
-use Rattle.table.specs.Internal.{seenIn}
-use Rattle.table.proofs.CheckLaws.{Passing, passing-none, passing-stop, passing-more, passing-end, groups-size}
+use Rattle.table.specs.Group.{GroupPairs, pairs_of}
+use Rattle.table.specs.Table.{groups_in, groups_of, none_seen}
+use Rattle.table.specs.Internal.{seen_in}
+use Rattle.table.proofs.CheckLaws.{Passing, passing_none, passing-stop, passing-more, passing-end, groups-size}
 use Rattle.table.proofs.CheckLaws.{group-inside, group_at, table-count, table-groups}
 use Rattle.table.proofs.Among.{group-zero}
 use Rattle.table.proofs.check.fault_in.Statement.{statement}
@@ -19,7 +19,7 @@ use Rattle.table.proofs.check.fault_in.Tie as tie
 
 abbrev invariant-loop : tie.invariant-loop
 invariant-loop count groups loads stores many seen-loads₀ seen-stores₀ i₀ seen-loads seen-stores i =
-    (i ≤ count) × Passing noneSeen (groupsIn count groups loads stores) i (seenIn seen-loads seen-stores)
+    (i ≤ count) × Passing none_seen (groups_in count groups loads stores) i (seen_in seen-loads seen-stores)
 
 abbrev decreases-loop : tie.decreases-loop
 decreases-loop count groups loads stores many seen-loads₀ seen-stores₀ i₀ seen-loads seen-stores i = many - i
@@ -41,13 +41,13 @@ returns-2 : tie.Need-returns-2 invariant-loop decreases-loop
 returns-2 c = table-count (table_of c.before.before) (rw (le-leb _ _ c.before.if1.false, lt-leb _ _ c.if2.true))
 
 loop-holds : tie.Need-loop-init invariant-loop decreases-loop
-loop-holds c = (search rules, passing-none)
+loop-holds c = (search rules, passing_none)
 
 -- the group that a turn looks at is the table's
 abbrev group_of : tie.After-group-at invariant-loop decreases-loop → GroupPairs
 group_of c =
     let t = table_at c.before.before.before in
-    pairsOf t.loads t.stores c.group_at.result
+    pairs_of t.loads t.stores c.group_at.result
 
 this : (c : tie.After-group-at invariant-loop decreases-loop)
     → get_or (groups_of (table_at c.before.before.before)) c.before.before.loop.i (group_of c) ≡ group_of c

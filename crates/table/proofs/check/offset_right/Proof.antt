@@ -1,8 +1,8 @@
 use mathlib.Core.Path.{sym, ◌∙◌}
 use borrow.Author.Tests.{le-leb, lt-leb}
-use Rattle.number.specs.Basics.{countWhere}
-use Rattle.table.specs.Group.{list_of, beforeStore}
-use Rattle.table.proofs.CheckLaws.{agrees-more, agrees-none, agrees-some}
+use Rattle.number.specs.Basics.{count_where}
+use Rattle.table.specs.Group.{list_of, before_store}
+use Rattle.table.proofs.CheckLaws.{agrees_more, agrees_none, agrees_some}
 use borrow.Author.Rules.{rules}
 use Rattle.table.proofs.check.offset_right.Statement.{statement}
 use Rattle.table.proofs.check.offset_right.Tie as tie
@@ -14,11 +14,11 @@ returns : tie.Need-returns
 returns c =
     let s = c.before.before.before in
     rw c.before.before.if1.true
-    (agrees-more s.args.offset (countWhere (beforeStore s.args.i) (list_of s.args.places.now s.args.loads))
+    (agrees_more s.args.offset (count_where (before_store s.args.i) (list_of s.args.places.now s.args.loads))
     (sym c.before.more-before.ensures ∙ c.if2.true))
 
 returns-2 : tie.Need-returns-2
-returns-2 c = let m = c.before.before in rw m.before.if1.true (agrees-none _ _ (sym m.more-before.ensures ∙ c.before.if2.false) c.if3.true)
+returns-2 c = let m = c.before.before in rw m.before.if1.true (agrees_none _ _ (sym m.more-before.ensures ∙ c.before.if2.false) c.if3.true)
 
 more-before-requires-2 : tie.Need-more-before-requires-2
 more-before-requires-2 c κs = let t = c.before.before.before in (t.before.requires.inside, t.before.requires.rising t.if1.true)
@@ -26,7 +26,7 @@ more-before-requires-2 c κs = let t = c.before.before.before in (t.before.requi
 returns-3 : tie.Need-returns-3
 returns-3 c = let m = c.before.before.before in
     rw m.before.if1.true (c.more-before2.ensures
-    ∙ agrees-some _ _ (sym m.more-before.ensures ∙ c.before.before.if2.false) c.before.if3.false)
+    ∙ agrees_some _ _ (sym m.more-before.ensures ∙ c.before.before.if2.false) c.before.if3.false)
 
 returns-4 : tie.Need-returns-4
 returns-4 c = rw (c.before.if1.false, lt-leb _ _ c.if4.true)

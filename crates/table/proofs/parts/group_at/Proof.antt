@@ -1,10 +1,10 @@
 use borrow.Author.Rules.{rules}
-use Rattle.table.specs.Table.{groupAt}
+use Rattle.table.specs.Table.{group_at}
 use Rattle.table.proofs.parts.group_at.Statement.{statement}
 use Rattle.table.proofs.parts.group_at.Tie as tie
 
 returns : tie.Need-returns
-unfolding groupAt
+unfolding group_at
 returns c = rw (
   c.before.span-meant.ensures,
   c.span-meant2.ensures,

@@ -1,10 +1,10 @@
-use Rattle.table.specs.Packed.{groupIn}
+use Rattle.table.specs.Packed.{group_in}
 use borrow.Author.Rules.{rules}
 use Rattle.table.proofs.parts.unpack_group.Statement.{statement}
 use Rattle.table.proofs.parts.unpack_group.Tie as tie
 
 returns : tie.Need-returns
-unfolding groupIn
+unfolding group_in
 returns c = rw (c.before.unpack-span.ensures, c.unpack-span2.ensures)
 
 pub unpack-group-spec : {M : Type 1} → statement M

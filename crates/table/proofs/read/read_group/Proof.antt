@@ -6,13 +6,13 @@ use native.Mathlib.Omega.{arith}
 use lib.ListN.{length, drop}
 use borrow.Author.Tests.{not-true, not-false}
 use Rattle.table.specs.declared.read.Pairs.{Pairs}
-use Rattle.table.specs.Table.{loadRule, countsRight}
-use Rattle.table.specs.TableBytes.{readPairs}
-use Rattle.table.specs.Internal.{seenIn, readTwo, twoReply, twoRefusal, Finds, PairsFound}
-use Rattle.number.proofs.RoundTrip.{read-refused}
-use Rattle.number.proofs.ReplyLaws.{refused-some}
+use Rattle.table.specs.Table.{load_rule, counts_right}
+use Rattle.table.specs.TableBytes.{read_pairs}
+use Rattle.table.specs.Internal.{seen_in, read_two, two_reply, two_refusal, Finds, PairsFound}
+use Rattle.number.proofs.RoundTrip.{read_refused}
+use Rattle.number.proofs.ReplyLaws.{refused_some}
 use Rattle.table.proofs.CheckLaws.{counts-few, rising-checked}
-use Rattle.table.proofs.ReadLaws.{TwoGot, two-answer, two-among, group-two, tells-refused, tells-given}
+use Rattle.table.proofs.ReadLaws.{TwoGot, two-answer, two_among, group-two, tells-refused, tells-given}
 use Rattle.table.proofs.RoundTrip.{PairsWritten, pairs-written}
 use borrow.Author.Rules.{rules}
 use Rattle.table.proofs.read.read_group.Statement.{statement}
@@ -21,9 +21,9 @@ use Rattle.table.proofs.read.read_group.Tie as tie
 counts : (c : tie.After-read) →
     let start = c.before.before.before.before in
     TwoGot start.args.bytes.now start.args.at c.read.given.0.0 c.read.given.0.1.0 c.read.given.0.1.1.0
-counts c = two-answer _ _ (sym (ap twoReply c.read.given.1) ∙ c.before.before.read-two.ensures)
+counts c = two-answer _ _ (sym (ap two_reply c.read.given.1) ∙ c.before.before.read-two.ensures)
 
-right : (c : tie.Else1) → countsRight c.before.before.before.read.given.0.0 c.before.before.before.read.given.0.1.0 ≡ true
+right : (c : tie.Else1) → counts_right c.before.before.before.read.given.0.0 c.before.before.before.read.given.0.1.0 ≡ true
 right c = sym c.before.counts-right.ensures ∙ not-false _ c.if1.false
 
 few : (c : tie.Else1) → (c.before.before.before.read.given.0.0 ≤ 16) × (c.before.before.before.read.given.0.1.0 ≤ 16)
@@ -33,10 +33,10 @@ returns : tie.Need-returns
 returns c =
     let t = c.before.before in
     let a = t.before.before.before.before.args in
-    let two = readTwo (drop a.at a.bytes.now) in
-    let e = read-refused a.bytes.now two (sym (ap twoReply t.enum_told.given.1) ∙ t.before.before.read-two.ensures) in
-    tells-refused (group-two _ _ ∙ rw e) (c.no-group.ensures ∙ c.before.two-refusal.ensures ∙ ap twoRefusal t.enum_told.given.1)
-    (refused-some two (two-among _) e)
+    let two = read_two (drop a.at a.bytes.now) in
+    let e = read_refused a.bytes.now two (sym (ap two_reply t.enum_told.given.1) ∙ t.before.before.read-two.ensures) in
+    tells-refused (group-two _ _ ∙ rw e) (c.no-group.ensures ∙ c.before.two-refusal.ensures ∙ ap two_refusal t.enum_told.given.1)
+    (refused_some two (two_among _) e)
 
 returns-2 : tie.Need-returns-2
 returns-2 c =
@@ -72,21 +72,21 @@ loads : (c : tie.Else2) →
     let at_read = c.before.before.before.before.before.before.before.before in
     let start = at_read.before.before.before.before in
     Finds
-    (readPairs (loadRule at_read.read.given.0.1.0) at_read.read.given.0.0 0 0 start.args.seen.loads
+    (read_pairs (load_rule at_read.read.given.0.1.0) at_read.read.given.0.0 0 0 start.args.seen.loads
     (drop at_read.read.given.0.1.1.0 start.args.bytes.now))
     start.args.bytes.now c.before.before.read_pairs.result.next (PairsFound start.args.seen.loads c.before.before.read_pairs.result)
 loads c = c.before.before.read_pairs.ensures.given c.if2.false
 
-loads-right : (c : tie.Else2) →
+loads_right : (c : tie.Else2) →
     let at_read = c.before.before.before.before.before.before.before.before in
     let start = at_read.before.before.before.before in
-    PairsWritten (loadRule at_read.read.given.0.1.0) at_read.read.given.0.0 0 0 start.args.seen.loads
+    PairsWritten (load_rule at_read.read.given.0.1.0) at_read.read.given.0.0 0 0 start.args.seen.loads
     (drop at_read.read.given.0.1.1.0 start.args.bytes.now) (loads c).what
     (drop c.before.before.read_pairs.result.next start.args.bytes.now)
-loads-right c = pairs-written _ _ _ _ _ _ (loads c).is
+loads_right c = pairs-written _ _ _ _ _ _ (loads c).is
 
 loads-few : (c : tie.Else2) → length (loads c).what ≤ 16
-loads-few c = omega (arith, (loads-right c).many, (few c.before.before.before.before.before).0)
+loads-few c = omega (arith, (loads_right c).many, (few c.before.before.before.before.before).0)
 
 read-pairs-requires-2 : tie.Need-read-pairs-requires-2
 read-pairs-requires-2 c κs =
@@ -98,7 +98,7 @@ read-pairs-requires-2 c κs =
         inside = rw (loads l).found.pairs (omega (arith, loads-few l));
         few = rw (loads l).found.pairs (loads-few l);
         few-stores = (few e).1;
-        rising = λ z. rw (loads l).found.holds (rising-checked _ _ _ _ _ (loads-right l).right);
+        rising = λ z. rw (loads l).found.holds (rising-checked _ _ _ _ _ (loads_right l).right);
       },
     )
 
@@ -122,7 +122,7 @@ returns-5 c =
       inside = t.inside;
       found = record {
         group = ap₂ (λ (x y : Pairs). record { loads = x; stores = y }) (loads l).found.pairs t.found.pairs;
-        marks = ap₂ seenIn (loads l).found.marks t.found.marks;
+        marks = ap₂ seen_in (loads l).found.marks t.found.marks;
       };
     }))
 

@@ -5,10 +5,10 @@ use native.Mathlib.Omega.{arith}
 use lib.ListN.{drop}
 use borrow.Author.Rules.{rules}
 use Rattle.number.specs.Reply.{passed}
-use Rattle.table.specs.Table.{checkGroup}
-use Rattle.table.specs.TableBytes.{readGroup}
-use Rattle.table.specs.Internal.{seenOf, Finds, GroupFound, Growing}
-use Rattle.table.proofs.ReadLaws.{PairsGathering, gathering-none, gathering-refused, gathering-room, gathering-more, gathering-end}
+use Rattle.table.specs.Table.{check_group}
+use Rattle.table.specs.TableBytes.{read_group}
+use Rattle.table.specs.Internal.{seen_of, Finds, GroupFound, Growing}
+use Rattle.table.proofs.ReadLaws.{PairsGathering, gathering_none, gathering-refused, gathering-room, gathering-more, gathering-end}
 use Rattle.table.proofs.ReadLaws.{tells-refused, tells-given}
 use Rattle.table.proofs.RoundTrip.{group-written}
 use Rattle.table.proofs.read.read_groups.Statement.{statement}
@@ -16,13 +16,13 @@ use Rattle.table.proofs.read.read_groups.Tie as tie
 
 abbrev invariant-loop : tie.invariant-loop
 invariant-loop bytes at count table₀ loads₀ stores₀ seen₀ place₀ i₀ table loads stores seen place i = (i ≤ count)
-    × PairsGathering count bytes at i (seenOf seen) place table loads stores
+    × PairsGathering count bytes at i (seen_of seen) place table loads stores
 
 abbrev decreases-loop : tie.decreases-loop
 decreases-loop bytes at count table₀ loads₀ stores₀ seen₀ place₀ i₀ table loads stores seen place i = count - i
 
 loop-holds : tie.Need-loop-init invariant-loop decreases-loop
-loop-holds c = (search rules, gathering-none c.before.before.requires.1 c.no_table.ensures)
+loop-holds c = (search rules, gathering_none c.before.before.requires.1 c.no_table.ensures)
 
 returns : tie.Need-returns invariant-loop decreases-loop
 returns c =
@@ -33,10 +33,10 @@ returns c =
 -- the group that was read, for which there is room
 group : (c : tie.Else1 invariant-loop decreases-loop) → let l = c.before.before.before.before in let s = l.before.before.before.args.bytes.now in
     let r = c.before.before.read-group.result in
-    Finds (readGroup (seenOf l.loop.seen) (drop l.loop.place s)) s r.next (GroupFound (seenOf l.loop.seen) r)
+    Finds (read_group (seen_of l.loop.seen) (drop l.loop.place s)) s r.next (GroupFound (seen_of l.loop.seen) r)
 group c = c.before.before.read-group.ensures.given c.if1.false
 
-right : (c : tie.Else1 invariant-loop decreases-loop) → checkGroup (seenOf c.before.before.before.before.loop.seen) (group c).what ≡ passed
+right : (c : tie.Else1 invariant-loop decreases-loop) → check_group (seen_of c.before.before.before.before.loop.seen) (group c).what ≡ passed
 right c = (group-written _ _ (group c).is).right
 
 room : (c : tie.Else1 invariant-loop decreases-loop)
@@ -50,10 +50,10 @@ with-group-requires : tie.Need-with-group-requires invariant-loop decreases-loop
 with-group-requires c κs = room c.before
 
 add-loads : tie.Need-overflow-add-loads invariant-loop decreases-loop
-add-loads c = omega (arith, (room c.before.before.before.before.before).loads-room)
+add-loads c = omega (arith, (room c.before.before.before.before.before).loads_room)
 
 add-stores : tie.Need-overflow-add-stores invariant-loop decreases-loop
-add-stores c = omega (arith, (room c.before.before.before.before.before.before).stores-room)
+add-stores c = omega (arith, (room c.before.before.before.before.before.before).stores_room)
 
 loop-again : tie.Need-loop-preserved invariant-loop decreases-loop
 loop-again c =

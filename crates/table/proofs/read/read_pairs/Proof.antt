@@ -7,23 +7,23 @@ use native.Mathlib.Omega.{arith}
 use borrow.Author.Rules.{rules}
 use lib.ListN.{take, drop}
 use Rattle.table.specs.declared.read.Pairs.{Pairs}
-use Rattle.table.specs.Packed.{pair, SmallPair, pairIn}
+use Rattle.table.specs.Packed.{pair, SmallPair, pair_in}
 use Rattle.table.specs.Group.{list_of}
 use Rattle.number.specs.Reply.{Reply, number, passed}
-use Rattle.table.specs.Table.{checkPair}
-use Rattle.table.specs.Internal.{ruleOf, front, readTwo, twoReply, twoRefusal}
-use Rattle.number.proofs.RoundTrip.{read-refused}
-use Rattle.number.proofs.ReplyLaws.{some-refused, refused-some}
+use Rattle.table.specs.Table.{check_pair}
+use Rattle.table.specs.Internal.{rule_of, front, read_two, two_reply, two_refusal}
+use Rattle.number.proofs.RoundTrip.{read_refused}
+use Rattle.number.proofs.ReplyLaws.{some_refused, refused_some}
 use Rattle.table.proofs.Among.{pair-zero}
-use Rattle.table.proofs.CheckLaws.{pair-passed, rule-small}
-use Rattle.table.proofs.ReadLaws.{TwoGot, two-answer, two-among, PairsReading, reading-none, reading-refused, reading-fault}
+use Rattle.table.proofs.CheckLaws.{pair-passed, rule_small}
+use Rattle.table.proofs.ReadLaws.{TwoGot, two-answer, two_among, PairsReading, reading_none, reading-refused, reading-fault}
 use Rattle.table.proofs.ReadLaws.{reading-more, reading-end, packed, held-pairs, tells-refused, tells-given}
 use Rattle.table.proofs.read.read_pairs.Statement.{statement}
 use Rattle.table.proofs.read.read_pairs.Tie as tie
 
 abbrev invariant-loop : tie.invariant-loop
 invariant-loop bytes at count storing stores load-places load-span pairs₀ marks₀ low₀ place₀ i₀ pairs marks low place i =
-    (i ≤ count) × PairsReading (ruleOf storing stores (list_of load-places load-span)) count marks₀ bytes at i low marks place pairs.places
+    (i ≤ count) × PairsReading (rule_of storing stores (list_of load-places load-span)) count marks₀ bytes at i low marks place pairs.places
 
 abbrev decreases-loop : tie.decreases-loop
 decreases-loop bytes at count storing stores load-places load-span pairs₀ marks₀ low₀ place₀ i₀ pairs marks low place i = count - i
@@ -32,17 +32,17 @@ abbrev start : tie.At-loop invariant-loop decreases-loop → tie.Start invariant
 start c = c.before.before.before.before
 
 loop-holds : tie.Need-loop-init invariant-loop decreases-loop
-loop-holds c = (search rules, reading-none c.before.before.before.requires.1 (ap (λ (p : Pairs). p.places) c.no_pairs.ensures))
+loop-holds c = (search rules, reading_none c.before.before.before.requires.1 (ap (λ (p : Pairs). p.places) c.no_pairs.ensures))
 
 returns : tie.Need-returns invariant-loop decreases-loop
 returns c =
     let t = c.before.before in
     let l = t.before.before.before in
     let s = (start l.before).args.bytes.now in
-    let e = read-refused s (readTwo (drop l.before.loop.place s)) (sym (ap twoReply t.enum_told.given.1)
+    let e = read_refused s (read_two (drop l.before.loop.place s)) (sym (ap two_reply t.enum_told.given.1)
     ∙ t.before.before.read-two.ensures) in
     tells-refused (reading-refused l.before.loop.invariant.1 l.loop-test.true e) (c.no-pairs-read.ensures ∙ c.before.two-refusal.ensures
-    ∙ ap twoRefusal t.enum_told.given.1) (refused-some (readTwo (drop l.before.loop.place s)) (two-among _) e)
+    ∙ ap two_refusal t.enum_told.given.1) (refused_some (read_two (drop l.before.loop.place s)) (two_among _) e)
 
 offset-right-requires : tie.Need-offset-right-requires invariant-loop decreases-loop
 offset-right-requires c κs = (start c.before.before.before.before.before.before).pre.2
@@ -50,17 +50,17 @@ offset-right-requires c κs = (start c.before.before.before.before.before.before
 two : (c : tie.After-read invariant-loop decreases-loop)
     → TwoGot (start c.before.before.before.before).args.bytes.now c.before.before.before.before.loop.place c.read.given.0.0
     c.read.given.0.1.0 c.read.given.0.1.1.0
-two c = two-answer _ _ (sym (ap twoReply c.read.given.1) ∙ c.before.before.read-two.ensures)
+two c = two-answer _ _ (sym (ap two_reply c.read.given.1) ∙ c.before.before.read-two.ensures)
 
 -- the pair's offset by the rule, and its check
 abbrev rightOf : tie.After-read invariant-loop decreases-loop → Bool
 rightOf g =
     let l = g.before.before.before.before in
     let a = (start l).args in
-    ruleOf a.storing a.stores (list_of a.loads.places (front a.loads.count)) l.loop.low l.loop.i g.read.given.0.0
+    rule_of a.storing a.stores (list_of a.loads.places (front a.loads.count)) l.loop.low l.loop.i g.read.given.0.0
 
 abbrev checkOf : tie.After-read invariant-loop decreases-loop → Bool → Reply (Unit {0})
-checkOf g right = checkPair right g.before.before.before.before.loop.marks g.read.given.0.1.0
+checkOf g right = check_pair right g.before.before.before.before.loop.marks g.read.given.0.1.0
 
 abbrev turn : tie.After-pair-fault invariant-loop decreases-loop → tie.After-read invariant-loop decreases-loop
 turn c = c.before.before.before.before.before
@@ -73,7 +73,7 @@ returns-2 c =
     let f = c.before.before in
     let g = turn f in
     let l = g.before.before.before in
-    let e = some-refused (checkOf g (rightOf g)) (fault f) c.before.if1.true in
+    let e = some_refused (checkOf g (rightOf g)) (fault f) c.before.if1.true in
     tells-refused (reading-fault l.before.loop.inv.1 l.loop-test.taken (two g) e) c.no-pairs-read2.ensures c.before.if1.true
 
 no-fault : (c : tie.Else1 invariant-loop decreases-loop) → checkOf (turn c.before) (rightOf (turn c.before)) ≡ passed
@@ -87,7 +87,7 @@ small c =
     let l = g.before.before.before.before in
     let s = start l in
     let f = pair-passed (rightOf g) l.loop.marks g.read.given.0.1.0 (no-fault c) in (
-      rule-small s.args.storing s.args.stores s.args.loads.places (front s.args.loads.count) l.loop.low l.loop.i
+      rule_small s.args.storing s.args.stores s.args.loads.places (front s.args.loads.count) l.loop.low l.loop.i
           g.read.given.0.0 s.pre.2 f.0,
       f.1,
     )
@@ -149,7 +149,7 @@ returns-3 c =
     let e = reading-end w a.pre.0 c.loop-test.false c.before.loop.invariant.0 in
     let n : a.args.count ≡ i = omega (arith, c.loop-test.false, c.before.loop.invariant.0) in
     tells-given refl (record {
-      what = map pairIn (take i places);
+      what = map pair_in (take i places);
       is = e.0;
       inside = w.inside;
       found = record {

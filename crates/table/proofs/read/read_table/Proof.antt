@@ -8,11 +8,11 @@ use borrow.Author.Tests.{le-leb, lt-leb, eq-eqb, ne_eqb}
 use Rattle.table.specs.declared.Table.{Table}
 use Rattle.table.specs.declared.TableRead.{TableRead}
 use Rattle.number.specs.Reply.{refuse, accept}
-use Rattle.number.specs.Number.{got, readNumber, numberReply, numberRefusal}
-use Rattle.table.specs.Table.{noneSeen}
-use Rattle.table.specs.TableBytes.{readGroups, readTable, pack}
+use Rattle.number.specs.Number.{got, read_number, number_reply, number_refusal}
+use Rattle.table.specs.Table.{none_seen}
+use Rattle.table.specs.TableBytes.{read_groups, read_table, pack}
 use Rattle.table.specs.Internal.{Finds}
-use Rattle.number.proofs.RoundTrip.{NumberGot, number-got, read-refused}
+use Rattle.number.proofs.RoundTrip.{NumberGot, number_got, read_refused}
 use borrow.Author.Rules.{rules}
 use Rattle.table.proofs.read.read_table.Statement.{statement}
 use Rattle.table.proofs.read.read_table.Tie as tie
@@ -21,24 +21,24 @@ abbrev accepted : Table → TableRead
 accepted t = record { answer = 0; table = t }
 
 fields-got : (c : tie.After-read) → NumberGot c.before.before.before.before.args.bytes.now 0 c.read.given.0.0 c.read.given.0.1.0
-fields-got c = number-got _ _ (sym (ap numberReply c.read.given.1) ∙ c.before.before.read_number.ensures)
+fields-got c = number_got _ _ (sym (ap number_reply c.read.given.1) ∙ c.before.before.read_number.ensures)
 
 fields-are : (c : tie.After-read) →
     let start = c.before.before.before.before in
-    readNumber start.args.bytes.now ≡ accept (got c.read.given.0.0 (drop c.read.given.0.1.0 start.args.bytes.now))
+    read_number start.args.bytes.now ≡ accept (got c.read.given.0.0 (drop c.read.given.0.1.0 start.args.bytes.now))
 fields-are c = (fields-got c).is
 
 returns : tie.Need-returns
-unfolding readTable
+unfolding read_table
 returns c =
     let t = c.before.before in
     let s = t.before.before.before.before.args.bytes.now in
-    let e : readNumber s ≡ refuse t.enum_told.given.0.0 =
-    read-refused s (readNumber s) (sym (ap numberReply t.enum_told.given.1) ∙ t.before.before.read_number.ensures) in
-    rw (c.refused.ensures, c.before.number-refusal.ensures ∙ ap numberRefusal t.enum_told.given.1, e)
+    let e : read_number s ≡ refuse t.enum_told.given.0.0 =
+    read_refused s (read_number s) (sym (ap number_reply t.enum_told.given.1) ∙ t.before.before.read_number.ensures) in
+    rw (c.refused.ensures, c.before.number-refusal.ensures ∙ ap number_refusal t.enum_told.given.1, e)
 
 returns-2 : tie.Need-returns-2
-unfolding readTable
+unfolding read_table
 returns-2 c =
     let g = c.before.before.before in
     rw (c.refused2.ensures, fields-are g, ne_eqb _ _ c.before.if1.true)
@@ -46,10 +46,10 @@ returns-2 c =
 count-got : (c : tie.After-read2) →
     let start = c.before.before.before.before.before.before.before.before.before in
     NumberGot start.args.bytes.now c.before.before.before.before.before.read.given.0.1.0 c.read2.given.0.0 c.read2.given.0.1.0
-count-got c = number-got _ _ (sym (ap numberReply c.read2.given.1) ∙ c.before.before.read-number2.ensures)
+count-got c = number_got _ _ (sym (ap number_reply c.read2.given.1) ∙ c.before.before.read-number2.ensures)
 
 returns-3 : tie.Need-returns-3
-unfolding readTable
+unfolding read_table
 returns-3 c =
     let t = c.before.before in
     let r = t.before.before in
@@ -57,21 +57,21 @@ returns-3 c =
     let s = g.before.before.before.before.args.bytes.now in
     rw (
       c.refused3.ensures,
-      c.before.number-refusal2.ensures ∙ ap numberRefusal t.enum-told2.given.1,
+      c.before.number-refusal2.ensures ∙ ap number_refusal t.enum-told2.given.1,
       fields-are g,
       eq-eqb _ _ r.before.if1.false,
-      read-refused s (readNumber (drop g.read.given.0.1.0 s)) (sym (ap numberReply t.enum-told2.given.1) ∙ r.read-number2.ensures),
+      read_refused s (read_number (drop g.read.given.0.1.0 s)) (sym (ap number_reply t.enum-told2.given.1) ∙ r.read-number2.ensures),
     )
 
 returns-4 : tie.Need-returns-4
-unfolding readTable
+unfolding read_table
 returns-4 c =
     let h = c.before.before.before in
     let g = h.before.before.before.before.before in
     rw (c.refused4.ensures, fields-are g, eq-eqb _ _ h.before.before.before.if1.false, (count-got h).is, lt-leb _ _ c.before.if2.true)
 
 returns-5 : tie.Need-returns-5
-unfolding readTable
+unfolding read_table
 returns-5 c =
     let h = c.before.before.before.before in
     let g = h.before.before.before.before.before in
@@ -93,7 +93,7 @@ groups : (c : tie.Else4) →
     let at-read2 = c.before.before.before.before.before.before in
     let start = at-read2.before.before.before.before.before.before.before.before.before in
     let r = c.before.before.read-groups.result in
-    Finds (readGroups at-read2.read2.given.0.0 noneSeen (drop at-read2.read2.given.0.1.0 start.args.bytes.now))
+    Finds (read_groups at-read2.read2.given.0.0 none_seen (drop at-read2.read2.given.0.1.0 start.args.bytes.now))
     start.args.bytes.now r.next (λ gs. r.table ≡ pack gs)
 groups c = c.before.before.read-groups.ensures.given c.if4.false
 
@@ -108,7 +108,7 @@ left_over : (c : tie.Else4) → length (left_of c) ≡ length (start c).args.byt
 left_over c = length-drop c.before.before.read-groups.result.next (start c).args.bytes.now
 
 returns-6 : tie.Need-returns-6
-unfolding readTable
+unfolding read_table
 returns-6 c =
     let k = c.before.before.before in
     let h = k.before.before.before.before in
@@ -124,7 +124,7 @@ returns-6 c =
     )
 
 returns-7 : tie.Need-returns-7
-unfolding readTable
+unfolding read_table
 returns-7 c =
     let e = c.before.before.before in
     let k = e.before.before in
@@ -142,7 +142,7 @@ returns-7 c =
     )
 
 returns-8 : tie.Need-returns-8
-unfolding readTable
+unfolding read_table
 returns-8 c =
     let e = c.before.before.before in
     let k = e.before.before in

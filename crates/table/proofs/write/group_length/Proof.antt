@@ -6,11 +6,11 @@ use borrow.Author.Rules.{rules}
 use Rattle.table.proofs.write.group_length.Statement.{statement}
 use Rattle.table.proofs.write.group_length.Tie as tie
 
-five : (c : tie.After-number-length2) → (c.before.before.number-length.result ≤ 5) × (c.number-length2.result ≤ 5)
+five : (c : tie.After-number-length2) → (c.before.before.number_length.result ≤ 5) × (c.number-length2.result ≤ 5)
 five c =
     let start = c.before.before.before.before.before.before in
     let g = start.args.group in (
-      omega (arith, c.before.before.number-length.ensures.1, bytes_most g.loads.count),
+      omega (arith, c.before.before.number_length.ensures.1, bytes_most g.loads.count),
       omega (arith, c.number-length2.ensures.1, bytes_most g.stores.count),
     )
 
@@ -36,7 +36,7 @@ returns c =
       rw (group-bytes s.args.loads.now s.args.stores.now s.args.group)
           (omega (
             arith,
-            n.before.before.number-length.ensures.1,
+            n.before.before.number_length.ensures.1,
             n.number-length2.ensures.1,
             c.before.pairs-length.ensures.0,
             c.pairs-length2.ensures.0,

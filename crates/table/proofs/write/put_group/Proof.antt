@@ -4,10 +4,10 @@ use mathlib.Core.List.{◌∷◌, []}
 use native.Mathlib.Omega.{arith}
 use lib.ListN.{length}
 use Rattle.number.specs.Basics.{flat_map}
-use Rattle.number.specs.Number.{bytes_of, numberBytes, Puts}
+use Rattle.number.specs.Number.{bytes_of, number_bytes, Puts}
 use Rattle.table.specs.Group.{list_of}
-use Rattle.table.specs.TableBytes.{pairNumbers}
-use Rattle.number.proofs.SpliceLaws.{put-at, NumbersPut, put-none, put_two}
+use Rattle.table.specs.TableBytes.{pair_numbers}
+use Rattle.number.proofs.SpliceLaws.{put-at, NumbersPut, put_none, put_two}
 use Rattle.table.proofs.WriteLaws.{group-bytes, put-group}
 use borrow.Author.Rules.{rules}
 use Rattle.table.proofs.write.put_group.Statement.{statement}
@@ -15,9 +15,9 @@ use Rattle.table.proofs.write.put_group.Tie as tie
 
 -- the bytes of the group, part by part, and that there is room for them
 room : (c : tie.Start)
-    → c.args.at + (length (numberBytes c.args.group.loads.count) + length (numberBytes c.args.group.stores.count) + length
-    (bytes_of (flat_map pairNumbers (list_of c.args.loads.now c.args.group.loads))) + length
-    (bytes_of (flat_map pairNumbers (list_of c.args.stores.now c.args.group.stores)))) ≤ length c.args.out.now
+    → c.args.at + (length (number_bytes c.args.group.loads.count) + length (number_bytes c.args.group.stores.count) + length
+    (bytes_of (flat_map pair_numbers (list_of c.args.loads.now c.args.group.loads))) + length
+    (bytes_of (flat_map pair_numbers (list_of c.args.stores.now c.args.group.stores)))) ≤ length c.args.out.now
 room c = omega (arith, group-bytes c.args.loads.now c.args.stores.now c.args.group, c.requires.1)
 
 -- each count is put
@@ -25,11 +25,11 @@ abbrev start : tie.After-put-number → tie.Start
 start c = c.before.before.before.before.before.before
 
 first-put : (c : tie.After-put-number) → let a = (start c).args in
-    Puts a.out.now a.at (numberBytes a.group.loads.count) c.put-number.result c.put-number.new.0
+    Puts a.out.now a.at (number_bytes a.group.loads.count) c.put-number.result c.put-number.new.0
 first-put c = put-at (omega (arith, room (start c))) c.put-number.ensures
 
 second-put : (c : tie.After-put-number2) → let n = c.before.before.before.before.before in
-    Puts n.put-number.new.0 n.put-number.result (numberBytes (start n).args.group.stores.count) c.put-number2.result
+    Puts n.put-number.new.0 n.put-number.result (number_bytes (start n).args.group.stores.count) c.put-number2.result
     c.put-number2.new.0
 second-put c =
     let n = c.before.before.before.before.before in
@@ -43,13 +43,13 @@ counts-put : (c : tie.After-put-number2) →
 counts-put c =
     let n = c.before.before.before.before.before in
     let s = start n in
-    put_two put-none s.args.group.loads.count s.args.group.stores.count (omega (arith, room s)) (first-put n).is (first-put n).ends
+    put_two put_none s.args.group.loads.count s.args.group.stores.count (omega (arith, room s)) (first-put n).is (first-put n).ends
     (second-put c).is (second-put c).ends
 
 counts_end : (c : tie.After-put-number2) →
     let start = c.before.before.before.before.before.before.before.before.before.before.before in
-    (c.put-number2.result ≡ start.args.at + length (numberBytes start.args.group.loads.count) + length
-    (numberBytes start.args.group.stores.count)) × (length c.put-number2.new.0 ≡ length start.args.out.now)
+    (c.put-number2.result ≡ start.args.at + length (number_bytes start.args.group.loads.count) + length
+    (number_bytes start.args.group.stores.count)) × (length c.put-number2.new.0 ≡ length start.args.out.now)
 counts_end c =
     let n = c.before.before.before.before.before in
     (omega (arith, (first-put n).ends, (second-put c).ends), omega (arith, n.put-number.auto.0, c.put-number2.auto.0))
@@ -62,9 +62,9 @@ put-pairs-requires c κs =
 
 loads-end : (c : tie.After-put-pairs) →
     let start = c.before.before.before.before.before.before.before.before.before.before.before.before.before.before.before in
-    (c.put-pairs.result ≡ start.args.at + length (numberBytes start.args.group.loads.count) + length
-    (numberBytes start.args.group.stores.count) + length
-    (bytes_of (flat_map pairNumbers (list_of start.args.loads.now start.args.group.loads))))
+    (c.put-pairs.result ≡ start.args.at + length (number_bytes start.args.group.loads.count) + length
+    (number_bytes start.args.group.stores.count) + length
+    (bytes_of (flat_map pair_numbers (list_of start.args.loads.now start.args.group.loads))))
     × (length c.put-pairs.new.1.1.0 ≡ length start.args.out.now)
 loads-end c =
     let n = c.before.before.before.before in

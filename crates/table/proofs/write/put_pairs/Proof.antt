@@ -7,18 +7,18 @@ use lib.Seq.{take_all}
 use borrow.Author.Rules.{rules}
 use Rattle.table.specs.declared.Pair.{Pair}
 use Rattle.number.specs.Basics.{flat_map}
-use Rattle.number.specs.Number.{bytes_of, numberBytes, Puts}
-use Rattle.table.specs.Group.{list_of, blankPair}
-use Rattle.table.specs.TableBytes.{pairNumbers}
+use Rattle.number.specs.Number.{bytes_of, number_bytes, Puts}
+use Rattle.table.specs.Group.{list_of, blank_pair}
+use Rattle.table.specs.TableBytes.{pair_numbers}
 use Rattle.table.proofs.CheckLaws.{view-length, view-at}
-use Rattle.number.proofs.SpliceLaws.{put-at, NumbersPut, put-none, put-length, put_two}
-use Rattle.table.proofs.WriteLaws.{flat-next, flat-room, pair-length}
+use Rattle.number.proofs.SpliceLaws.{put-at, NumbersPut, put_none, put-length, put_two}
+use Rattle.table.proofs.WriteLaws.{flat_next, flat_room, pair-length}
 use Rattle.table.proofs.write.put_pairs.Statement.{statement}
 use Rattle.table.proofs.write.put_pairs.Tie as tie
 
 abbrev invariant-loop : tie.invariant-loop
 invariant-loop places out₀ at first count place₀ i₀ out place i = (i ≤ count)
-    × NumbersPut out₀ at (flat_map pairNumbers (take i (list_of places (record { first = first; count = count })))) out place
+    × NumbersPut out₀ at (flat_map pair_numbers (take i (list_of places (record { first = first; count = count })))) out place
 
 abbrev decreases-loop : tie.decreases-loop
 decreases-loop places out₀ at first count place₀ i₀ out place i = count - i
@@ -36,7 +36,7 @@ size c = view-length (start c).args.places.now (start c).args.pairs
 abbrev turn : tie.After-unpack-pair invariant-loop decreases-loop → tie.In-loop invariant-loop decreases-loop
 turn u = u.before.before
 
-this : (u : tie.After-unpack-pair invariant-loop decreases-loop) → get_or (listed (turn u).before) (turn u).before.loop.i blankPair ≡ u.unpack-pair.result
+this : (u : tie.After-unpack-pair invariant-loop decreases-loop) → get_or (listed (turn u).before) (turn u).before.loop.i blank_pair ≡ u.unpack-pair.result
 this u =
     let l = turn u in
     let s = start l.before in
@@ -45,17 +45,17 @@ this u =
 -- there is room for it
 room : (u : tie.After-unpack-pair invariant-loop decreases-loop)
     → (start (turn u).before).args.at +
-    (length (bytes_of (flat_map pairNumbers (take (turn u).before.loop.i (listed (turn u).before)))) +
-    (length (numberBytes u.unpack-pair.result.offset) + length (numberBytes u.unpack-pair.result.port))) ≤ length
+    (length (bytes_of (flat_map pair_numbers (take (turn u).before.loop.i (listed (turn u).before)))) +
+    (length (number_bytes u.unpack-pair.result.offset) + length (number_bytes u.unpack-pair.result.port))) ≤ length
     (start (turn u).before).args.out.now
 room u =
     let l = turn u in
     let f = rw (this u, pair-length u.unpack-pair.result) at
-    (flat-room pairNumbers (listed l.before) l.before.loop.i blankPair (omega (arith, size l.before, l.loop-test.taken))) in
+    (flat_room pair_numbers (listed l.before) l.before.loop.i blank_pair (omega (arith, size l.before, l.loop-test.taken))) in
     omega (arith, f, (start l.before).pre.1)
 
 loop-holds : tie.Need-loop-init invariant-loop decreases-loop
-loop-holds c = (search rules, put-none)
+loop-holds c = (search rules, put_none)
 
 add-unpack-pair : tie.Need-overflow-add-unpack-pair invariant-loop decreases-loop
 add-unpack-pair c = omega (arith, (start c.before).pre.0)
@@ -71,7 +71,7 @@ puts c = c.before.before.before
 
 -- the offset is put, and where it ends
 offset-put : (c : tie.After-put-number invariant-loop decreases-loop) → let l = (turn (puts c)).before.loop in
-    Puts l.out l.place (numberBytes (puts c).unpack-pair.result.offset) c.put-number.result c.put-number.new.0
+    Puts l.out l.place (number_bytes (puts c).unpack-pair.result.offset) c.put-number.result c.put-number.new.0
 offset-put c =
     let u = puts c in
     let w = (turn u).before.loop.inv.1 in
@@ -79,8 +79,8 @@ offset-put c =
 
 first_ends : (c : tie.After-put-number invariant-loop decreases-loop) → let l = (turn (puts c)).before in
     (length c.put-number.new.0 ≡ length (start l).args.out.now)
-    × (c.put-number.result ≡ (start l).args.at + length (bytes_of (flat_map pairNumbers (take l.loop.i (listed l)))) + length
-    (numberBytes (puts c).unpack-pair.result.offset))
+    × (c.put-number.result ≡ (start l).args.at + length (bytes_of (flat_map pair_numbers (take l.loop.i (listed l)))) + length
+    (number_bytes (puts c).unpack-pair.result.offset))
 first_ends c =
     let w = (turn (puts c)).before.loop.inv.1 in
     (c.put-number.auto.0 ∙ put-length w (omega (arith, room (puts c))), omega (arith, (offset-put c).ends, w.ends))
@@ -106,7 +106,7 @@ loop-again c =
     let i = l.before.loop.i in
     let p = u.unpack-pair.result in
     let f = put-at (omega (arith, room u, (first_ends n).0, (first_ends n).1)) m.put-number2.ensures in
-    let q = flat-next pairNumbers (listed l.before) i blankPair (omega (arith, size l.before, l.loop-test.taken)) in (
+    let q = flat_next pair_numbers (listed l.before) i blank_pair (omega (arith, size l.before, l.loop-test.taken)) in (
       omega (arith, l.loop-test.taken),
       rw (q, this u) (put_two l.before.loop.inv.1 p.offset p.port (omega (arith, room u)) (offset-put n).is (offset-put n).ends f.is
           f.ends),
@@ -114,7 +114,7 @@ loop-again c =
 
 -- all pairs have been put
 done : (c : tie.After-loop invariant-loop decreases-loop)
-    → NumbersPut (start c.before).args.out.now (start c.before).args.at (flat_map pairNumbers (listed c.before)) c.before.loop.out
+    → NumbersPut (start c.before).args.out.now (start c.before).args.at (flat_map pair_numbers (listed c.before)) c.before.loop.out
     c.before.loop.place
 done c = rw (take_all c.before.loop.i (listed c.before) (omega (arith, size c.before, c.loop-test.false))) at c.before.loop.invariant.1
 

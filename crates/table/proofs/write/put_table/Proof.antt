@@ -7,19 +7,19 @@ use lib.Seq.{take_all}
 use borrow.Author.Rules.{rules}
 use Rattle.table.specs.declared.Table.{Table}
 use Rattle.number.specs.Basics.{flat_map}
-use Rattle.number.specs.Number.{numberBytes, bytes_of, Puts}
-use Rattle.table.specs.Group.{GroupPairs, pairsOf}
-use Rattle.table.specs.Table.{groupsIn, groups_of}
-use Rattle.table.specs.TableBytes.{groupNumbers}
+use Rattle.number.specs.Number.{number_bytes, bytes_of, Puts}
+use Rattle.table.specs.Group.{GroupPairs, pairs_of}
+use Rattle.table.specs.Table.{groups_in, groups_of}
+use Rattle.table.specs.TableBytes.{group_numbers}
 use Rattle.table.proofs.CheckLaws.{groups-size, group-inside, group_at}
-use Rattle.number.proofs.SpliceLaws.{put-at, NumbersPut, put-none, put_two, put-more, put-length}
-use Rattle.table.proofs.WriteLaws.{flat-next, flat-room, table-size, put-table}
+use Rattle.number.proofs.SpliceLaws.{put-at, NumbersPut, put_none, put_two, put-more, put-length}
+use Rattle.table.proofs.WriteLaws.{flat_next, flat_room, table-size, put-table}
 use Rattle.table.proofs.write.put_table.Statement.{statement}
 use Rattle.table.proofs.write.put_table.Tie as tie
 
 abbrev invariant-loop : tie.invariant-loop
 invariant-loop count groups loads stores out₀ many after-fields place₀ i₀ out place i = (i ≤ count)
-    × NumbersPut out₀ place₀ (flat_map groupNumbers (take i (groupsIn count groups loads stores))) out place
+    × NumbersPut out₀ place₀ (flat_map group_numbers (take i (groups_in count groups loads stores))) out place
 
 abbrev decreases-loop : tie.decreases-loop
 decreases-loop count groups loads stores out₀ many after-fields place₀ i₀ out place i = count - i
@@ -43,20 +43,20 @@ table_at c = table_of (start (fields (head c)))
 
 -- there is room for the whole table
 space : (c : tie.Start invariant-loop decreases-loop)
-    → length (numberBytes 2) + length (numberBytes c.args.count) + length (bytes_of (flat_map groupNumbers (groups_of (table_of c)))) ≤ length
+    → length (number_bytes 2) + length (number_bytes c.args.count) + length (bytes_of (flat_map group_numbers (groups_of (table_of c)))) ≤ length
     c.args.out.now
 space c = omega (arith, table-size (groups_of (table_of c)) c.args.count (groups-size (table_of c)), c.requires.1)
 
 loop-holds : tie.Need-loop-init invariant-loop decreases-loop
-loop-holds c = (search rules, put-none)
+loop-holds c = (search rules, put_none)
 
 -- the head's numbers are put, one by one
 fields-put : (c : tie.After-put-number invariant-loop decreases-loop) →
-    Puts (start c).args.out.now 0 (numberBytes 2) c.put-number.result c.put-number.new.0
+    Puts (start c).args.out.now 0 (number_bytes 2) c.put-number.result c.put-number.new.0
 fields-put c = put-at (omega (arith, space (start c))) c.put-number.ensures
 
 count-put : (c : tie.After-put-number2 invariant-loop decreases-loop) → let n = fields c in
-    Puts n.put-number.last.0 n.put-number.result (numberBytes (start n).args.count) c.put-number2.result c.put-number2.new.0
+    Puts n.put-number.last.0 n.put-number.result (number_bytes (start n).args.count) c.put-number2.result c.put-number2.new.0
 count-put c =
     let n = fields c in
     put-at (omega (arith, space (start n), (fields-put n).ends, n.put-number.kept.0)) c.put-number2.ensures
@@ -66,10 +66,10 @@ head-put : (c : tie.After-put-number2 invariant-loop decreases-loop)
     → NumbersPut (start (fields c)).args.out.now 0 (2 ∷ (start (fields c)).args.count ∷ []) c.put-number2.new.0 c.put-number2.result
 head-put c =
     let n = fields c in
-    put_two put-none 2 (start n).args.count (omega (arith, space (start n))) (fields-put n).is (fields-put n).ends (count-put c).is (count-put c).ends
+    put_two put_none 2 (start n).args.count (omega (arith, space (start n))) (fields-put n).is (fields-put n).ends (count-put c).is (count-put c).ends
 
 head-end : (c : tie.After-put-number2 invariant-loop decreases-loop)
-    → (c.put-number2.result ≡ length (numberBytes 2) + length (numberBytes (start (fields c)).args.count))
+    → (c.put-number2.result ≡ length (number_bytes 2) + length (number_bytes (start (fields c)).args.count))
     × (length c.put-number2.new.0 ≡ length (start (fields c)).args.out.now)
 head-end c =
     let n = fields c in
@@ -79,7 +79,7 @@ head-end c =
 abbrev group_of : tie.After-group-at invariant-loop decreases-loop → GroupPairs
 group_of c =
     let t = table_at c.before.before in
-    pairsOf t.loads t.stores c.group_at.result
+    pairs_of t.loads t.stores c.group_at.result
 
 this : (c : tie.After-group-at invariant-loop decreases-loop) → get_or (groups_of (table_at c.before.before)) c.before.before.loop.i (group_of c) ≡ group_of c
 this c =
@@ -92,12 +92,12 @@ inside c = omega (arith, groups-size (table_at c.before), c.loop-test.true)
 -- there is room for it
 room : (c : tie.After-group-at invariant-loop decreases-loop)
     → (head c.before.before).put-number2.result +
-    (length (bytes_of (flat_map groupNumbers (take c.before.before.loop.i (groups_of (table_at c.before.before))))) + length
-    (bytes_of (groupNumbers (group_of c)))) ≤ length (head c.before.before).put-number2.last.0
+    (length (bytes_of (flat_map group_numbers (take c.before.before.loop.i (groups_of (table_at c.before.before))))) + length
+    (bytes_of (group_numbers (group_of c)))) ≤ length (head c.before.before).put-number2.last.0
 room c =
     let l = c.before in
     let h = head l.before in
-    let f = rw (this c) at (flat-room groupNumbers (groups_of (table_at l.before)) l.before.loop.i (group_of c) (inside l)) in
+    let f = rw (this c) at (flat_room group_numbers (groups_of (table_at l.before)) l.before.loop.i (group_of c) (inside l)) in
     omega (arith, f, space (start (fields h)), (head-end h).0, (head-end h).1)
 
 put-group-requires : tie.Need-put-group-requires invariant-loop decreases-loop
@@ -119,15 +119,15 @@ loop-again c =
     let p = c.before.before in
     let g = p.before.before in
     let l = g.before in
-    let q = flat-next groupNumbers (groups_of (table_at l.before)) l.before.loop.i (group_of g) (inside l) in (
+    let q = flat_next group_numbers (groups_of (table_at l.before)) l.before.loop.i (group_of g) (inside l) in (
       omega (arith, l.loop-test.true),
-      rw (q, this g) (put-more l.before.loop.invariant.1 (groupNumbers (group_of g)) (omega (arith, room g)) p.put-group.ensures.is
+      rw (q, this g) (put-more l.before.loop.invariant.1 (group_numbers (group_of g)) (omega (arith, room g)) p.put-group.ensures.is
           p.put-group.ensures.ends),
     )
 
 done : (c : tie.After-loop invariant-loop decreases-loop)
     → NumbersPut (head c.before).put-number2.last.0 (head c.before).put-number2.result
-    (flat_map groupNumbers (groups_of (table_at c.before))) c.before.loop.out c.before.loop.place
+    (flat_map group_numbers (groups_of (table_at c.before))) c.before.loop.out c.before.loop.place
 done c = rw (take_all c.before.loop.i (groups_of (table_at c.before)) (omega (arith, groups-size (table_at c.before), c.loop-test.false))) at
     c.before.loop.invariant.1
 

@@ -2,18 +2,18 @@ use Prim.Native.Nat.{◌≤◌, ◌*◌, ◌-◌}
 use native.Mathlib.Omega.{arith}
 use borrow.Author.Rules.{rules}
 use Rattle.table.specs.declared.Table.{Table}
-use Rattle.table.specs.Group.{pairsOf}
-use Rattle.table.specs.Table.{groupsIn, groups_of}
-use Rattle.table.specs.TableBytes.{groupNumbers}
+use Rattle.table.specs.Group.{pairs_of}
+use Rattle.table.specs.Table.{groups_in, groups_of}
+use Rattle.table.specs.TableBytes.{group_numbers}
 use Rattle.table.proofs.CheckLaws.{groups-size, group-inside, group_at}
 use Rattle.number.proofs.SpliceLaws.{bytes_most}
-use Rattle.table.proofs.WriteLaws.{Tallied, tallied-none, tallied-more, tallied-end, table-bytes}
+use Rattle.table.proofs.WriteLaws.{Tallied, tallied_none, tallied_more, tallied_end, table-bytes}
 use Rattle.table.proofs.write.table_length.Statement.{statement}
 use Rattle.table.proofs.write.table_length.Tie as tie
 
 abbrev invariant-loop : tie.invariant-loop
 invariant-loop count groups loads stores many total₀ i₀ total i =
-    (i ≤ count) × (total ≤ 650 * i) × Tallied groupNumbers (groupsIn count groups loads stores) i total
+    (i ≤ count) × (total ≤ 650 * i) × Tallied group_numbers (groups_in count groups loads stores) i total
 
 abbrev decreases-loop : tie.decreases-loop
 decreases-loop count groups loads stores many total₀ i₀ total i = count - i
@@ -23,7 +23,7 @@ abbrev table_of : tie.Start invariant-loop decreases-loop → Table
 table_of c = record { count = c.args.count; groups = c.args.groups.now; loads = c.args.loads.now; stores = c.args.stores.now }
 
 loop-holds : tie.Need-loop-init invariant-loop decreases-loop
-loop-holds c = (search rules, search rules, tallied-none)
+loop-holds c = (search rules, search rules, tallied_none)
 
 group-length-requires : tie.Need-group-length-requires invariant-loop decreases-loop
 group-length-requires c κs = group-inside _ _ c.group_at.ensures
@@ -50,20 +50,20 @@ loop-again c =
     let s = l.before.before in
     let t = table_of s in
     let i = l.before.loop.i in
-    let g = pairsOf t.loads t.stores k.group_at.result in
+    let g = pairs_of t.loads t.stores k.group_at.result in
     let e = group_at t s.requires i l.loop-test.true g k.group_at.ensures in (
       omega (arith, l.loop-test.true),
       omega (arith, c.group-length.ensures.1, l.before.loop.invariant.1),
-      tallied-more l.before.loop.invariant.2 g
+      tallied_more l.before.loop.invariant.2 g
           (omega (arith, groups-size t, l.loop-test.true)) (rw e c.group-length.ensures.0),
     )
 
-parts : (c : tie.After-number-length2 invariant-loop decreases-loop) → (c.before.number-length.result ≤ 5) × (c.number-length2.result ≤ 5)
+parts : (c : tie.After-number-length2 invariant-loop decreases-loop) → (c.before.number_length.result ≤ 5) × (c.number-length2.result ≤ 5)
     × (c.before.before.before.loop.total ≤ 10400)
 parts c =
     let l = c.before.before.before in
     let s = l.before in (
-      omega (arith, c.before.number-length.ensures.1, bytes_most 2),
+      omega (arith, c.before.number_length.ensures.1, bytes_most 2),
       omega (arith, c.number-length2.ensures.1, bytes_most s.args.count),
       omega (arith, s.requires, l.loop.invariant.1, l.loop.invariant.0),
     )
@@ -78,8 +78,8 @@ returns : tie.Need-returns invariant-loop decreases-loop
 returns c =
     let a = c.before.before in
     let t = table_of a.before.before in
-    let e = tallied-end a.before.loop.invariant.2 (omega (arith, groups-size t, a.loop-test.false)) in
-    rw (table-bytes (groups_of t), groups-size t) (omega (arith, e, c.before.number-length.ensures.1, c.number-length2.ensures.1))
+    let e = tallied_end a.before.loop.invariant.2 (omega (arith, groups-size t, a.loop-test.false)) in
+    rw (table-bytes (groups_of t), groups-size t) (omega (arith, e, c.before.number_length.ensures.1, c.number-length2.ensures.1))
 
 pub table-length-spec : {M : Type 1} → statement M
 table-length-spec =

@@ -3,42 +3,42 @@ use Prim.Native.Nat.{◌≤◌}
 use mathlib.Core.Path.{◌≡◌, refl, sym, ap, ◌∙◌}
 use native.Mathlib.Omega.{arith}
 use Rattle.number.specs.Reply.{accept, passed}
-use Rattle.table.specs.Table.{groups_of, checkTable}
-use Rattle.table.specs.TableBytes.{tableBytes, wroteTable}
+use Rattle.table.specs.Table.{groups_of, check_table}
+use Rattle.table.specs.TableBytes.{table_bytes, wrote_table}
 use Rattle.table.proofs.CheckLaws.{groups-size}
 use Rattle.number.proofs.SpliceLaws.{wrote-short, wrote-fits}
-use Rattle.number.proofs.ReplyLaws.{some-refused}
+use Rattle.number.proofs.ReplyLaws.{some_refused}
 use Rattle.table.proofs.Among.{table-zero}
-use Rattle.table.proofs.OrderOffsets.{table-groups-few}
+use Rattle.table.proofs.OrderOffsets.{table_groups_few}
 use borrow.Author.Rules.{rules}
 use Rattle.table.proofs.write.write_table.Statement.{statement}
 use Rattle.table.proofs.write.write_table.Tie as tie
 
-right : (c : tie.Else1) → checkTable (groups_of c.before.before.before.args.t1) ≡ passed
+right : (c : tie.Else1) → check_table (groups_of c.before.before.before.args.t1) ≡ passed
 right c = table-zero _ (sym c.before.table-fault.ensures ∙ c.if1.false)
 
 few : (c : tie.Else1) → c.before.before.before.args.t1.count ≤ 16
 few c =
     let t = c.before.before.before.args.t1 in
-    rw (groups-size t) at (table-groups-few (groups_of t) (right c))
+    rw (groups-size t) at (table_groups_few (groups_of t) (right c))
 
 returns : tie.Need-returns
-unfolding wroteTable
+unfolding wrote_table
 returns c =
     let t = c.before in
-    rw (some-refused (checkTable (groups_of t.before.before.args.t1)) t.table-fault.ensures c.if1.true) (refl, refl)
+    rw (some_refused (check_table (groups_of t.before.before.args.t1)) t.table-fault.ensures c.if1.true) (refl, refl)
 
 table-length-requires : tie.Need-table-length-requires
 table-length-requires c κs = few c.before.before.before.before
 
 returns-2 : tie.Need-returns-2
-unfolding wroteTable
+unfolding wrote_table
 returns-2 c =
     let e = c.before.before.before.before.before.before in
     let a = e.before.before.before.args in
     rw (
       right e,
-      wrote-short (tableBytes (groups_of a.t1)) a.out.now
+      wrote-short (table_bytes (groups_of a.t1)) a.out.now
           (omega (arith, c.before.table-length.ensures)),
     ) (refl, refl)
 
@@ -48,7 +48,7 @@ put-table-requires c κs =
     (few l.before.before.before.before.before, omega (arith, l.table-length.ensures))
 
 returns-3 : tie.Need-returns-3
-unfolding wroteTable
+unfolding wrote_table
 returns-3 c =
     let p = c.before.before in
     let l = p.before.before.before.before.before.before.before in
@@ -56,7 +56,7 @@ returns-3 c =
     let a = e.before.before.before.args in
     rw (
       right e,
-      wrote-fits (tableBytes (groups_of a.t1)) a.out.now
+      wrote-fits (table_bytes (groups_of a.t1)) a.out.now
           (omega (arith, l.table-length.ensures)),
     ) (ap accept l.table-length.ensures, p.put-table.ensures)
 

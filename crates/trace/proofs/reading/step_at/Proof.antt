@@ -1,5 +1,5 @@
 use mathlib.Core.Path.{sym, ap, ◌∙◌}
-use Rattle.trace.specs.Event.{eventReply, placeAfter}
+use Rattle.trace.specs.Event.{event_reply, place_after}
 use borrow.Author.Rules.{rules}
 use Rattle.trace.proofs.reading.step_at.Statement.{statement}
 use Rattle.trace.proofs.reading.step_at.Tie as tie
@@ -7,15 +7,15 @@ use Rattle.trace.proofs.reading.step_at.Tie as tie
 returns : tie.Need-returns
 returns c =
     let r = c.before.before.before in
-    let e = sym (ap eventReply c.before.read.given.1) ∙ r.read-event.ensures in
-    record { read = e; next = ap (placeAfter r.before.before.args.at) e }
+    let e = sym (ap event_reply c.before.read.given.1) ∙ r.read-event.ensures in
+    record { read = e; next = ap (place_after r.before.before.args.at) e }
 
 returns-2 : tie.Need-returns-2
 returns-2 c =
     let r = c.before.before in
     record {
       read = r.read-event.ensures;
-      next = ap (placeAfter r.before.before.args.at) (sym (ap eventReply c.enum_told.given.1)
+      next = ap (place_after r.before.before.args.at) (sym (ap event_reply c.enum_told.given.1)
           ∙ r.read-event.ensures);
     }
 
@@ -24,7 +24,7 @@ returns-3 c =
     let r = c.before.before in
     record {
       read = r.read-event.ensures;
-      next = ap (placeAfter r.before.before.args.at) (sym (ap eventReply c.enum-told2.given.1)
+      next = ap (place_after r.before.before.args.at) (sym (ap event_reply c.enum-told2.given.1)
           ∙ r.read-event.ensures);
     }
 

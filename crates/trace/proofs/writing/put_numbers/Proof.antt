@@ -5,8 +5,8 @@ use native.Mathlib.Numerals.{add-one}
 use lib.ListN.{length, take, get_or}
 use lib.Seq.{take-suc}
 use borrow.Author.Rules.{rules}
-use Rattle.number.specs.Number.{bytes_of, numberBytes}
-use Rattle.number.proofs.SpliceLaws.{put-at, NumbersPut, put-none, put-length, put_one, bytes-room}
+use Rattle.number.specs.Number.{bytes_of, number_bytes}
+use Rattle.number.proofs.SpliceLaws.{put-at, NumbersPut, put_none, put-length, put_one, bytes_room}
 use Rattle.trace.proofs.writing.put_numbers.Statement.{statement}
 use Rattle.trace.proofs.writing.put_numbers.Tie as tie
 
@@ -24,13 +24,13 @@ whole c =
 -- there is room for the next number
 next_fits : (c : tie.In-loop invariant-loop decreases-loop)
     → length (bytes_of (take c.before.loop.i c.before.before.before.args.t1.values)) + length
-    (numberBytes (get_or c.before.before.before.args.t1.values c.before.loop.i 0)) ≤ length c.before.before.before.args.out.now
+    (number_bytes (get_or c.before.before.before.args.t1.values c.before.loop.i 0)) ≤ length c.before.before.before.args.out.now
 next_fits c =
     let s = c.before.before.before in
-    omega (arith, bytes-room s.args.t1.values s.args.t1.count c.before.loop.i c.loop-test.true (whole s), s.requires.1)
+    omega (arith, bytes_room s.args.t1.values s.args.t1.count c.before.loop.i c.loop-test.true (whole s), s.requires.1)
 
 loop-holds : tie.Need-loop-init invariant-loop decreases-loop
-loop-holds c = (search rules, put-none)
+loop-holds c = (search rules, put_none)
 
 loop-again : tie.Need-loop-preserved invariant-loop decreases-loop
 loop-again c =

@@ -1,10 +1,13 @@
 // The counts that a serve moves, loads served and loads forwarded, and the share of loads that were forwarded.
+
+#![tactic(auto)]
+
 ghost use Rattle.std.specs.Prelude.{◌≡◌};
 ghost use Rattle.counts.specs.Counts.{counted, share};
 
 // Loads served, and loads forwarded.
 #[repr(C)]
-#[derive(Drop)]
+#[derive(Clone, Copy)]
 pub struct Counts {
     pub loads: u32,
     pub forwarded: u32,

@@ -24,7 +24,7 @@ use table::read::read_table;
 
 // What a replay that keeps the record hands back.
 #[repr(C)]
-#[derive(Drop)]
+#[derive(Clone, Copy)]
 pub struct LentRecorded {
     pub answer: u32,
     pub kept: ShiftRecord,

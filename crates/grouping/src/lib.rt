@@ -10,21 +10,21 @@ use table::{Group, Pair, Span, Table};
 
 // The kind and the port of each access, by its number: kind 0 is a load, and any other a store.
 #[repr(C)]
-#[derive(Drop)]
+#[derive(Clone, Copy)]
 pub struct Accesses {
     pub kinds: [u8; MOST_ACCESSES],
     pub ports: [u8; MOST_ACCESSES],
 }
 
 // Accesses of one kind, each packed into a number: `count` of them, from the first place on.
-#[derive(Drop)]
+#[derive(Clone, Copy)]
 pub(crate) struct PairList {
     pub count: u8,
     pub places: [u16; MOST_ACCESSES],
 }
 
 // A group in the making: its loads and its stores so far.
-#[derive(Drop)]
+#[derive(Clone, Copy)]
 pub(crate) struct GroupSoFar {
     pub loads: PairList,
     pub stores: PairList,

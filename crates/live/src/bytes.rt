@@ -15,7 +15,7 @@ use trace::writing::write_event_of;
 
 // What writing hands back: 0 and how many bytes were written, or the refusal and 0.
 #[repr(C)]
-#[derive(Drop)]
+#[derive(Clone, Copy)]
 pub struct LiveWritten {
     pub answer: u32,
     pub count: u64,
@@ -23,7 +23,7 @@ pub struct LiveWritten {
 
 // What reading a table hands back: 0 and the table, or the refusal and the table of no groups, which means nothing.
 #[repr(C)]
-#[derive(Drop)]
+#[derive(Clone, Copy)]
 pub struct TableFound {
     pub answer: u32,
     pub table: Table,

@@ -35,7 +35,7 @@ use table::read::read_table;
 
 // What opening hands back: its answer and the frame of a queue with no entry, so what the runs hold means nothing yet.
 #[repr(C)]
-#[derive(Drop)]
+#[derive(Clone, Copy)]
 pub struct LiveOpened {
     pub answer: u32,
     pub frame: Frame,
@@ -44,7 +44,7 @@ pub struct LiveOpened {
 // What a call that may move the sides hands back: its answer, 1 or 0 as it gave a value or none, the value or 0, and both sides
 // that follow. The frame's table and memory length stay.
 #[repr(C)]
-#[derive(Drop)]
+#[derive(Clone, Copy)]
 pub struct LiveStep {
     pub answer: u32,
     pub given: u32,
@@ -55,7 +55,7 @@ pub struct LiveStep {
 
 // What a serve hands back: its answer, 1 or 0 as it gave a value or none, the value or 0, and the counts that follow.
 #[repr(C)]
-#[derive(Drop)]
+#[derive(Clone, Copy)]
 pub struct LiveService {
     pub answer: u32,
     pub given: u32,
@@ -65,7 +65,7 @@ pub struct LiveService {
 
 // What a ready call hands back: how many serials stand at the front of the lent run.
 #[repr(C)]
-#[derive(Drop)]
+#[derive(Clone, Copy)]
 pub struct LiveReady {
     pub answer: u32,
     pub count: u64,

@@ -7,8 +7,8 @@ use crate::refusal::TOO_SHORT;
 
 // How many bytes the writer uses for a number: up to seven of its significant bits go in each, and 0, which has none, takes one.
 pub fn number_length(value: u32) -> usize
-    ensures value { result ≡ byte_count (significant_bits value) }
-    ensures value_2 { result ≡ length (number_bytes value) }
+    ensures by_bits { result ≡ byte_count (significant_bits value) }
+    ensures by_bytes { result ≡ length (number_bytes value) }
 {
     let bits = 32 - u32::leading_zeros(value);
     let count = (bits + 6) / 7;

@@ -1,4 +1,7 @@
 // A group's order from pairs "must come before": S-6 of document 02.
+
+#![tactic(auto)]
+
 ghost use Rattle.std.specs.Prelude.{◌≡◌, ◌≤◌, ◌<◌};
 ghost use Rattle.number.specs.Reply.{refuse};
 ghost use Rattle.ordering.specs.Answer.{answer, allListed, seek, next, arranged};
@@ -15,7 +18,7 @@ pub const MOST_PAIRS: usize = 64;
 
 // A pair: the access `first` has to come before the access `second`.
 #[repr(C)]
-#[derive(Drop)]
+#[derive(Clone, Copy)]
 pub struct Precedence {
     pub first: u32,
     pub second: u32,
@@ -23,7 +26,7 @@ pub struct Precedence {
 
 // As many pairs as the count says. Places beyond it mean nothing.
 #[repr(C)]
-#[derive(Drop)]
+#[derive(Clone, Copy)]
 pub struct Precedences {
     pub count: u32,
     pub pairs: [Precedence; MOST_PAIRS],
@@ -32,7 +35,7 @@ pub struct Precedences {
 // What ordering answers: 0 and the order, which is the first `count` places; or the refusal number and no access. The other places
 // mean nothing and are 0.
 #[repr(C)]
-#[derive(Drop)]
+#[derive(Clone, Copy)]
 pub struct Ordered {
     pub answer: u8,
     pub count: u8,

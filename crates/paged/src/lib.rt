@@ -7,7 +7,7 @@ pub mod text;
 
 // What a replay that keeps the record hands back: its answer, how many events were played, and the counts and the record that they
 // leave.
-#[derive(Drop)]
+#[derive(Clone, Copy)]
 pub struct ReplayRecorded {
     pub answer: u8,
     pub events: usize,

@@ -25,7 +25,7 @@ pub const MOST_BYTES: usize = 16384;
 pub const MOST_WORDS: usize = 4096;
 
 // What playing the files gave: a fault of the table, a fault of the trace, a run, or nothing, since what was lent is too short.
-#[derive(Drop)]
+#[derive(Clone, Copy)]
 pub enum FilesPlayed {
     TableFault(u8),
     TraceFault(u8),

@@ -2,7 +2,7 @@
 use script::Bytes;
 
 // How many bytes each file has.
-#[derive(Drop)]
+#[derive(Clone, Copy)]
 pub struct Lengths {
     pub table: usize,
     pub trace: usize,

@@ -8,7 +8,7 @@ use Rattle.table.specs.declared.Table.{Table}
 use Rattle.table.specs.Packed.{pair_in}
 use Rattle.table.specs.Group.{GroupPairs, blank_pair, list_of, pairs_of}
 use Rattle.table.specs.Table.{meant_in, group_at, groups_of, check_table}
-use Rattle.table.proofs.CheckLaws.{view-length, view-at, groups-size, group_at}
+use Rattle.table.proofs.CheckLaws.{view-length, view-at, groups-size, group_at_lem}
 use Rattle.table.proofs.OrderOffsets.{GroupRight, table_groups_few, table_group_right}
 use Rattle.queue.specs.Open.{group_fits}
 use Rattle.queue.proofs.ContentsLaws.{mapped-getElem?, mapped-here, mapped_end}

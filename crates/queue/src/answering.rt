@@ -8,7 +8,7 @@ ghost use Rattle.queue.specs.Internal.{refused_step};
 use crate::{Frame, Kind, Outline, Side, Value};
 
 // Both sides of a queue.
-#[derive(Drop)]
+#[derive(Clone, Copy)]
 pub(crate) struct Sides {
     pub loads: Side,
     pub stores: Side,
@@ -16,7 +16,7 @@ pub(crate) struct Sides {
 
 // What a call that may move the sides hands back: its answer and value, and both sides that follow. The frame's table and
 // memory length stay as they are, so they are not handed back: they are most of a frame's bytes.
-#[derive(Drop)]
+#[derive(Clone, Copy)]
 pub struct Step {
     pub answer: u8,
     pub value: Value,

@@ -14,7 +14,7 @@ use crate::{Entry, Frame, Kind, Outcome, Outline, Queue, Value};
 use number::refusal::{BAD_ADDRESS, NO_PORT, NONE_WAITS, UNSOUND};
 
 // The three kinds of argument.
-#[derive(Drop)]
+#[derive(Clone, Copy)]
 pub enum Argument {
     LoadAddress,
     StoreAddress,

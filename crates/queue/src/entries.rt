@@ -7,7 +7,7 @@ ghost use Rattle.queue.specs.Internal.{set_address, set_word, has, lacks_mark};
 use crate::Entry;
 
 // What an entry may have, or be.
-#[derive(Drop)]
+#[derive(Clone, Copy)]
 pub(crate) enum Mark {
     Addressed,
     Filled,

@@ -19,14 +19,14 @@ pub mod taking;
 pub mod writing;
 
 // The kind of an access.
-#[derive(Drop)]
+#[derive(Clone, Copy)]
 pub enum Kind {
     Load,
     Store,
 }
 
 // An access that was activated, a load or a store. A queue holds it packed into a number (`entries`).
-#[derive(Drop)]
+#[derive(Clone, Copy)]
 pub struct Entry {
     pub port: u8,
     // how many queued entries of the other kind come before it
@@ -43,7 +43,7 @@ pub struct Entry {
 
 // One side of a queue: its depth, how many entries it holds, and the next serial.
 #[repr(C)]
-#[derive(Drop)]
+#[derive(Clone, Copy)]
 pub struct Side {
     pub depth: u8,
     pub count: u8,
@@ -52,7 +52,7 @@ pub struct Side {
 
 // All of a queue but its entries: its table, the memory length that it was opened for, and both sides.
 #[repr(C)]
-#[derive(Drop)]
+#[derive(Clone, Copy)]
 pub struct Frame {
     pub table: Table,
     pub memory_length: u16,
@@ -61,7 +61,7 @@ pub struct Frame {
 }
 
 // All of a frame but its table's arrays: the number of groups, the memory length, and both sides.
-#[derive(Drop)]
+#[derive(Clone, Copy)]
 pub struct Outline {
     pub count: u8,
     pub memory_length: u16,
@@ -70,7 +70,7 @@ pub struct Outline {
 }
 
 // A queue: its frame, and each side's entries from the oldest, packed. Places beyond a side's count mean nothing.
-#[derive(Drop)]
+#[derive(Clone, Copy)]
 pub struct Queue {
     pub frame: Frame,
     pub load_entries: [u64; 64],
@@ -78,14 +78,14 @@ pub struct Queue {
 }
 
 // The value that a call gives; "no value" is not the value 0.
-#[derive(Drop)]
+#[derive(Clone, Copy)]
 pub enum Value {
     Word(u32),
     Nothing,
 }
 
 // What a call on a queue hands back: its answer (0, or the refusal number), its value, and the queue that follows.
-#[derive(Drop)]
+#[derive(Clone, Copy)]
 pub struct Outcome {
     pub answer: u8,
     pub value: Value,
@@ -93,14 +93,14 @@ pub struct Outcome {
 }
 
 // What opening hands back. The queue of a refused opening means nothing.
-#[derive(Drop)]
+#[derive(Clone, Copy)]
 pub struct Opened {
     pub answer: u8,
     pub queue: Queue,
 }
 
 // What serving hands back where the counts go in and out by value.
-#[derive(Drop)]
+#[derive(Clone, Copy)]
 pub struct Counted {
     pub answer: u8,
     pub value: Value,
@@ -109,7 +109,7 @@ pub struct Counted {
 }
 
 // What a ready call hands back where the caller keeps the run of numbers: how many serials stand at its front.
-#[derive(Drop)]
+#[derive(Clone, Copy)]
 pub struct Readied {
     pub answer: u8,
     pub count: usize,

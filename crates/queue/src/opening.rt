@@ -15,7 +15,7 @@ use table::read::no_table;
 use table::{Group, Table};
 
 // What opening a frame hands back. The frame of a refused opening means nothing.
-#[derive(Drop)]
+#[derive(Clone, Copy)]
 pub struct OpenedFrame {
     pub answer: u8,
     pub frame: Frame,

@@ -19,7 +19,7 @@ use crate::{Entry, Kind, Outline, Queue, Readied, ReadySerials};
 use number::refusal::{TOO_SHORT, UNSOUND};
 
 // Serials, as many as a side can hold. Places beyond the count mean nothing.
-#[derive(Drop)]
+#[derive(Clone, Copy)]
 pub(crate) struct Serials {
     pub count: usize,
     pub numbers: [u32; 64],
@@ -120,7 +120,7 @@ fn ready_serials(
 }
 
 // What a ready call on a queue's parts hands back: its answer, and how many serials stand at the front of the lent run.
-#[derive(Drop)]
+#[derive(Clone, Copy)]
 pub struct ReadyCount {
     pub answer: u8,
     pub count: usize,

@@ -21,7 +21,7 @@ use number::refusal::{
 };
 
 // Where a load's word comes from.
-#[derive(Drop)]
+#[derive(Clone, Copy)]
 pub(crate) enum Source {
     // the nearest store that is not known to have another address has none yet
     Unknown,
@@ -68,7 +68,7 @@ pub(crate) fn source_of(entries: &[u64], n: usize, address: u16) -> Source
 }
 
 // What a serve on a queue's parts hands back: its answer and value, and the counts that follow.
-#[derive(Drop)]
+#[derive(Clone, Copy)]
 pub struct Service {
     pub answer: u8,
     pub value: Value,

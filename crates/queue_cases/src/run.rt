@@ -7,7 +7,7 @@ use shift::ShiftRecord;
 use table::{Table, TableRead};
 
 // The memory that is lent is the first `length` words.
-#[derive(Drop)]
+#[derive(Clone, Copy)]
 pub struct Run {
     pub queue: Queue,
     pub table: Table,

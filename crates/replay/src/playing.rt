@@ -16,7 +16,7 @@ use queue::{Outline, Side, Value};
 use trace::Event;
 
 // What an event gives: its answer and value, and both sides and the counts that follow.
-#[derive(Drop)]
+#[derive(Clone, Copy)]
 pub struct Played {
     pub answer: u8,
     pub value: Value,

@@ -1,4 +1,7 @@
 // The parts of a line of a script: where a part ends, decimal numbers, bytes in hexadecimal. What the programs of cases share.
+
+#![tactic(auto)]
+
 ghost use Rattle.std.specs.Prelude.{◌≡◌, ◌<◌, ◌+◌, true, false};
 ghost use Rattle.script.specs.Shapes.{most_of, fits_of, taken};
 ghost use Rattle.script.specs.Lines.{NextByte, is_text};
@@ -9,7 +12,7 @@ ghost use Rattle.script.specs.Hexadecimal.{hexadecimal, wrong_bytes, first_digit
 // The numbers of a line, as many as `count`, each with one space before it; one of 18446744073709551610 or more
 // counts as 18446744073709551615. `right` says that there was nothing else. `bare` has a meaning while the line
 // is read: a space is not followed by a digit yet.
-#[derive(Drop)]
+#[derive(Clone, Copy)]
 pub struct Numbers {
     pub right: bool,
     pub bare: bool,
@@ -19,7 +22,7 @@ pub struct Numbers {
 
 // The bytes of a line, as many as `count`, each with one space before it. While the line is read, `phase` says what comes next:
 // 0 a space, 1 a digit, 2 a second one behind the digit `high`.
-#[derive(Drop)]
+#[derive(Clone, Copy)]
 pub struct Bytes {
     pub right: bool,
     pub phase: u8,
@@ -29,7 +32,7 @@ pub struct Bytes {
 }
 
 // A search for a word among names: how many names came before, and the word's place up to which this one is `alike`.
-#[derive(Drop)]
+#[derive(Clone, Copy)]
 pub struct Looking {
     pub found: bool,
     pub number: usize,

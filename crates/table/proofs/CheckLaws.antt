@@ -300,8 +300,8 @@ module _ (t : Table) where
         ∙ ap part_of (held-here 0 t.count t.groups i k ∙ sym (get_or-take 16 t.groups i 0 (omega arith)))
 
     -- what is handed over as the group at a place is that group
-    pub group_at : {g : Group} → g ≡ group_at t.groups i → get_or (groups_of t) i d ≡ pairs_of t.loads t.stores g
-    group_at e = groups-at ∙ ap (pairs_of t.loads t.stores) (sym e)
+    pub group_at_lem : {g : Group} → g ≡ group_at t.groups i → get_or (groups_of t) i d ≡ pairs_of t.loads t.stores g
+    group_at_lem e = groups-at ∙ ap (pairs_of t.loads t.stores) (sym e)
 
   pub table-count : within 1 16 t.count ≡ false → bad_group_count ≡ number (check_table (groups_of t))
   unfolding check_table

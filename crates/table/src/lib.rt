@@ -2,6 +2,8 @@
 // Firms take this crate with `number` beneath it; what lies above rests on its contracts, its definitions and the laws about them that
 // its proofs publish.
 
+#![tactic(auto)]
+
 pub mod check;
 pub mod parts;
 pub mod read;
@@ -9,7 +11,7 @@ pub mod write;
 
 // An access of a group: how many accesses of the other kind come before it in the group, and its port.
 #[repr(C)]
-#[derive(Drop)]
+#[derive(Clone, Copy)]
 pub struct Pair {
     pub offset: u8,
     pub port: u8,
@@ -17,7 +19,7 @@ pub struct Pair {
 
 // Where the accesses of one kind in a group stand, in program order: `count` of them, from the place `first` on.
 #[repr(C)]
-#[derive(Drop)]
+#[derive(Clone, Copy)]
 pub struct Span {
     pub first: u8,
     pub count: u8,
@@ -25,7 +27,7 @@ pub struct Span {
 
 // A group: where its loads and its stores stand in a table.
 #[repr(C)]
-#[derive(Drop)]
+#[derive(Clone, Copy)]
 pub struct Group {
     pub loads: Span,
     pub stores: Span,
@@ -35,7 +37,7 @@ pub struct Group {
 // a number (`parts`), since arrays of numbers can be lent and need no copy. A port stands once in a table, so 32 places of
 // each kind are enough. Places beyond the count, or that no group has, mean nothing.
 #[repr(C)]
-#[derive(Drop)]
+#[derive(Clone, Copy)]
 pub struct Table {
     pub count: u8,
     pub groups: [u32; 16],
@@ -44,7 +46,7 @@ pub struct Table {
 }
 
 // What reading a table answers: 0 and the table, or the refusal number and a table that means nothing.
-#[derive(Drop)]
+#[derive(Clone, Copy)]
 pub struct TableRead {
     pub answer: u8,
     pub table: Table,

@@ -15,7 +15,7 @@ use number::reading::{number_refusal, read_number};
 use number::refusal::{BAD_COUNTS, BAD_FIELDS, BAD_GROUP_COUNT, LEFT_OVER};
 
 // Two numbers, one after the other, and the place after them; or the refusal number.
-#[derive(Drop)]
+#[derive(Clone, Copy)]
 pub(crate) enum TwoRead {
     Two {
         first: u32,
@@ -26,28 +26,28 @@ pub(crate) enum TwoRead {
 }
 
 // The ports seen so far in a table, a mark for each.
-#[derive(Drop)]
+#[derive(Clone, Copy)]
 pub(crate) struct Ports {
     pub loads: [bool; 32],
     pub stores: [bool; 32],
 }
 
 // A group's pairs of one kind that were read, each packed into a number: `count` of them, from the first place on.
-#[derive(Drop)]
+#[derive(Clone, Copy)]
 pub(crate) struct Pairs {
     pub count: u8,
     pub places: [u16; 32],
 }
 
 // A group that was read: its loads and its stores.
-#[derive(Drop)]
+#[derive(Clone, Copy)]
 pub(crate) struct NewGroup {
     pub loads: Pairs,
     pub stores: Pairs,
 }
 
 // The pairs that were read and the ports seen by then; or the refusal number, and the rest means nothing.
-#[derive(Drop)]
+#[derive(Clone, Copy)]
 pub(crate) struct PairsRead {
     pub answer: u8,
     pub next: usize,
@@ -56,7 +56,7 @@ pub(crate) struct PairsRead {
 }
 
 // The group that was read and the ports seen by then; or the refusal number, and the rest means nothing.
-#[derive(Drop)]
+#[derive(Clone, Copy)]
 pub(crate) struct GroupRead {
     pub answer: u8,
     pub next: usize,
@@ -65,7 +65,7 @@ pub(crate) struct GroupRead {
 }
 
 // The groups that were read; or the refusal number, and the rest means nothing.
-#[derive(Drop)]
+#[derive(Clone, Copy)]
 pub(crate) struct GroupsRead {
     pub answer: u8,
     pub next: usize,

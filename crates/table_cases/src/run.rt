@@ -4,7 +4,7 @@ use script::Bytes;
 use table::{Table, TableRead};
 
 // The bytes to read are the first `count`. A buffer that is written to has `length` bytes, each EE.
-#[derive(Drop)]
+#[derive(Clone, Copy)]
 pub struct Run {
     pub bytes: [u8; 128],
     pub count: usize,

@@ -1,11 +1,13 @@
 // Events and traces: their records, and the calls that read and write them. What lies above rests on the contracts, the definitions
 // and the laws about them that the proofs publish.
 
+#![tactic(auto)]
+
 pub mod reading;
 pub mod writing;
 
 // The four leading numbers of a trace: load depth, store depth, first serial, memory length.
-#[derive(Drop)]
+#[derive(Clone, Copy)]
 pub struct Header {
     pub load_depth: u32,
     pub store_depth: u32,
@@ -14,14 +16,14 @@ pub struct Header {
 }
 
 // What reading them answers: the numbers and the place after them, or the refusal number.
-#[derive(Drop)]
+#[derive(Clone, Copy)]
 pub enum HeaderRead {
     Leading(Header, usize),
     NoHeader(u8),
 }
 
 // An event of a trace: its kind, with its own numbers.
-#[derive(Drop)]
+#[derive(Clone, Copy)]
 pub enum Event {
     Activate { group: u32 },
     LoadAddress { port: u32, address: u32 },
@@ -33,7 +35,7 @@ pub enum Event {
 }
 
 // What reading at a place of a trace answers: an event and the place after it, the end, or the refusal number.
-#[derive(Drop)]
+#[derive(Clone, Copy)]
 pub enum EventRead {
     Found(Event, usize),
     End,
@@ -41,7 +43,7 @@ pub enum EventRead {
 }
 
 // One step of a reader: what it yields, and where it stands then.
-#[derive(Drop)]
+#[derive(Clone, Copy)]
 pub struct Stepped {
     pub read: EventRead,
     pub next: usize,

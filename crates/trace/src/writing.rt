@@ -13,7 +13,7 @@ use number::refusal::{BAD_KIND, TOO_SHORT};
 use number::writing::{number_length, put_number};
 
 // Up to four numbers that are written together. Places beyond the count mean nothing.
-#[derive(Drop)]
+#[derive(Clone, Copy)]
 pub(crate) struct Numbers {
     pub count: usize,
     pub values: [u32; 4],

@@ -1,0 +1,7 @@
+use Rattle.table.specs.Packed.{group_in}
+use borrow.Author.Rules.{rules}
+use Rattle.table.proofs.parts.unpack_group.Goals as goal
+
+pub returns : goal.returns
+unfolding group_in
+returns c = rw (c.unpack_span-loads.ensures, c.unpack_span-stores.ensures)

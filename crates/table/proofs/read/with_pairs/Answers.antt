@@ -1,0 +1,16 @@
+-- i of the group's accesses have been put in.
+use Prim.Native.Nat.{◌≤◌, ◌-◌}
+use mathlib.Core.Path.{◌≡◌, ◌∙◌}
+use native.Mathlib.Omega.{arith}
+use native.Mathlib.Numerals.{add-one}
+use lib.ListN.{length}
+use lib.Seq.{paste, paste-zero, paste-suc}
+use borrow.Author.Rules.{rules}
+use Rattle.table.proofs.read.with_pairs.Goals as goal
+
+pub loop-i-preserved : goal.loop-i-preserved
+loop-i-preserved c =
+    let a = c.args in
+    let m : length a.t1 ≡ 32 = search rules in
+    let n : length a.t3.places ≡ 32 = search rules in
+    (omega arith, rw (c.loop-i.invariant.1, add-one) (paste-suc a.t1 a.from a.t3.places c.loop-i.i 0 (omega arith) (omega arith)))

@@ -1,0 +1,18 @@
+use Prim.Native.Nat.{◌≤◌, ◌*◌, ◌-◌}
+use mathlib.Core.Path.{◌≡◌, sym, ◌∙◌}
+use native.Mathlib.Omega.{arith}
+use lib.ListN.{length, get_or}
+use borrow.Author.Rules.{rules}
+use Rattle.table.specs.Group.{list_of, blank_pair}
+use Rattle.table.specs.TableBytes.{pair_numbers}
+use Rattle.table.proofs.CheckLaws.{view-length, view-at}
+use Rattle.number.proofs.SpliceLaws.{bytes_most}
+use Rattle.table.proofs.WriteLaws.{Tallied, tallied_none, tallied_more, tallied_end, pair-length}
+use Rattle.table.proofs.write.pairs_length.Given as goal
+
+abbrev pub invariant-loop-i : goal.invariant-loop-i
+invariant-loop-i l = (l.i ≤ l.count) × (l.total ≤ 10 * l.i)
+    × Tallied pair_numbers (list_of l.places (record { first = l.first; count = l.count })) l.i l.total
+
+abbrev pub decreases-loop-i : goal.decreases-loop-i
+decreases-loop-i l = l.count - l.i

@@ -1,0 +1,18 @@
+use mathlib.Core.Path.{refl, ap}
+use native.Mathlib.Omega.{arith}
+use Rattle.number.specs.Reply.{accept}
+use Rattle.number.specs.Number.{bytes_of}
+use Rattle.trace.specs.Internal.{numbers_listed}
+use Rattle.number.proofs.SpliceLaws.{wrote-short, wrote-fits}
+use borrow.Author.Rules.{rules}
+use Rattle.trace.proofs.writing.write_numbers.Goals as goal
+
+pub returns-then-out-length : goal.returns-then-out-length
+returns-then-out-length c =
+    rw (wrote-short (bytes_of (numbers_listed c.args.numbers)) c.args.out.now
+    (omega arith)) (refl, refl)
+
+pub returns : goal.returns
+returns c =
+    rw (wrote-fits (bytes_of (numbers_listed c.args.numbers)) c.args.out.now (omega arith))
+    (ap accept c.numbers_length-length.ensures, c.put_numbers.ensures)

@@ -29,8 +29,7 @@ with_group-table-requires c =
 pub loop-i-preserved : goal.loop-i-preserved
 loop-i-preserved c =
     let group : let s = c.args.bytes.now in let r = c.read_group-read.result in Finds (read_group (seen_of c.loop-i.seen) (drop c.loop-i.place s)) s r.next (GroupFound (seen_of c.loop-i.seen) r) = c.read_group-read.ensures.given c.if-read-ne0.false in
-    let right : check_group (seen_of c.loop-i.seen) group.what ≡ passed = (group-written _ _ group.is).right in
-    (
+    let right : check_group (seen_of c.loop-i.seen) group.what ≡ passed = (group-written _ _ group.is).right in (
       omega arith,
       gathering-more c.loop-i.invariant.1 c.loop-i-test.true c.requires.0 group right
           c.with_group-table.ensures,

@@ -59,8 +59,7 @@ loop-i-preserved c =
           c.in-Two.offset c.requires.2 f.0,
       f.1,
     ) in
-    let small-pair : SmallPair (pair c.in-Two.offset c.in-Two.port) = record { offset = omega (arith, small.0); port = omega (arith, small.1) } in
-    (
+    let small-pair : SmallPair (pair c.in-Two.offset c.in-Two.port) = record { offset = omega (arith, small.0); port = omega (arith, small.1) } in (
       omega (arith, c.loop-i-test.true),
       reading-more c.loop-i.invariant.1 c.loop-i-test.true two c.requires.0
           no-fault small-pair _ c.pack_pair.ensures,

@@ -11,6 +11,6 @@ use Rattle.table.proofs.read.with_pairs.Goals as goal
 pub loop-i-preserved : goal.loop-i-preserved
 loop-i-preserved c =
     let a = c.args in
-    let m : length a.t1 ≡ 32 = search rules in
-    let n : length a.t3.places ≡ 32 = search rules in
-    (omega arith, rw (c.loop-i.invariant.1, add-one) (paste-suc a.t1 a.from a.t3.places c.loop-i.i 0 (omega arith) (omega arith)))
+    let m : length a.places ≡ 32 = search rules in
+    let n : length a.pairs.places ≡ 32 = search rules in
+    (omega arith, rw (c.loop-i.invariant.1, add-one) (paste-suc a.places a.from a.pairs.places c.loop-i.i 0 (omega arith) (omega arith)))

@@ -10,8 +10,7 @@ returns c =
     let five : (c.number_length.result ≤ 5) × (c.number_length-2.result ≤ 5) = let g = c.args.group in (
       omega (arith, c.number_length.ensures.by_bytes, bytes_most g.loads.count),
       omega (arith, c.number_length-2.ensures.by_bytes, bytes_most g.stores.count),
-    ) in
-    (
+    ) in (
       rw (group-bytes c.args.loads.now c.args.stores.now c.args.group)
           (omega (
             arith,

@@ -31,7 +31,7 @@ returns-then-out-length c =
     let a = c.args in
     rw (
       right,
-      wrote-short (table_bytes (groups_of a.t1)) a.out.now
+      wrote-short (table_bytes (groups_of a.table)) a.out.now
           (omega (arith, c.table_length-length.ensures)),
     ) (refl, refl)
 
@@ -49,6 +49,6 @@ returns c =
     let a = c.args in
     rw (
       right,
-      wrote-fits (table_bytes (groups_of a.t1)) a.out.now
+      wrote-fits (table_bytes (groups_of a.table)) a.out.now
           (omega (arith, c.table_length-length.ensures)),
     ) (ap accept c.table_length-length.ensures, c.put_table.ensures)

@@ -1,0 +1,27 @@
+use Prim.Native.Nat.{◌≤◌, ◌*◌, ◌-◌}
+use native.Mathlib.Omega.{arith}
+use borrow.Author.Rules.{rules}
+use Rattle.table.specs.declared.Table.{Table}
+use Rattle.table.specs.Group.{pairs_of}
+use Rattle.table.specs.Table.{groups_in, groups_of}
+use Rattle.table.specs.TableBytes.{group_numbers}
+use Rattle.table.proofs.CheckLaws.{groups-size, group-inside, group_at_lem}
+use Rattle.number.proofs.SpliceLaws.{bytes_most}
+use Rattle.table.proofs.WriteLaws.{Tallied, tallied_none, tallied_more, tallied_end, table-bytes}
+use Rattle.table.proofs.write.table_length.Goals as goal
+
+pub group_length-total-requires : goal.group_length-total-requires
+group_length-total-requires c = group-inside _ _ c.group_at-group.ensures
+
+pub loop-i-preserved : goal.loop-i-preserved
+loop-i-preserved c =
+    let table_of : Table = record { count = c.args.count; groups = c.args.groups.now; loads = c.args.loads.now; stores = c.args.stores.now } in
+    let t = table_of in
+    let i = c.loop-i.i in
+    let g = pairs_of t.loads t.stores c.group_at-group.result in
+    let e = group_at_lem t c.requires i c.loop-i-test.true g c.group_at-group.ensures in (
+      omega (arith, c.loop-i-test.true),
+      omega (arith, c.group_length-total.ensures.1, c.loop-i.invariant.1),
+      tallied_more c.loop-i.invariant.2 g
+          (omega (arith, groups-size t, c.loop-i-test.true)) (rw e c.group_length-total.ensures.0),
+    )

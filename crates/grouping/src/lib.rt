@@ -1,4 +1,7 @@
 // How the order that pairs give becomes a group of a table: the accesses in that order, offsets counted.
+
+#![tactic(auto)]
+
 ghost use Rattle.std.specs.Prelude.{◌≡◌, true, [], ◌<◌};
 ghost use Rattle.table.specs.TableBytes.{pack};
 ghost use Rattle.grouping.specs.Grouping.{names_accesses, groups_in_order};

@@ -5,6 +5,10 @@ use lib.ListN.{length-map, get_or-map}
 use lib.Seq.{paste, paste-zero, paste-suc, take-paste, length-paste}
 use Rattle.number.specs.Basics.{held}
 use Rattle.number.proofs.HeldLaws.{held-few}
+use Rattle.table.specs.declared.Pair.{Pair}
+use Rattle.queue.specs.Entry.{entry_of, entry_in, number_of}
+use Rattle.queue.specs.Internal.{entry_after, struct_after}
+use Rattle.queue.proofs.EntryLaws.{entry_number}
 use Rattle.queue.proofs.Lists.{take-map}
 
 -- what an array is once the first j of `s`, made entries by `f`, stand in it from the place `n` on, where it was `d`
@@ -40,3 +44,13 @@ mapped_appended {A} {B} {C} h blank f new z {d} {n} {s} {j} {l} w k q hd hs e =
     same zero xs e = refl
     same (suc m) [] e = refl
     same (suc m) (x ∷ xs) e = rw (e 0 (omega arith), same m xs (λ i k. e (suc i) (omega arith)))
+
+-- the number of a pair's entry, where `others` of the other kind are held
+abbrev pub number_after : ℕ → Pair → ℕ
+number_after others p = number_of (struct_after others p)
+
+-- it has room for the entry
+pub after_number : (others : ℕ) (p : Pair) → others ≤ 64 → p.port < 32 → p.offset ≤ 16 → entry_in (number_after others p) ≡ entry_after others p
+after_number others p few port offset =
+    let before : others + p.offset < 256 = omega arith in
+    ap entry_of (entry_number (struct_after others p) (record { port = port; before = before; address = omega arith; word = omega arith }))

@@ -52,7 +52,7 @@ module _ (t : Table) (few : t.count ≤ 16) (i : ℕ) (k : i < t.count) {g : Gro
   group-getElem? = mapped-getElem? (meant_in t.loads t.stores) 0 t.count t.groups i k ∙ ap (λ (x : GroupPairs). some x) is-here
 
   pub group-right : check_table (groups_of t) ≡ passed → GroupRight (pairs_of t.loads t.stores g)
-  group-right right = rw (group_at t few i k here a) at (table_group_right (groups_of t) right i here (rw (groups-size t) k))
+  group-right right = rw (group_at_lem t few i k here a) at (table_group_right (groups_of t) right i here (rw (groups-size t) k))
 
 pub groups_end : (t : Table) (i : ℕ) → t.count ≤ i → drop i (groups_of t) ≡ []
 groups_end t i k = mapped_end (meant_in t.loads t.stores) 0 t.count t.groups i k

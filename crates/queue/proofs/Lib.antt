@@ -1,6 +1,3 @@
-pub mod Leave
-pub mod Again
-pub mod Front
 -- the definitions that rules are written with
 pub mod Lists
 pub mod Serials

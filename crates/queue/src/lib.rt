@@ -1,6 +1,9 @@
 // The group-allocated load-store queue: its record, and every call on it.
 // A call is handed the queue by value and gives back the queue that follows. The calls named `.._in` do the work: they are handed
 // an outline, and the table's arrays and both sides' entries are lent to them, so that nothing of these is copied.
+
+#![tactic(auto)]
+
 use counts::Counts;
 use table::Table;
 

@@ -1,0 +1,9 @@
+use Rattle.std.proofs.Common.{◌≡◌, true, rules}
+use Rattle.queue.specs.Parts.{whole}
+use Rattle.queue.proofs.PartsLaws.{both-whole}
+use Rattle.queue.proofs.Queue.sound.Goals as goal
+
+pub returns : goal.returns
+returns c =
+    let own : whole c.args.self.load_entries c.args.self.store_entries ≡ true = both-whole c.args.self.load_entries c.args.self.store_entries (search rules) (search rules) in
+    rw (own, c.outline_of-outline.ensures) at c.sound_in.ensures

@@ -1,0 +1,14 @@
+use Rattle.std.proofs.Common.{◌≡◌, ◌+◌, ◌-◌, ◌≤◌, ◌∷◌, drop, sym, ◌∙◌, arith, rules}
+use Rattle.queue.specs.Entry.{entry_in, entry_of}
+use Rattle.queue.specs.Contents.{entries_held}
+use Rattle.queue.specs.Arguments.{lacks}
+use Rattle.queue.specs.Internal.{lacks_mark}
+use Rattle.queue.proofs.ContentsLaws.{mapped-here, mapped_end}
+use Rattle.queue.proofs.WalkLaws.{Seeking, seeking_none, seeking-on, seeking-stop, seeking-end}
+use Rattle.queue.proofs.entries.oldest_without.Given as goal
+
+abbrev pub invariant-loop-i : goal.invariant-loop-i
+invariant-loop-i l = (l.i ≤ l.held) × Seeking (lacks_mark l.mark l.port) (entries_held l.held l.entries) l.i
+
+abbrev pub decreases-loop-i : goal.decreases-loop-i
+decreases-loop-i l = l.count - l.i

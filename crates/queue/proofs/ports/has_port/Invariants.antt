@@ -1,0 +1,15 @@
+use Rattle.std.proofs.Common.{◌≡◌, ◌+◌, ◌-◌, ◌≤◌, ◌∷◌, drop, sym, ◌∙◌, arith, rules}
+use Rattle.table.specs.declared.Table.{Table}
+use Rattle.table.specs.Group.{GroupPairs, pairs_of}
+use Rattle.table.specs.Table.{groups_in, groups_of}
+use Rattle.table.proofs.CheckLaws.{group-inside}
+use Rattle.queue.specs.Arguments.{names_port}
+use Rattle.queue.proofs.GroupLaws.{groups-here, groups_end}
+use Rattle.queue.proofs.WalkLaws.{NoneYet, none_none, none-on, none-stop, none_end}
+use Rattle.queue.proofs.ports.has_port.Given as goal
+
+abbrev pub invariant-loop-i : goal.invariant-loop-i
+invariant-loop-i l = (l.i ≤ l.count) × NoneYet (names_port l.kind l.port) (groups_in l.count l.groups l.loads l.stores) l.i
+
+abbrev pub decreases-loop-i : goal.decreases-loop-i
+decreases-loop-i l = l.count - l.i

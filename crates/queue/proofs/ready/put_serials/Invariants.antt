@@ -1,0 +1,10 @@
+use Rattle.std.proofs.Common.{◌≡◌, ◌-◌, ◌≤◌, length, arith, rules}
+use Rattle.table.proofs.CheckLaws.{long}
+use Rattle.queue.proofs.ReadyLaws.{Copied, copied_none, copied_more, copied-length, copied-whole}
+use Rattle.queue.proofs.ready.put_serials.Given as goal
+
+abbrev pub invariant-loop-i : goal.invariant-loop-i
+invariant-loop-i l = (l.i ≤ l.count) × Copied l.serials.numbers l.initial.out l.i l.out
+
+abbrev pub decreases-loop-i : goal.decreases-loop-i
+decreases-loop-i l = l.count - l.i

@@ -1,4 +1,7 @@
 // The shift page: a record of what was taken at each load port, and the page that is printed from it.
+
+#![tactic(auto)]
+
 use queue::{Queue, Value};
 
 pub mod page;

@@ -99,10 +99,10 @@ pub fn replay_recorded(
     values: &mut [u32],
 ) -> ReplayRecorded
     ensures { RecordsReplay memory.old counts
-        (record { answers = answers.entry.now; given = given.old; values = values.old }) kept trace.now
+        (record { answers = answers.old; given = given.old; values = values.old }) kept trace.now
         (replay (groups_of table) trace.now memory.old counts
-        (record { answers = answers.entry.now; given = given.old; values = values.old }))
-        result memory.new (record { answers = answers.exit.now; given = given.new; values = values.new }) }
+        (record { answers = answers.old; given = given.old; values = values.old }))
+        result memory.new (record { answers = answers.new; given = given.new; values = values.new }) }
 {
     let done = replay(table, trace, memory, counts, answers, given, values);
     let after = done.counts;

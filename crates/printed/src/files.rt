@@ -94,11 +94,11 @@ fn play_events(
     given: &mut [u8],
     values: &mut [u32],
 ) -> FilesPlayed
-    requires { Playable (contents_of queue) trace.now memory.old (record { answers = answers.now; given = given.old; values = values.old }) }
+    requires { Playable (contents_of queue) trace.now memory.old (record { answers = answers.old; given = given.old; values = values.old }) }
     ensures { HasPlayed (played_on memory.old
-        (record { answers = answers.entry.now; given = given.old; values = values.old })
+        (record { answers = answers.old; given = given.old; values = values.old })
         (start_files (start_of (contents_of queue) (events_from trace.now at)))) result memory.new
-        (record { answers = answers.exit.now; given = given.new; values = values.new }) }
+        (record { answers = answers.new; given = given.new; values = values.new }) }
 {
     let frame = queue.frame;
     let words = frame.memory_length as usize;
@@ -128,11 +128,11 @@ fn play_trace(
     given: &mut [u8],
     values: &mut [u32],
 ) -> FilesPlayed
-    requires { Room memory.old (record { answers = answers.now; given = given.old; values = values.old }) }
+    requires { Room memory.old (record { answers = answers.old; given = given.old; values = values.old }) }
     ensures { HasPlayed (played_on memory.old
-        (record { answers = answers.entry.now; given = given.old; values = values.old })
+        (record { answers = answers.old; given = given.old; values = values.old })
         (trace_files (groups_of table) trace.now)) result memory.new
-        (record { answers = answers.exit.now; given = given.new; values = values.new }) }
+        (record { answers = answers.new; given = given.new; values = values.new }) }
 {
     if MOST_BYTES < trace.len() {
         return FilesPlayed::TraceFault(FILE_TOO_LONG);
@@ -165,9 +165,9 @@ pub fn play_files(
     values: &mut [u32],
 ) -> FilesPlayed
     ensures { HasPlayed (played_in memory.old
-        (record { answers = answers.entry.now; given = given.old; values = values.old })
+        (record { answers = answers.old; given = given.old; values = values.old })
         (files table.now trace.now)) result memory.new
-        (record { answers = answers.exit.now; given = given.new; values = values.new }) }
+        (record { answers = answers.new; given = given.new; values = values.new }) }
 {
     if !have_room(memory.len(), answers.len(), given.len(), values.len()) {
         return FilesPlayed::NoRoom(TOO_SHORT);

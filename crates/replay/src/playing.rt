@@ -202,8 +202,8 @@ pub(crate) fn put(
     values: &mut [u32],
 )
     requires { (i < length answers.old) × (i < length given.old) × (i < length values.old) }
-    ensures { PutAnswer answer value i (record { answers = answers.entry.now; given = given.old; values = values.old })
-        (record { answers = answers.exit.now; given = given.new; values = values.new }) }
+    ensures { PutAnswer answer value i (record { answers = answers.old; given = given.old; values = values.old })
+        (record { answers = answers.new; given = given.new; values = values.new }) }
 {
     answers[i] = answer;
     given[i] = value_given(value);

@@ -53,10 +53,10 @@ fn play_all(
     given: &mut [u8],
     values: &mut [u32],
 ) -> Replayed
-    requires { Playable trace.now from (record { answers = answers.now; given = given.old; values = values.old }) }
+    requires { Playable trace.now from (record { answers = answers.old; given = given.old; values = values.old }) }
     ensures { ReplayedWell (through (playing (contents_of queue) memory.old counts) (events_in (events_from trace.now from)))
-        (record { answers = answers.entry.now; given = given.old; values = values.old }) result memory.new
-        (record { answers = answers.exit.now; given = given.new; values = values.new }) }
+        (record { answers = answers.old; given = given.old; values = values.old }) result memory.new
+        (record { answers = answers.new; given = given.new; values = values.new }) }
 {
     let frame = queue.frame;
     let mut outline = outline_of(frame);
@@ -119,10 +119,10 @@ pub fn replay_from(
     values: &mut [u32],
 ) -> Replayed
     ensures { Replays memory.old counts
-        (record { answers = answers.entry.now; given = given.old; values = values.old })
+        (record { answers = answers.old; given = given.old; values = values.old })
         (replay_from (contents_of queue) (events_from trace.now at) memory.old counts
-        (record { answers = answers.entry.now; given = given.old; values = values.old }))
-        result memory.new (record { answers = answers.exit.now; given = given.new; values = values.new }) }
+        (record { answers = answers.old; given = given.old; values = values.old }))
+        result memory.new (record { answers = answers.new; given = given.new; values = values.new }) }
 {
     let count = count_events(trace, at);
     let events = match count {
@@ -151,10 +151,10 @@ pub fn replay(
     values: &mut [u32],
 ) -> Replayed
     ensures { Replays memory.old counts
-        (record { answers = answers.entry.now; given = given.old; values = values.old })
+        (record { answers = answers.old; given = given.old; values = values.old })
         (replay (groups_of table) trace.now memory.old counts
-        (record { answers = answers.entry.now; given = given.old; values = values.old }))
-        result memory.new (record { answers = answers.exit.now; given = given.new; values = values.new }) }
+        (record { answers = answers.old; given = given.old; values = values.old }))
+        result memory.new (record { answers = answers.new; given = given.new; values = values.new }) }
 {
     let opened = open_trace(table, trace);
     if opened.answer != 0 {

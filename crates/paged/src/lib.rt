@@ -1,4 +1,7 @@
 // The shift page of a trace: the record of what a replay took, and the text that the program `page` prints.
+
+#![tactic(auto)]
+
 use counts::Counts;
 use shift::ShiftRecord;
 

@@ -1,5 +1,8 @@
 // Functions for C and Rust to link: tables and traces as bytes, replays as numbers in lent runs. A name is the whole
 // program's, as in C, so each begins with `lsq_`. Whatever is handed in, each answers as its contract says.
+
+#![tactic(auto)]
+
 ghost use Rattle.std.specs.Prelude.{◌≡◌};
 ghost use Rattle.table.specs.TableBytes.{read_table, table_answer};
 ghost use Rattle.counts.specs.Counts.{share};

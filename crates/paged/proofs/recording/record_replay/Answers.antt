@@ -9,7 +9,6 @@ use denote.Enum.Declared.{tag_of}
 use Rattle.number.specs.Number.{read_in}
 use Rattle.trace.specs.declared.Event.{Event}
 use Rattle.trace.specs.declared.HeaderRead.{HeaderRead}
-use Rattle.trace.specs.declared.Header.{Header}
 use Rattle.trace.specs.declared.HeaderRead.TheVariants.{Leading, NoHeader}
 use Rattle.trace.specs.contracts.HeaderRead.{the_type}
 use Rattle.trace.specs.Event.{read_header, header_reply}
@@ -23,12 +22,6 @@ use Rattle.paged.specs.Recorded.{record_buffered, events_read, trace_events}
 use Rattle.paged.specs.Internal.{AllReadable}
 use Rattle.paged.proofs.BufferLaws.{events-behind, no_header}
 use Rattle.paged.proofs.recording.record_replay.Goals as goal
-
--- the leading numbers cannot be read
-headless : (trace : List ℕ) (r : HeaderRead) → header_reply r ≡ read_in trace (read_header trace) → ((h : Header) (n : ℕ) → r ≡ Leading h n → ⊥)
-    → trace_events trace ≡ []
-headless trace (Leading h n) e k = absurd (k h n refl)
-headless trace (NoHeader k) e z = no_header trace e
 
 -- one of them cannot be read
 unread : (trace : List ℕ) (at : ℕ) (r : EventCount) → count_reply r ≡ counted_events (events_from trace at) → ((n : ℕ) → r ≡ Events n → ⊥)

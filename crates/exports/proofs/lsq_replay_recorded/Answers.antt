@@ -1,0 +1,13 @@
+-- The replay by its own contract; the record from the buffers that it filled.
+use Rattle.exports.specs.Replay.{Lent, lent}
+use Rattle.exports.proofs.RecordLaws.{lent-kept-refused, lent-kept-accepted}
+use borrow.Author.Rules.{rules}
+use Rattle.exports.proofs.lsq_replay_recorded.Goals as goal
+
+pub returns : goal.returns
+returns c =
+    let lent_at : Lent = let a = c.args in lent a.memory.now a.counts.now a.answers.now a.given.now a.values.now in
+    let left_at : Lent = let l = c.lsq_replay-answer.new in lent l.memory l.counts l.answers l.given l.values in
+    let a = c.args in
+    let w = c.lsq_replay-answer.ensures in
+    (w, lent-kept-accepted a.table.now a.trace.now lent_at a.kept left_at w c.if-answer-ne0.false c.record_replay-after.ensures)

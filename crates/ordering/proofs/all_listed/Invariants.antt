@@ -1,15 +1,9 @@
 -- Invariant: the pairs passed name accesses that are listed.
-use Prim.Native.Nat.{◌≤◌, ◌<◌, ◌-◌}
-use native.Mathlib.Omega.{arith}
-use mathlib.Core.Path.{◌≡◌, sym}
+use Prim.Native.Nat.{◌≤◌, ◌-◌}
 use mathlib.Core.Bool.{◌&&◌}
 use lib.Dec.{ltb}
-use lib.ListN.{length, get_or}
-use borrow.Author.Tests.{lt-ltb, le-ltb}
-use borrow.Author.Rules.{rules}
-use Rattle.number.proofs.AllLaws.{AllYet, all_none, all-on, all-stop, all_end}
-use Rattle.ordering.specs.Records.{blank_precedence, precedences_of}
-use Rattle.ordering.proofs.RecordLaws.{pairs-length, pair-here}
+use Rattle.number.proofs.AllLaws.{AllYet}
+use Rattle.ordering.specs.Records.{precedences_of}
 use Rattle.ordering.proofs.all_listed.Given as goal
 
 abbrev pub invariant-loop-i : goal.invariant-loop-i

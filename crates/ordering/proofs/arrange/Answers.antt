@@ -1,11 +1,9 @@
 -- Invariant: what is placed, followed by what the rule gives for those that wait, is what it gives for all.
-use Prim.Native.Nat.{◌≤◌, ◌-◌}
 use native.Mathlib.Omega.{arith}
-use mathlib.Core.Path.{◌≡◌, refl, sym, ap, ◌∙◌}
-use lib.ListN.{length, length-set}
+use mathlib.Core.Path.{refl}
+use lib.ListN.{length-set}
 use borrow.Author.Rules.{rules}
-use Rattle.ordering.specs.Records.{precedences_of, ordered}
-use Rattle.ordering.proofs.Loops.{Placing, placing_none, placing-on, placing-stop, placing-record}
+use Rattle.ordering.proofs.Loops.{placing_none, placing-on}
 use Rattle.ordering.proofs.arrange.Goals as goal
 
 pub loop-i-init : goal.loop-i-init

@@ -1,10 +1,6 @@
 -- Invariant: every access passed is marked.
-use Prim.Native.Nat.{◌≤◌, ◌-◌}
 use native.Mathlib.Omega.{arith}
-use mathlib.Core.Path.{sym}
-use borrow.Author.Rules.{rules}
-use Rattle.ordering.specs.Internal.{unmarked}
-use Rattle.ordering.proofs.Loops.{Sought, sought_none, sought-on, sought-stop, sought-end}
+use Rattle.ordering.proofs.Loops.{sought-on}
 use Rattle.ordering.proofs.first_unmarked.Goals as goal
 
 pub loop-access-preserved : goal.loop-access-preserved

@@ -1,7 +1,6 @@
 -- The access that is not marked is ready, and each before it is not.
 use native.Mathlib.Omega.{arith}
 use mathlib.Core.Path.{◌∙◌}
-use borrow.Author.Rules.{rules}
 use Rattle.ordering.proofs.Loops.{seek_same}
 use Rattle.ordering.proofs.next_ready.Goals as goal
 

@@ -1,14 +1,9 @@
 -- Invariant: marked are the accesses that are placed and those that the pairs passed hold back.
 use Prim.Native.Nat.{◌≤◌, ◌-◌}
-use native.Mathlib.Omega.{arith}
 use mathlib.Core.Path.{◌≡◌}
-use mathlib.Core.Logic.{◌⊎◌, inl, inr}
-use lib.ListN.{length, length-set}
-use borrow.Author.Tests.{lt-ltb}
-use borrow.Author.Rules.{rules}
+use lib.ListN.{length}
 use Rattle.ordering.specs.Internal.{waits}
-use Rattle.ordering.proofs.RecordLaws.{listed_here}
-use Rattle.ordering.proofs.Loops.{Marked, marked_none, marked-keep, marked-set, marked-unready}
+use Rattle.ordering.proofs.Loops.{Marked}
 use Rattle.ordering.proofs.unready.Given as goal
 
 abbrev pub invariant-loop-i : goal.invariant-loop-i

@@ -1,6 +1,5 @@
 use borrow.Author.Tests.{eq-eqb, ne_eqb}
 use Rattle.script.specs.Hexadecimal.{byte_step}
-use borrow.Author.Rules.{rules}
 use Rattle.script.proofs.byte_step.Goals as goal
 
 pub returns-then-found-eq0 : goal.returns-then-found-eq0

@@ -1,9 +1,4 @@
-use mathlib.Core.Path.{◌≡◌, refl, sym, ◌∙◌}
-use Prim.Native.Nat.{◌-◌}
-use borrow.Author.Rules.{rules}
-use lib.ListN.{length, drop}
 use native.Mathlib.Numerals.{add-one}
-use Rattle.script.specs.Hexadecimal.{byte_steps, no_bytes}
 use Rattle.script.proofs.LineLaws.{byte_steps_next, byte_steps_end}
 use Rattle.script.proofs.bytes_of.Goals as goal
 

@@ -1,6 +1,5 @@
 use borrow.Author.Tests.{eq-eqb, ne_eqb}
 use Rattle.script.specs.Names.{look_step}
-use borrow.Author.Rules.{rules}
 use Rattle.script.proofs.look_step.Goals as goal
 
 pub returns-then-looking : goal.returns-then-looking

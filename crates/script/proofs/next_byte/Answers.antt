@@ -1,9 +1,4 @@
-use mathlib.Core.Path.{◌≡◌}
-use Prim.Native.Nat.{◌+◌, ◌-◌, ◌≤◌}
-use borrow.Author.Rules.{rules}
 use native.Mathlib.Omega.{arith}
-use lib.ListN.{length, drop}
-use Rattle.script.specs.Lines.{until}
 use Rattle.script.proofs.LineLaws.{until_here, until_next, until_end}
 use Rattle.script.proofs.next_byte.Goals as goal
 

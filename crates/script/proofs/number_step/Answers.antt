@@ -1,6 +1,5 @@
 use borrow.Author.Tests.{lt-ltb, le-ltb, eq-eqb, ne_eqb}
 use Rattle.script.specs.Decimal.{number_step}
-use borrow.Author.Rules.{rules}
 use Rattle.script.proofs.number_step.Goals as goal
 
 pub returns-then-byte-eq32 : goal.returns-then-byte-eq32

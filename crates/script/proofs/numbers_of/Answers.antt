@@ -1,9 +1,4 @@
-use mathlib.Core.Path.{◌≡◌, refl, sym, ◌∙◌}
-use Prim.Native.Nat.{◌-◌}
-use borrow.Author.Rules.{rules}
-use lib.ListN.{length, drop}
 use native.Mathlib.Numerals.{add-one}
-use Rattle.script.specs.Decimal.{number_steps, no_numbers}
 use Rattle.script.proofs.LineLaws.{number_steps_next, number_steps_end}
 use Rattle.script.proofs.numbers_of.Goals as goal
 

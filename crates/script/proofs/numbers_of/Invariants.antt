@@ -1,10 +1,7 @@
-use mathlib.Core.Path.{◌≡◌, refl, sym, ◌∙◌}
+use mathlib.Core.Path.{◌≡◌}
 use Prim.Native.Nat.{◌-◌}
-use borrow.Author.Rules.{rules}
 use lib.ListN.{length, drop}
-use native.Mathlib.Numerals.{add-one}
 use Rattle.script.specs.Decimal.{number_steps, no_numbers}
-use Rattle.script.proofs.LineLaws.{number_steps_next, number_steps_end}
 use Rattle.script.proofs.numbers_of.Given as goal
 
 abbrev pub invariant-loop-i : goal.invariant-loop-i

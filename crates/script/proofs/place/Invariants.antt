@@ -1,12 +1,7 @@
-use mathlib.Core.Path.{◌≡◌, refl, sym, ap, ◌∙◌}
+use mathlib.Core.Path.{◌≡◌}
 use Prim.Native.Nat.{◌≤◌, ◌-◌}
-use borrow.Author.Rules.{rules}
-use lib.ListN.{length, drop, get_or}
-use native.Mathlib.Numerals.{add-one}
-use native.Mathlib.Omega.{arith}
-use Rattle.script.specs.declared.Looking.{Looking}
-use Rattle.script.specs.Names.{look_last, look_steps, not_found}
-use Rattle.script.proofs.LineLaws.{look_steps_next, look_steps_end, look-few}
+use lib.ListN.{length, drop}
+use Rattle.script.specs.Names.{look_steps, not_found}
 use Rattle.script.proofs.place.Given as goal
 
 abbrev pub invariant-loop-i : goal.invariant-loop-i

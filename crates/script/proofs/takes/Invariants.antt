@@ -1,10 +1,6 @@
-use mathlib.Core.Path.{◌≡◌, refl, sym, ◌∙◌}
+use mathlib.Core.Path.{◌≡◌}
 use Prim.Native.Nat.{◌≤◌, ◌-◌, ◌*◌}
-use borrow.Author.Rules.{rules}
-use native.Mathlib.Omega.{arith}
-use borrow.Author.Tests.{not-true, not-false, le-ltb}
 use Rattle.script.specs.Shapes.{fit_from}
-use Rattle.script.proofs.LineLaws.{fit_on, taken_not, taken-all}
 use Rattle.script.proofs.takes.Given as goal
 
 abbrev pub invariant-loop-i : goal.invariant-loop-i

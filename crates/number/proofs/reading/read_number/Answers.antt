@@ -3,8 +3,7 @@ use Prim.Native.Nat.{ℕ, ◌+◌, ◌-◌, ◌*◌, ◌^◌, ◌≤◌, ◌<◌
 use mathlib.Core.Path.{◌∙◌}
 use native.Mathlib.Omega.{arith}
 use lib.ListN.{get_or}
-use borrow.Author.Rules.{rules}
-use Rattle.number.proofs.NumberLaws.{NumberSoFar, number_begun, number-ended, group-fits, number-one, number_more, last_fits, number_last}
+use Rattle.number.proofs.NumberLaws.{number_begun, number-ended, group-fits, number-one, number_more, last_fits, number_last}
 use Rattle.number.proofs.NumberLaws.{number-too-large}
 use Rattle.number.proofs.reading.read_number.Goals as goal
 

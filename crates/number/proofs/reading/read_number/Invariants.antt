@@ -1,11 +1,6 @@
 -- The bytes passed are groups of the number, worth `value`; what is left to read is the number of higher groups.
-use Prim.Native.Nat.{ℕ, ◌+◌, ◌-◌, ◌*◌, ◌^◌, ◌≤◌, ◌<◌}
-use mathlib.Core.Path.{◌∙◌}
-use native.Mathlib.Omega.{arith}
-use lib.ListN.{get_or}
-use borrow.Author.Rules.{rules}
-use Rattle.number.proofs.NumberLaws.{NumberSoFar, number_begun, number-ended, group-fits, number-one, number_more, last_fits, number_last}
-use Rattle.number.proofs.NumberLaws.{number-too-large}
+use Prim.Native.Nat.{◌-◌, ◌^◌}
+use Rattle.number.proofs.NumberLaws.{NumberSoFar}
 use Rattle.number.proofs.reading.read_number.Given as goal
 
 abbrev pub invariant-loop-scale : goal.invariant-loop-scale

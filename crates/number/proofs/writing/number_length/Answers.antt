@@ -1,6 +1,5 @@
 -- A number's length is the formula of its significant bits, and so, by `number_length_law`, the length of the bytes that are written.
 use native.Mathlib.Omega.{arith}
-use lib.Count.{leading_le}
 use borrow.Author.Rules.{rules}
 use Rattle.number.proofs.Lengths.{number_length_law}
 use Rattle.number.proofs.writing.number_length.Goals as goal

@@ -1,8 +1,5 @@
 -- What is still to be written, spliced where the writer stands, makes the buffer that is promised.
-use native.Mathlib.Omega.{arith}
-use lib.ListN.{length-set}
-use borrow.Author.Rules.{rules}
-use Rattle.number.proofs.SpliceLaws.{Putting, putting_none, putting-room, putting-more, putting-end}
+use Rattle.number.proofs.SpliceLaws.{putting-room, putting-more, putting-end}
 use Rattle.number.proofs.writing.put_fitting.Goals as goal
 
 pub bounds-out-place : goal.bounds-out-place

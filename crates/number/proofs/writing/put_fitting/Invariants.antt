@@ -1,8 +1,5 @@
 -- What is still to be written, spliced where the writer stands, makes the buffer that is promised.
-use native.Mathlib.Omega.{arith}
-use lib.ListN.{length-set}
-use borrow.Author.Rules.{rules}
-use Rattle.number.proofs.SpliceLaws.{Putting, putting_none, putting-room, putting-more, putting-end}
+use Rattle.number.proofs.SpliceLaws.{Putting}
 use Rattle.number.proofs.writing.put_fitting.Given as goal
 
 abbrev pub invariant-loop-left : goal.invariant-loop-left

@@ -3,7 +3,6 @@ use Prim.Native.Nat.{◌≤◌}
 use mathlib.Core.Path.{◌≡◌, refl, ap}
 use native.Mathlib.Omega.{arith}
 use lib.ListN.{length}
-use borrow.Author.Rules.{rules}
 use Rattle.number.specs.Reply.{accept}
 use Rattle.number.specs.Number.{number_bytes}
 use Rattle.number.proofs.SpliceLaws.{wrote-short, wrote-fits}

@@ -1,16 +1,12 @@
 -- The store's rule looks into the loads, which the first half of the check has found to rise.
-use Prim.Native.Nat.{ℕ, ◌≤◌}
+use Prim.Native.Nat.{◌≤◌}
 use mathlib.Core.Path.{◌≡◌, sym, ◌∙◌}
-use mathlib.Core.Bool.{true, false≢true}
-use mathlib.Core.List.{List}
+use mathlib.Core.Bool.{true}
 use native.Mathlib.Omega.{arith}
-use borrow.Author.Tests.{not-true, not-false}
-use Rattle.table.specs.declared.Group.{Group}
-use Rattle.table.specs.Table.{counts_right, Seen}
+use Rattle.table.specs.Table.{counts_right}
 use Rattle.table.specs.Internal.{seen_in, GroupInside}
 use Rattle.table.proofs.CheckLaws.{counts-few, rising-checked, group-counts, group-loads, group-stores}
 use Rattle.table.proofs.Among.{pairs-zero}
-use borrow.Author.Rules.{rules}
 use Rattle.table.proofs.check.check_group.Goals as goal
 
 pub returns-then-not-counts_right : goal.returns-then-not-counts_right

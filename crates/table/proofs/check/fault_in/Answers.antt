@@ -1,17 +1,14 @@
 -- The groups before the ith are passed; what is left to check is the rest, with the ports seen so far.
-use Prim.Native.Nat.{◌≤◌, ◌-◌}
 use mathlib.Core.Path.{◌≡◌, sym, ◌∙◌}
 use mathlib.Core.Bool.{true}
 use native.Mathlib.Omega.{arith}
 use lib.ListN.{get_or}
-use borrow.Author.Rules.{rules}
 use borrow.Author.Tests.{le-leb, lt-leb}
 use Rattle.table.specs.declared.Table.{Table}
 use Rattle.number.specs.Basics.{within}
 use Rattle.table.specs.Group.{GroupPairs, pairs_of}
-use Rattle.table.specs.Table.{groups_in, groups_of, none_seen}
-use Rattle.table.specs.Internal.{seen_in}
-use Rattle.table.proofs.CheckLaws.{Passing, passing_none, passing-stop, passing-more, passing-end, groups-size}
+use Rattle.table.specs.Table.{groups_of}
+use Rattle.table.proofs.CheckLaws.{passing-stop, passing-more, passing-end, groups-size}
 use Rattle.table.proofs.CheckLaws.{group-inside, group_at_lem, table-count, table-groups}
 use Rattle.table.proofs.Among.{group-zero}
 use Rattle.table.proofs.check.fault_in.Goals as goal

@@ -1,6 +1,4 @@
-use native.Mathlib.Omega.{arith}
 use Rattle.table.proofs.CheckLaws.{none_more, more-at}
-use borrow.Author.Rules.{rules}
 use Rattle.table.proofs.check.more_before.Goals as goal
 
 pub returns-then-loads-n : goal.returns-then-loads-n

@@ -1,4 +1,3 @@
-use borrow.Author.Rules.{rules}
 use Rattle.table.specs.Table.{group_at}
 use Rattle.table.proofs.parts.group_at.Goals as goal
 
@@ -6,8 +5,8 @@ pub returns : goal.returns
 unfolding group_at
 returns c =
     rw (
-  c.span_meant-loads.ensures,
-  c.span_meant-stores.ensures,
-  c.unpack_group-group.ensures,
-  c.number_at.ensures,
-)
+      c.span_meant-loads.ensures,
+      c.span_meant-stores.ensures,
+      c.unpack_group-group.ensures,
+      c.number_at.ensures,
+    )

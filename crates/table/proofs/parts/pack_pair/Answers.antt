@@ -1,6 +1,5 @@
 use mathlib.Core.Path.{refl}
 use Rattle.table.specs.Packed.{packed_pair}
-use borrow.Author.Rules.{rules}
 use Rattle.table.proofs.parts.pack_pair.Goals as goal
 
 pub returns : goal.returns

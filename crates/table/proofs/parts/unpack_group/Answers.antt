@@ -1,5 +1,4 @@
 use Rattle.table.specs.Packed.{group_in}
-use borrow.Author.Rules.{rules}
 use Rattle.table.proofs.parts.unpack_group.Goals as goal
 
 pub returns : goal.returns

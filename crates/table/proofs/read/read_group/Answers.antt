@@ -1,10 +1,9 @@
 -- Both counts, then the loads, then the stores, whose rule goes by the loads that were read.
 use Prim.Native.Nat.{◌≤◌}
 use mathlib.Core.Path.{◌≡◌, refl, sym, ap, ap₂, ◌∙◌}
-use mathlib.Core.Bool.{true, false≢true}
+use mathlib.Core.Bool.{true}
 use native.Mathlib.Omega.{arith}
 use lib.ListN.{length, drop}
-use borrow.Author.Tests.{not-true, not-false}
 use Rattle.table.specs.declared.read.Pairs.{Pairs}
 use Rattle.table.specs.Table.{load_rule, counts_right}
 use Rattle.table.specs.TableBytes.{read_pairs}
@@ -14,7 +13,6 @@ use Rattle.number.proofs.ReplyLaws.{refused_some}
 use Rattle.table.proofs.CheckLaws.{counts-few, rising-checked}
 use Rattle.table.proofs.ReadLaws.{TwoGot, two-answer, two_among, group-two, tells-refused, tells-given}
 use Rattle.table.proofs.RoundTrip.{PairsWritten, pairs-written}
-use borrow.Author.Rules.{rules}
 use Rattle.table.proofs.read.read_group.Goals as goal
 
 pub returns-in_default : goal.returns-in_default

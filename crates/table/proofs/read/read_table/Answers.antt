@@ -1,7 +1,6 @@
 -- Fields, group count, groups, and nothing left over: each `return` rewrites with what was found on the way.
-use Prim.Native.Nat.{ℕ, ◌-◌}
+use Prim.Native.Nat.{◌-◌}
 use mathlib.Core.Path.{◌≡◌, sym, ap, ◌∙◌}
-use mathlib.Core.List.{List}
 use native.Mathlib.Omega.{arith}
 use lib.ListN.{length, drop, length-drop}
 use borrow.Author.Tests.{le-leb, lt-leb, eq-eqb, ne_eqb}
@@ -13,7 +12,6 @@ use Rattle.table.specs.Table.{none_seen}
 use Rattle.table.specs.TableBytes.{read_groups, read_table, pack}
 use Rattle.table.specs.Internal.{Finds}
 use Rattle.number.proofs.RoundTrip.{NumberGot, number_got, read_refused}
-use borrow.Author.Rules.{rules}
 use Rattle.table.proofs.read.read_table.Goals as goal
 
 abbrev accepted : Table → TableRead

@@ -4,7 +4,6 @@ use Rattle.number.specs.Number.{read_number, number_reply, number_refusal}
 use Rattle.table.specs.Internal.{read_two}
 use Rattle.number.proofs.NumberLaws.{place_drop}
 use Rattle.number.proofs.RoundTrip.{NumberGot, number_got, read_refused}
-use borrow.Author.Rules.{rules}
 use Rattle.table.proofs.read.read_two.Goals as goal
 
 pub returns-in_default : goal.returns-in_default

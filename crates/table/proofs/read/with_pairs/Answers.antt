@@ -1,10 +1,9 @@
 -- i of the group's accesses have been put in.
-use Prim.Native.Nat.{◌≤◌, ◌-◌}
-use mathlib.Core.Path.{◌≡◌, ◌∙◌}
+use mathlib.Core.Path.{◌≡◌}
 use native.Mathlib.Omega.{arith}
 use native.Mathlib.Numerals.{add-one}
 use lib.ListN.{length}
-use lib.Seq.{paste, paste-zero, paste-suc}
+use lib.Seq.{paste-suc}
 use borrow.Author.Rules.{rules}
 use Rattle.table.proofs.read.with_pairs.Goals as goal
 

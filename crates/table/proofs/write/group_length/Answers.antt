@@ -2,7 +2,6 @@ use Prim.Native.Nat.{◌≤◌}
 use native.Mathlib.Omega.{arith}
 use Rattle.number.proofs.SpliceLaws.{bytes_most}
 use Rattle.table.proofs.WriteLaws.{group-bytes}
-use borrow.Author.Rules.{rules}
 use Rattle.table.proofs.write.group_length.Goals as goal
 
 pub returns : goal.returns

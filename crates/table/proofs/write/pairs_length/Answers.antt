@@ -1,13 +1,11 @@
-use Prim.Native.Nat.{◌≤◌, ◌*◌, ◌-◌}
+use Prim.Native.Nat.{◌≤◌}
 use mathlib.Core.Path.{◌≡◌, sym, ◌∙◌}
 use native.Mathlib.Omega.{arith}
 use lib.ListN.{length, get_or}
-use borrow.Author.Rules.{rules}
 use Rattle.table.specs.Group.{list_of, blank_pair}
-use Rattle.table.specs.TableBytes.{pair_numbers}
 use Rattle.table.proofs.CheckLaws.{view-length, view-at}
 use Rattle.number.proofs.SpliceLaws.{bytes_most}
-use Rattle.table.proofs.WriteLaws.{Tallied, tallied_none, tallied_more, tallied_end, pair-length}
+use Rattle.table.proofs.WriteLaws.{tallied_more, pair-length}
 use Rattle.table.proofs.write.pairs_length.Goals as goal
 
 pub loop-i-preserved : goal.loop-i-preserved

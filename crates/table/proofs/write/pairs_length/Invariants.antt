@@ -1,13 +1,7 @@
 use Prim.Native.Nat.{◌≤◌, ◌*◌, ◌-◌}
-use mathlib.Core.Path.{◌≡◌, sym, ◌∙◌}
-use native.Mathlib.Omega.{arith}
-use lib.ListN.{length, get_or}
-use borrow.Author.Rules.{rules}
-use Rattle.table.specs.Group.{list_of, blank_pair}
+use Rattle.table.specs.Group.{list_of}
 use Rattle.table.specs.TableBytes.{pair_numbers}
-use Rattle.table.proofs.CheckLaws.{view-length, view-at}
-use Rattle.number.proofs.SpliceLaws.{bytes_most}
-use Rattle.table.proofs.WriteLaws.{Tallied, tallied_none, tallied_more, tallied_end, pair-length}
+use Rattle.table.proofs.WriteLaws.{Tallied}
 use Rattle.table.proofs.write.pairs_length.Given as goal
 
 abbrev pub invariant-loop-i : goal.invariant-loop-i

@@ -9,7 +9,6 @@ use Rattle.table.specs.Group.{list_of}
 use Rattle.table.specs.TableBytes.{pair_numbers}
 use Rattle.number.proofs.SpliceLaws.{put-at, NumbersPut, put_none, put_two}
 use Rattle.table.proofs.WriteLaws.{group-bytes, put-group}
-use borrow.Author.Rules.{rules}
 use Rattle.table.proofs.write.put_group.Goals as goal
 
 pub put_pairs-after_pairs-requires : goal.put_pairs-after_pairs-requires

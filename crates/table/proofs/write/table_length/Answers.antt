@@ -1,13 +1,8 @@
-use Prim.Native.Nat.{◌≤◌, ◌*◌, ◌-◌}
 use native.Mathlib.Omega.{arith}
-use borrow.Author.Rules.{rules}
 use Rattle.table.specs.declared.Table.{Table}
 use Rattle.table.specs.Group.{pairs_of}
-use Rattle.table.specs.Table.{groups_in, groups_of}
-use Rattle.table.specs.TableBytes.{group_numbers}
 use Rattle.table.proofs.CheckLaws.{groups-size, group-inside, group_at_lem}
-use Rattle.number.proofs.SpliceLaws.{bytes_most}
-use Rattle.table.proofs.WriteLaws.{Tallied, tallied_none, tallied_more, tallied_end, table-bytes}
+use Rattle.table.proofs.WriteLaws.{tallied_more}
 use Rattle.table.proofs.write.table_length.Goals as goal
 
 pub group_length-total-requires : goal.group_length-total-requires

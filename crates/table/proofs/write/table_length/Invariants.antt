@@ -1,17 +1,11 @@
 use Prim.Native.Nat.{◌≤◌, ◌*◌, ◌-◌}
-use native.Mathlib.Omega.{arith}
-use borrow.Author.Rules.{rules}
-use Rattle.table.specs.declared.Table.{Table}
-use Rattle.table.specs.Group.{pairs_of}
-use Rattle.table.specs.Table.{groups_in, groups_of}
+use Rattle.table.specs.Table.{groups_in}
 use Rattle.table.specs.TableBytes.{group_numbers}
-use Rattle.table.proofs.CheckLaws.{groups-size, group-inside, group_at_lem}
-use Rattle.number.proofs.SpliceLaws.{bytes_most}
-use Rattle.table.proofs.WriteLaws.{Tallied, tallied_none, tallied_more, tallied_end, table-bytes}
+use Rattle.table.proofs.WriteLaws.{Tallied}
 use Rattle.table.proofs.write.table_length.Given as goal
 
 abbrev pub invariant-loop-i : goal.invariant-loop-i
-invariant-loop-i l =     (l.i ≤ l.count) × (l.total ≤ 650 * l.i) × Tallied group_numbers (groups_in l.count l.groups l.loads l.stores) l.i l.total
+invariant-loop-i l = (l.i ≤ l.count) × (l.total ≤ 650 * l.i) × Tallied group_numbers (groups_in l.count l.groups l.loads l.stores) l.i l.total
 
 abbrev pub decreases-loop-i : goal.decreases-loop-i
 decreases-loop-i l = l.count - l.i

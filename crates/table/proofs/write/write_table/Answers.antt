@@ -10,7 +10,6 @@ use Rattle.number.proofs.SpliceLaws.{wrote-short, wrote-fits}
 use Rattle.number.proofs.ReplyLaws.{some_refused}
 use Rattle.table.proofs.Among.{table-zero}
 use Rattle.table.proofs.OrderOffsets.{table_groups_few}
-use borrow.Author.Rules.{rules}
 use Rattle.table.proofs.write.write_table.Goals as goal
 
 pub returns-then-fault-ne0 : goal.returns-then-fault-ne0

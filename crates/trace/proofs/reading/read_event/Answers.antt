@@ -4,7 +4,6 @@ use Rattle.trace.specs.Event.{read_event}
 use Rattle.number.proofs.RoundTrip.{NumberGot, number_got, number_refused}
 use Rattle.trace.proofs.TraceLaws.{event_at_end, event_at_inside}
 use native.Mathlib.Omega.{arith}
-use borrow.Author.Rules.{rules}
 use Rattle.trace.proofs.reading.read_event.Goals as goal
 
 pub returns-then-bytes-at : goal.returns-then-bytes-at

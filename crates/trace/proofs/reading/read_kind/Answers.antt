@@ -1,10 +1,9 @@
 -- What follows a kind is read number by number: `got` and `bad` say of each number what the call that read it found.
 use mathlib.Core.Path.{sym, ap, ◌∙◌}
-use borrow.Author.Tests.{le-leb, lt-leb}
+use borrow.Author.Tests.{le-leb}
 use Rattle.number.specs.Number.{number_reply, number_refusal}
 use Rattle.number.proofs.NumberLaws.{place_drop}
 use Rattle.number.proofs.RoundTrip.{NumberGot, number_got, number_refused}
-use borrow.Author.Rules.{rules}
 use Rattle.trace.proofs.reading.read_kind.Goals as goal
 
 pub returns-in_default-read : goal.returns-in_default-read

@@ -1,9 +1,9 @@
-use Prim.Native.Nat.{◌≤◌, ◌<◌, ◌*◌, ◌-◌}
+use Prim.Native.Nat.{◌<◌}
 use mathlib.Core.Path.{◌≡◌}
 use native.Mathlib.Omega.{arith}
 use lib.ListN.{length, get_or}
 use borrow.Author.Rules.{rules}
-use Rattle.number.proofs.SpliceLaws.{bytes_most, BytesCounted, counted_none, counted_more, counted_end}
+use Rattle.number.proofs.SpliceLaws.{bytes_most, counted_more}
 use Rattle.trace.proofs.writing.numbers_length.Goals as goal
 
 pub loop-i-preserved : goal.loop-i-preserved

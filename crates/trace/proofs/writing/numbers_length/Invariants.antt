@@ -1,9 +1,5 @@
-use Prim.Native.Nat.{◌≤◌, ◌<◌, ◌*◌, ◌-◌}
-use mathlib.Core.Path.{◌≡◌}
-use native.Mathlib.Omega.{arith}
-use lib.ListN.{length, get_or}
-use borrow.Author.Rules.{rules}
-use Rattle.number.proofs.SpliceLaws.{bytes_most, BytesCounted, counted_none, counted_more, counted_end}
+use Prim.Native.Nat.{◌≤◌, ◌*◌, ◌-◌}
+use Rattle.number.proofs.SpliceLaws.{BytesCounted}
 use Rattle.trace.proofs.writing.numbers_length.Given as goal
 
 abbrev pub invariant-loop-i : goal.invariant-loop-i

@@ -1,12 +1,6 @@
-use Prim.Native.Nat.{◌≤◌, ◌+◌, ◌-◌}
-use mathlib.Core.Path.{◌≡◌, ◌∙◌}
-use native.Mathlib.Omega.{arith}
-use native.Mathlib.Numerals.{add-one}
-use lib.ListN.{length, take, get_or}
-use lib.Seq.{take-suc}
-use borrow.Author.Rules.{rules}
-use Rattle.number.specs.Number.{bytes_of, number_bytes}
-use Rattle.number.proofs.SpliceLaws.{put-at, NumbersPut, put_none, put-length, put_one, bytes_room}
+use Prim.Native.Nat.{◌≤◌, ◌-◌}
+use lib.ListN.{take}
+use Rattle.number.proofs.SpliceLaws.{NumbersPut}
 use Rattle.trace.proofs.writing.put_numbers.Given as goal
 
 abbrev pub invariant-loop-i : goal.invariant-loop-i

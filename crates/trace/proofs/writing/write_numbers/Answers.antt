@@ -4,7 +4,6 @@ use Rattle.number.specs.Reply.{accept}
 use Rattle.number.specs.Number.{bytes_of}
 use Rattle.trace.specs.Internal.{numbers_listed}
 use Rattle.number.proofs.SpliceLaws.{wrote-short, wrote-fits}
-use borrow.Author.Rules.{rules}
 use Rattle.trace.proofs.writing.write_numbers.Goals as goal
 
 pub returns-then-out-length : goal.returns-then-out-length

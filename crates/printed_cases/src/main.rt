@@ -35,7 +35,13 @@ const MEASURE: usize = 6;
 const REPLAY: usize = 7;
 
 // What a command prints of both files' bytes.
-fn look(out: &mut impl Write, command: usize, numbers: [u8; 4], table: &[u8], trace: &[u8]) -> io::Result<()> {
+fn look(
+    out: &mut impl Write,
+    command: usize,
+    numbers: [u8; 4],
+    table: &[u8],
+    trace: &[u8],
+) -> io::Result<()> {
     match command {
         PRINT => texts::print(out, table, trace),
         PRINT_SHORT => texts::print_short(out, table, trace),
@@ -46,7 +52,14 @@ fn look(out: &mut impl Write, command: usize, numbers: [u8; 4], table: &[u8], tr
 }
 
 // The trace is the first `length` bytes.
-fn look_at_trace(out: &mut impl Write, command: usize, numbers: [u8; 4], table: &[u8], trace: &[u8], length: usize) -> io::Result<()> {
+fn look_at_trace(
+    out: &mut impl Write,
+    command: usize,
+    numbers: [u8; 4],
+    table: &[u8],
+    trace: &[u8],
+    length: usize,
+) -> io::Result<()> {
     if length < trace.len() {
         return look(out, command, numbers, table, &trace[..length]);
     }
@@ -54,10 +67,24 @@ fn look_at_trace(out: &mut impl Write, command: usize, numbers: [u8; 4], table: 
 }
 
 // Each file is the first bytes of its buffer.
-fn look_at_both(out: &mut impl Write, command: usize, numbers: [u8; 4], table: &[u8], trace: &[u8], lengths: Lengths) -> io::Result<()> {
+fn look_at_both(
+    out: &mut impl Write,
+    command: usize,
+    numbers: [u8; 4],
+    table: &[u8],
+    trace: &[u8],
+    lengths: Lengths,
+) -> io::Result<()> {
     if lengths.table < table.len() {
         let length = lengths.table;
-        return look_at_trace(out, command, numbers, &table[..length], trace, lengths.trace);
+        return look_at_trace(
+            out,
+            command,
+            numbers,
+            &table[..length],
+            trace,
+            lengths.trace,
+        );
     }
     look_at_trace(out, command, numbers, table, trace, lengths.trace)
 }
@@ -68,7 +95,9 @@ fn first_four(bytes: Bytes) -> [u8; 4] {
 }
 
 // A command and the bytes behind it.
-fn obey(out: &mut impl Write, command: usize,
+fn obey(
+    out: &mut impl Write,
+    command: usize,
     bytes: Bytes,
     table: &mut [u8],
     trace: &mut [u8],
@@ -98,7 +127,13 @@ fn obey(out: &mut impl Write, command: usize,
     }
 }
 
-fn one_line(out: &mut impl Write, line: &[u8], table: &mut [u8], trace: &mut [u8], lengths: Lengths) -> io::Result<Lengths> {
+fn one_line(
+    out: &mut impl Write,
+    line: &[u8],
+    table: &mut [u8],
+    trace: &mut [u8],
+    lengths: Lengths,
+) -> io::Result<Lengths> {
     show::words(out, line)?;
     if is_text(line) {
         return Ok(lengths);
@@ -139,10 +174,5 @@ fn main(rt: HostRuntime) -> io::Result<()> {
     let count = read_full(&mut rt.stdin(), &mut text);
     let mut table = file_buffer();
     let mut trace = file_buffer();
-    follow(
-        &mut rt.stdout(),
-        &text[..count],
-        &mut table,
-        &mut trace,
-    )
+    follow(&mut rt.stdout(), &text[..count], &mut table, &mut trace)
 }

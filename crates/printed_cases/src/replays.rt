@@ -80,7 +80,12 @@ fn replay_on(out: &mut impl Write, lengths: [u8; 4], table: Table, trace: &[u8])
 }
 
 // The lengths are those of the memory, the answers, the marks of given values, and the values.
-pub(crate) fn replay(out: &mut impl Write, lengths: [u8; 4], table: &[u8], trace: &[u8]) -> io::Result<()> {
+pub(crate) fn replay(
+    out: &mut impl Write,
+    lengths: [u8; 4],
+    table: &[u8],
+    trace: &[u8],
+) -> io::Result<()> {
     let read = read_table(table);
     let held = read.table;
     replay_on(out, lengths, held, trace)

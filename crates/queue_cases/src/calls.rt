@@ -26,7 +26,13 @@ fn handed_on(out: &mut impl Write, before: Queue, outcome: Outcome) -> io::Resul
     Ok(next)
 }
 
-fn plain(out: &mut impl Write, mut run: Run, command: usize, first: u32, second: u32) -> io::Result<Run> {
+fn plain(
+    out: &mut impl Write,
+    mut run: Run,
+    command: usize,
+    first: u32,
+    second: u32,
+) -> io::Result<Run> {
     let queue = run.queue;
     let outcome = plain_outcome(queue, command, first, second);
     let next = handed_on(out, queue, outcome)?;
@@ -78,7 +84,13 @@ fn write(out: &mut impl Write, mut run: Run, serial: u32) -> io::Result<Run> {
     Ok(run)
 }
 
-pub(crate) fn call(out: &mut impl Write, run: Run, command: usize, first: u32, second: u32) -> io::Result<Run> {
+pub(crate) fn call(
+    out: &mut impl Write,
+    run: Run,
+    command: usize,
+    first: u32,
+    second: u32,
+) -> io::Result<Run> {
     match command {
         command::SERVE => serve(out, run, first),
         command::WRITE => write(out, run, first),

@@ -153,7 +153,13 @@ fn sound(out: &mut impl Write, run: Run) -> io::Result<Run> {
 }
 
 // The commands that are neither a call on the queue nor a setting of its record.
-pub(crate) fn other(out: &mut impl Write, run: Run, command: usize, numbers: [u32; 8], count: usize) -> io::Result<Run> {
+pub(crate) fn other(
+    out: &mut impl Write,
+    run: Run,
+    command: usize,
+    numbers: [u32; 8],
+    count: usize,
+) -> io::Result<Run> {
     match command {
         command::OPEN => open(out, run, numbers),
         command::MEMORY => Ok(set_memory(run, numbers, count)),

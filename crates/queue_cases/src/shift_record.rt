@@ -84,7 +84,12 @@ fn page_in(out: &mut impl Write, kept: ShiftRecord, bytes: &mut [u8]) -> io::Res
 }
 
 // The page in a buffer that is the first `length` bytes. No letter of the shapes stands for 1,400, so a longer one is refused here.
-fn page_front(out: &mut impl Write, kept: ShiftRecord, bytes: &mut [u8], length: usize) -> io::Result<()> {
+fn page_front(
+    out: &mut impl Write,
+    kept: ShiftRecord,
+    bytes: &mut [u8],
+    length: usize,
+) -> io::Result<()> {
     if length <= bytes.len() {
         return page_in(out, kept, &mut bytes[..length]);
     }
@@ -98,7 +103,12 @@ fn page(out: &mut impl Write, run: Run, length: u32) -> io::Result<Run> {
     Ok(run)
 }
 
-pub(crate) fn obey(out: &mut impl Write, run: Run, command: usize, numbers: [u32; 8]) -> io::Result<Run> {
+pub(crate) fn obey(
+    out: &mut impl Write,
+    run: Run,
+    command: usize,
+    numbers: [u32; 8],
+) -> io::Result<Run> {
     match command {
         command::TAKE_RECORDED => take(out, run, numbers[0]),
         command::RECORDED => record(out, run, numbers[0], numbers[1]),

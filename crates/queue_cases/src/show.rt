@@ -33,7 +33,12 @@ pub(crate) fn same(out: &mut impl Write, text: &[u8], is_same: bool) -> io::Resu
 }
 
 // A number that is there or not.
-pub(crate) fn optional(out: &mut impl Write, text: &[u8], there: bool, value: u64) -> io::Result<()> {
+pub(crate) fn optional(
+    out: &mut impl Write,
+    text: &[u8],
+    there: bool,
+    value: u64,
+) -> io::Result<()> {
     words(out, text)?;
     if there {
         return number(out, b" ", value);
@@ -85,7 +90,12 @@ fn side_line(out: &mut impl Write, is_load: bool, held: Side) -> io::Result<()> 
 }
 
 // A side and its entries, from the oldest. A record made by hand may say that it holds more than there are places.
-pub(crate) fn side(out: &mut impl Write, is_load: bool, held: Side, entries: [u64; 64]) -> io::Result<()> {
+pub(crate) fn side(
+    out: &mut impl Write,
+    is_load: bool,
+    held: Side,
+    entries: [u64; 64],
+) -> io::Result<()> {
     side_line(out, is_load, held)?;
     let mut i: usize = 0;
     while i < 64 {

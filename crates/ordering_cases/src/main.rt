@@ -1,11 +1,16 @@
 // Cases of the crate `ordering`, as a script on standard input: a command to a line, echoed with what came back. The script's own
 // first lines say what each command does.
+
+#![tactic(auto)]
+
 mod pairs;
 mod show;
 
-use libc::STDIN_FILENO;
 use ordering::{Precedences, order};
 use script::{Bytes, Numbers, bytes_of, is_text, next_byte, numbers_of, place, takes};
+use std::io;
+use std::io::Write;
+use streams::{large_buffer, read_full};
 
 // The names of the commands, in the order of the numbers below: first those that take decimal numbers, then those that take bytes.
 const NAMES: [u8; 44] = *b"far count order small pairs more-pairs chain";
@@ -34,26 +39,31 @@ fn word(value: u64) -> u32 {
 }
 
 // A command and the numbers behind it.
-fn obey_numbers(mut kept: Precedences, command: usize, found: Numbers) -> Precedences {
+fn obey_numbers(
+    out: &mut impl Write,
+    mut kept: Precedences,
+    command: usize,
+    found: Numbers,
+) -> io::Result<Precedences> {
     if !takes(&SHAPES, command, found) {
-        show::words(b" ?");
-        return kept;
+        show::words(out, b" ?")?;
+        return Ok(kept);
     }
     let numbers = found.values;
     match command {
-        FAR => pairs::set(
+        FAR => Ok(pairs::set(
             kept,
             (numbers[0] % 64) as usize,
             word(numbers[1]),
             word(numbers[2]),
-        ),
+        )),
         COUNT => {
             kept.count = word(numbers[0]);
-            kept
+            Ok(kept)
         }
         _ => {
-            show::ordered(order(word(numbers[0]), kept));
-            kept
+            show::ordered(out, order(word(numbers[0]), kept))?;
+            Ok(kept)
         }
     }
 }
@@ -70,58 +80,64 @@ fn takes_bytes(command: usize, count: usize) -> bool {
 }
 
 // A command and the bytes behind it.
-fn obey_bytes(kept: Precedences, command: usize, bytes: Bytes) -> Precedences {
+fn obey_bytes(
+    out: &mut impl Write,
+    kept: Precedences,
+    command: usize,
+    bytes: Bytes,
+) -> io::Result<Precedences> {
     if !bytes.right {
-        show::words(b" ?");
-        return kept;
+        show::words(out, b" ?")?;
+        return Ok(kept);
     }
     if !takes_bytes(command, bytes.count) {
-        show::words(b" ?");
-        return kept;
+        show::words(out, b" ?")?;
+        return Ok(kept);
     }
     let values = bytes.values;
     match command {
         SMALL => {
-            show::ordered(order(values[0] as u32, pairs::of_digits(bytes)));
-            kept
+            show::ordered(out, order(values[0] as u32, pairs::of_digits(bytes)))?;
+            Ok(kept)
         }
-        PAIRS => pairs::replace(kept, bytes),
-        MORE_PAIRS => pairs::repeat(kept, bytes),
-        _ => pairs::chain(kept, values[0], values[1]),
+        PAIRS => Ok(pairs::replace(kept, bytes)),
+        MORE_PAIRS => Ok(pairs::repeat(kept, bytes)),
+        _ => Ok(pairs::chain(kept, values[0], values[1])),
     }
 }
 
-fn one_line(kept: Precedences, line: &[u8]) -> Precedences {
-    show::words(line);
+fn one_line(out: &mut impl Write, kept: Precedences, line: &[u8]) -> io::Result<Precedences> {
+    show::words(out, line)?;
     if is_text(line) {
-        return kept;
+        return Ok(kept);
     }
     let end = next_byte(line, 0, b' ');
     let name = &line[..end];
     let command = place(&NAMES, name);
     if command < SMALL {
-        return obey_numbers(kept, command, numbers_of(line, end));
+        return obey_numbers(out, kept, command, numbers_of(line, end));
     }
-    obey_bytes(kept, command, bytes_of(line, end))
+    obey_bytes(out, kept, command, bytes_of(line, end))
 }
 
 // Every line of the script, in turn.
-fn follow(text: &[u8]) {
+fn follow(out: &mut impl Write, text: &[u8]) -> io::Result<()> {
     let mut kept = pairs::none();
     let mut at: usize = 0;
     while at < text.len() {
         let end = next_byte(text, at, b'\n');
-        kept = one_line(kept, &text[at..end]);
-        show::words(b"\n");
+        kept = one_line(out, kept, &text[at..end])?;
+        show::words(out, b"\n")?;
         if end == text.len() {
-            return;
+            return Ok(());
         }
         at = end + 1;
     }
+    Ok(())
 }
 
-fn main() {
-    let mut text = io::large_buffer();
-    let count = io::read_full(STDIN_FILENO, &mut text);
-    follow(&text[..count]);
+fn main(rt: HostRuntime) -> io::Result<()> {
+    let mut text = large_buffer();
+    let count = read_full(&mut rt.stdin(), &mut text);
+    follow(&mut rt.stdout(), &text[..count])
 }

@@ -1,14 +1,19 @@
 // Cases of the crates `printed` and `replay`, as a script on standard input: a command to a line, echoed with what came back. The
 // script's own first lines say what each command does.
+
+#![tactic(auto)]
+
 mod files;
 mod replays;
 mod show;
 mod texts;
 
 use crate::files::Lengths;
-use libc::STDIN_FILENO;
 use printed::files::MOST_BYTES;
 use script::{Bytes, bytes_of, is_text, next_byte, place};
+use std::io;
+use std::io::Write;
+use streams::{large_buffer, read_full};
 
 // The names of the commands, in the order of the numbers below.
 const NAMES: [u8; 66] = *b"table trace more-table more-trace print print-short measure replay";
@@ -30,31 +35,58 @@ const MEASURE: usize = 6;
 const REPLAY: usize = 7;
 
 // What a command prints of both files' bytes.
-fn look(command: usize, numbers: [u8; 4], table: &[u8], trace: &[u8]) {
+fn look(
+    out: &mut impl Write,
+    command: usize,
+    numbers: [u8; 4],
+    table: &[u8],
+    trace: &[u8],
+) -> io::Result<()> {
     match command {
-        PRINT => texts::print(table, trace),
-        PRINT_SHORT => texts::print_short(table, trace),
-        MEASURE => texts::measure(table, trace),
-        REPLAY => replays::replay(numbers, table, trace),
-        _ => show::words(b" ?"),
+        PRINT => texts::print(out, table, trace),
+        PRINT_SHORT => texts::print_short(out, table, trace),
+        MEASURE => texts::measure(out, table, trace),
+        REPLAY => replays::replay(out, numbers, table, trace),
+        _ => show::words(out, b" ?"),
     }
 }
 
 // The trace is the first `length` bytes.
-fn look_at_trace(command: usize, numbers: [u8; 4], table: &[u8], trace: &[u8], length: usize) {
+fn look_at_trace(
+    out: &mut impl Write,
+    command: usize,
+    numbers: [u8; 4],
+    table: &[u8],
+    trace: &[u8],
+    length: usize,
+) -> io::Result<()> {
     if length < trace.len() {
-        return look(command, numbers, table, &trace[..length]);
+        return look(out, command, numbers, table, &trace[..length]);
     }
-    look(command, numbers, table, trace)
+    look(out, command, numbers, table, trace)
 }
 
 // Each file is the first bytes of its buffer.
-fn look_at_both(command: usize, numbers: [u8; 4], table: &[u8], trace: &[u8], lengths: Lengths) {
+fn look_at_both(
+    out: &mut impl Write,
+    command: usize,
+    numbers: [u8; 4],
+    table: &[u8],
+    trace: &[u8],
+    lengths: Lengths,
+) -> io::Result<()> {
     if lengths.table < table.len() {
         let length = lengths.table;
-        return look_at_trace(command, numbers, &table[..length], trace, lengths.trace);
+        return look_at_trace(
+            out,
+            command,
+            numbers,
+            &table[..length],
+            trace,
+            lengths.trace,
+        );
     }
-    look_at_trace(command, numbers, table, trace, lengths.trace)
+    look_at_trace(out, command, numbers, table, trace, lengths.trace)
 }
 
 fn first_four(bytes: Bytes) -> [u8; 4] {
@@ -64,64 +96,72 @@ fn first_four(bytes: Bytes) -> [u8; 4] {
 
 // A command and the bytes behind it.
 fn obey(
+    out: &mut impl Write,
     command: usize,
     bytes: Bytes,
     table: &mut [u8],
     trace: &mut [u8],
     mut lengths: Lengths,
-) -> Lengths {
+) -> io::Result<Lengths> {
     match command {
         TABLE => {
             lengths.table = files::replace(bytes, table);
-            lengths
+            Ok(lengths)
         }
         TRACE => {
             lengths.trace = files::replace(bytes, trace);
-            lengths
+            Ok(lengths)
         }
         MORE_TABLE => {
             lengths.table = files::repeat(bytes, table, lengths.table);
-            lengths
+            Ok(lengths)
         }
         MORE_TRACE => {
             lengths.trace = files::repeat(bytes, trace, lengths.trace);
-            lengths
+            Ok(lengths)
         }
         _ => {
-            look_at_both(command, first_four(bytes), table, trace, lengths);
-            lengths
+            look_at_both(out, command, first_four(bytes), table, trace, lengths)?;
+            Ok(lengths)
         }
     }
 }
 
-fn one_line(line: &[u8], table: &mut [u8], trace: &mut [u8], lengths: Lengths) -> Lengths {
-    show::words(line);
+fn one_line(
+    out: &mut impl Write,
+    line: &[u8],
+    table: &mut [u8],
+    trace: &mut [u8],
+    lengths: Lengths,
+) -> io::Result<Lengths> {
+    show::words(out, line)?;
     if is_text(line) {
-        return lengths;
+        return Ok(lengths);
     }
     let end = next_byte(line, 0, b' ');
     let bytes = bytes_of(line, end);
     if !bytes.right {
-        show::words(b" ?");
-        return lengths;
+        show::words(out, b" ?")?;
+        return Ok(lengths);
     }
     let word = &line[..end];
-    obey(place(&NAMES, word), bytes, table, trace, lengths)
+    obey(out, place(&NAMES, word), bytes, table, trace, lengths)
 }
 
 // Every line of the script, in turn.
-fn follow(text: &[u8], table: &mut [u8], trace: &mut [u8]) {
+fn follow(out: &mut impl Write, text: &[u8], table: &mut [u8], trace: &mut [u8]) -> io::Result<()> {
     let mut lengths = Lengths { table: 0, trace: 0 };
     let mut at: usize = 0;
     while at < text.len() {
         let end = next_byte(text, at, b'\n');
-        lengths = one_line(&text[at..end], table, trace, lengths);
-        show::words(b"\n");
+        lengths = one_line(out, &text[at..end], table, trace, lengths)?;
+        show::words(out, b"\n")?;
         if end == text.len() {
-            return;
+            return Ok(());
         }
         at = end + 1;
     }
+    Ok(())
 }
 
 // One byte more than a file may have.
@@ -129,10 +169,10 @@ fn file_buffer() -> [u8; MOST_BYTES + 1] {
     [0; MOST_BYTES + 1]
 }
 
-fn main() {
-    let mut text = io::large_buffer();
-    let count = io::read_full(STDIN_FILENO, &mut text);
+fn main(rt: HostRuntime) -> io::Result<()> {
+    let mut text = large_buffer();
+    let count = read_full(&mut rt.stdin(), &mut text);
     let mut table = file_buffer();
     let mut trace = file_buffer();
-    follow(&text[..count], &mut table, &mut trace);
+    follow(&mut rt.stdout(), &text[..count], &mut table, &mut trace)
 }

@@ -4,6 +4,8 @@ ghost use Rattle.std.specs.Prelude.{◌≤◌};
 use crate::show;
 use counts::Counts;
 use replay::Replayed;
+use std::io;
+use std::io::Write;
 use table::Table;
 use table::read::read_table;
 
@@ -18,12 +20,12 @@ fn within(value: u8, most: usize) -> usize
     most
 }
 
-fn show_replayed(played: Replayed) {
+fn show_replayed(out: &mut impl Write, played: Replayed) -> io::Result<()> {
     let counts = played.counts;
-    show::number(b": ", played.answer as u64);
-    show::number(b", events ", played.events as u64);
-    show::number(b", loads ", counts.loads as u64);
-    show::number(b" forwarded ", counts.forwarded as u64);
+    show::number(out, b": ", played.answer as u64)?;
+    show::number(out, b", events ", played.events as u64)?;
+    show::number(out, b", loads ", counts.loads as u64)?;
+    show::number(out, b" forwarded ", counts.forwarded as u64)
 }
 
 // Lends the first words of the memory, and the first places of each buffer, as the lengths say.
@@ -56,7 +58,7 @@ fn replay_in(
 }
 
 // Before, the memory's words are 9, the bytes of both buffers 238 and the values 7777; the counts are 5 and 3.
-fn replay_on(lengths: [u8; 4], table: Table, trace: &[u8]) {
+fn replay_on(out: &mut impl Write, lengths: [u8; 4], table: Table, trace: &[u8]) -> io::Result<()> {
     let mut memory = [9u32; 8];
     let mut answers = [238u8; 14];
     let mut given = [238u8; 14];
@@ -70,16 +72,21 @@ fn replay_on(lengths: [u8; 4], table: Table, trace: &[u8]) {
         &mut given,
         &mut values,
     );
-    show_replayed(played);
-    show::numbers(b"\n  memory", &memory);
-    show::bytes(b"\n  answers", &answers);
-    show::bytes(b"\n  given", &given);
-    show::numbers(b"\n  values", &values);
+    show_replayed(out, played)?;
+    show::numbers(out, b"\n  memory", &memory)?;
+    show::bytes(out, b"\n  answers", &answers)?;
+    show::bytes(out, b"\n  given", &given)?;
+    show::numbers(out, b"\n  values", &values)
 }
 
 // The lengths are those of the memory, the answers, the marks of given values, and the values.
-pub(crate) fn replay(lengths: [u8; 4], table: &[u8], trace: &[u8]) {
+pub(crate) fn replay(
+    out: &mut impl Write,
+    lengths: [u8; 4],
+    table: &[u8],
+    trace: &[u8],
+) -> io::Result<()> {
     let read = read_table(table);
     let held = read.table;
-    replay_on(lengths, held, trace)
+    replay_on(out, lengths, held, trace)
 }

@@ -2,6 +2,8 @@
 use crate::show;
 use number::BytesWritten;
 use printed::text::MOST_TEXT;
+use std::io;
+use std::io::Write;
 
 fn text_buffer() -> [u8; MOST_TEXT] {
     [0xEE; MOST_TEXT]
@@ -13,46 +15,46 @@ fn short_buffer() -> [u8; MOST_TEXT - 1] {
 }
 
 // Says whether the bytes from a place on are still EE.
-fn show_kept(out: &[u8], from: usize) {
+fn show_kept(out: &mut impl Write, buffer: &[u8], from: usize) -> io::Result<()> {
     let mut i = from;
-    while i < out.len() {
-        if out[i] != 0xEE {
-            return show::words(b", the rest changed");
+    while i < buffer.len() {
+        if buffer[i] != 0xEE {
+            return show::words(out, b", the rest changed");
         }
         i += 1;
     }
-    show::words(b", the rest kept");
+    show::words(out, b", the rest kept")
 }
 
 // What came back: the refusal, or the text's length and whether the rest of the buffer is kept, and then the text.
-fn show_text(out: &[u8], written: BytesWritten) {
+fn show_text(out: &mut impl Write, buffer: &[u8], written: BytesWritten) -> io::Result<()> {
     match written {
         BytesWritten::Unwritten(refusal) => {
-            show::number(b": ", refusal as u64);
-            show_kept(out, 0);
+            show::number(out, b": ", refusal as u64)?;
+            show_kept(out, buffer, 0)
         }
         BytesWritten::Bytes(n) => {
-            show::number(b": bytes ", n as u64);
-            show_kept(out, n);
-            show::words(b"\n");
-            if n < out.len() {
-                return show::words(&out[..n]);
+            show::number(out, b": bytes ", n as u64)?;
+            show_kept(out, buffer, n)?;
+            show::words(out, b"\n")?;
+            if n < buffer.len() {
+                return show::words(out, &buffer[..n]);
             }
-            show::words(out);
+            show::words(out, buffer)
         }
     }
 }
 
-pub(crate) fn print(table: &[u8], trace: &[u8]) {
-    let mut out = text_buffer();
-    let written = printed::text::print(table, trace, &mut out);
-    show_text(&out, written)
+pub(crate) fn print(out: &mut impl Write, table: &[u8], trace: &[u8]) -> io::Result<()> {
+    let mut buffer = text_buffer();
+    let written = printed::text::print(table, trace, &mut buffer);
+    show_text(out, &buffer, written)
 }
 
-pub(crate) fn print_short(table: &[u8], trace: &[u8]) {
-    let mut out = short_buffer();
-    let written = printed::text::print(table, trace, &mut out);
-    show_text(&out, written)
+pub(crate) fn print_short(out: &mut impl Write, table: &[u8], trace: &[u8]) -> io::Result<()> {
+    let mut buffer = short_buffer();
+    let written = printed::text::print(table, trace, &mut buffer);
+    show_text(out, &buffer, written)
 }
 
 // Each byte in turn, added to 31 times what was there, modulo 2^32.
@@ -71,25 +73,26 @@ fn mixed(sum: u64, byte: u8) -> u64 {
 }
 
 // The checksum of the first n bytes, and the last 48 of them.
-fn show_end(out: &[u8], n: usize) {
-    if out.len() < n {
-        return;
+fn show_end(out: &mut impl Write, buffer: &[u8], n: usize) -> io::Result<()> {
+    if buffer.len() < n {
+        return Ok(());
     }
-    show::number(b" checksum ", checksum(&out[..n]));
+    show::number(out, b" checksum ", checksum(&buffer[..n]))?;
     if n < 48 {
-        return;
+        return Ok(());
     }
     let from = n - 48;
-    show::words(b" and at the end\n");
-    show::words(&out[from..n]);
+    show::words(out, b" and at the end\n")?;
+    show::words(out, &buffer[from..n])
 }
 
 // A text that is too long to be stored: its length, its checksum and its end.
-pub(crate) fn measure(table: &[u8], trace: &[u8]) {
-    let mut out = text_buffer();
-    let written = printed::text::print(table, trace, &mut out);
+pub(crate) fn measure(out: &mut impl Write, table: &[u8], trace: &[u8]) -> io::Result<()> {
+    let mut buffer = text_buffer();
+    let written = printed::text::print(table, trace, &mut buffer);
     if let BytesWritten::Bytes(n) = written {
-        show::number(b": bytes ", n as u64);
-        show_end(&out, n);
+        show::number(out, b": bytes ", n as u64)?;
+        return show_end(out, &buffer, n);
     }
+    Ok(())
 }

@@ -1,8 +1,14 @@
 // What the programs share: how the files of the current folder are read.
+
+#![tactic(auto)]
+
 ghost use Rattle.std.specs.Prelude.{◌≡◌, ◌+◌, ◌≤◌, length, replicate};
 ghost use Rattle.printed.specs.Files.{most_bytes};
 
 use printed::files::MOST_BYTES;
+use std::fs::File;
+use std::rt::Files;
+use streams::read_full;
 
 // One byte more than a file may have, so that a longer file is seen to be too long.
 pub fn file_buffer() -> [u8; MOST_BYTES + 1]
@@ -11,15 +17,22 @@ pub fn file_buffer() -> [u8; MOST_BYTES + 1]
     [0; MOST_BYTES + 1]
 }
 
-// The front of a file, as much of it as the buffer holds. A file that can't be opened counts as empty.
-pub fn read_file(name: &[u8], into: &mut [u8]) -> usize
+// The front of a file, as much of it as the buffer holds. A file that can't be opened counts as empty, and so does one whose name is
+// not UTF-8, since std opens no such name.
+pub fn read_file(rt: &impl Files, name: &[u8], into: &mut [u8]) -> usize
     ensures { result ≤ length into.old }
 {
-    let fd = os::open_read(name);
-    if fd < 0 {
-        return 0;
+    match str::from_utf8(name) {
+        Ok(path) => read_path(rt, path, into),
+        Err(_) => 0,
     }
-    let n = io::read_full(fd, into);
-    libc::close(fd);
-    n
+}
+
+fn read_path(rt: &impl Files, path: &str, into: &mut [u8]) -> usize
+    ensures { result ≤ length into.old }
+{
+    match File::open(rt, path) {
+        Ok(mut file) => read_full(&mut file, into),
+        Err(_) => 0,
+    }
 }

@@ -3,6 +3,8 @@ use crate::run::Run;
 use crate::{command, ready, same, show};
 use counts::Counts;
 use queue::{Counted, Kind, Outcome, Queue};
+use std::io;
+use std::io::Write;
 
 // A call that is lent nothing.
 fn plain_outcome(queue: Queue, command: usize, first: u32, second: u32) -> Outcome {
@@ -16,20 +18,26 @@ fn plain_outcome(queue: Queue, command: usize, first: u32, second: u32) -> Outco
 }
 
 // Prints what a call handed back, and hands on the queue that follows.
-fn handed_on(before: Queue, outcome: Outcome) -> Queue {
+fn handed_on(out: &mut impl Write, before: Queue, outcome: Outcome) -> io::Result<Queue> {
     let value = outcome.value;
-    show::answer(outcome.answer, value);
+    show::answer(out, outcome.answer, value)?;
     let next = outcome.queue;
-    show::same(b"", same::same_queue(before, next));
-    next
+    show::same(out, b"", same::same_queue(before, next))?;
+    Ok(next)
 }
 
-fn plain(mut run: Run, command: usize, first: u32, second: u32) -> Run {
+fn plain(
+    out: &mut impl Write,
+    mut run: Run,
+    command: usize,
+    first: u32,
+    second: u32,
+) -> io::Result<Run> {
     let queue = run.queue;
     let outcome = plain_outcome(queue, command, first, second);
-    let next = handed_on(queue, outcome);
+    let next = handed_on(out, queue, outcome)?;
     run.queue = next;
-    run
+    Ok(run)
 }
 
 // Serves in the first `length` words.
@@ -40,7 +48,7 @@ fn served(queue: Queue, memory: &[u32], length: usize, counts: Counts, serial: u
     queue.serve_counted(memory, counts, serial)
 }
 
-fn serve(mut run: Run, serial: u32) -> Run {
+fn serve(out: &mut impl Write, mut run: Run, serial: u32) -> io::Result<Run> {
     let queue = run.queue;
     let memory = run.memory;
     let held = run.counts;
@@ -48,12 +56,12 @@ fn serve(mut run: Run, serial: u32) -> Run {
     let value = counted.value;
     let next = counted.queue;
     let counts = counted.counts;
-    show::answer(counted.answer, value);
-    show::same(b"", same::same_queue(queue, next));
-    show::same(b" counts", same::same_counts(held, counts));
+    show::answer(out, counted.answer, value)?;
+    show::same(out, b"", same::same_queue(queue, next))?;
+    show::same(out, b" counts", same::same_counts(held, counts))?;
     run.queue = next;
     run.counts = counts;
-    run
+    Ok(run)
 }
 
 // Writes in the first `length` words.
@@ -64,34 +72,40 @@ fn written(queue: Queue, memory: &mut [u32], length: usize, serial: u32) -> Outc
     queue.write(memory, serial)
 }
 
-fn write(mut run: Run, serial: u32) -> Run {
+fn write(out: &mut impl Write, mut run: Run, serial: u32) -> io::Result<Run> {
     let queue = run.queue;
     let held = run.memory;
     let mut memory = held;
     let outcome = written(queue, &mut memory, run.length, serial);
-    let next = handed_on(queue, outcome);
-    show::same(b" memory", same::same_memory(held, memory));
+    let next = handed_on(out, queue, outcome)?;
+    show::same(out, b" memory", same::same_memory(held, memory))?;
     run.queue = next;
     run.memory = memory;
-    run
+    Ok(run)
 }
 
-pub(crate) fn call(run: Run, command: usize, first: u32, second: u32) -> Run {
+pub(crate) fn call(
+    out: &mut impl Write,
+    run: Run,
+    command: usize,
+    first: u32,
+    second: u32,
+) -> io::Result<Run> {
     match command {
-        command::SERVE => serve(run, first),
-        command::WRITE => write(run, first),
-        command::READY_LOADS => ready::ready(run, Kind::Load, first),
-        command::READY_STORES => ready::ready(run, Kind::Store, first),
-        _ => plain(run, command, first, second),
+        command::SERVE => serve(out, run, first),
+        command::WRITE => write(out, run, first),
+        command::READY_LOADS => ready::ready(out, run, Kind::Load, first),
+        command::READY_STORES => ready::ready(out, run, Kind::Store, first),
+        _ => plain(out, run, command, first, second),
     }
 }
 
 // The nine calls, with 0 for every number, each on the record as it stands; the record stays as it is.
-pub(crate) fn each(run: Run) -> Run {
+pub(crate) fn each(out: &mut impl Write, run: Run) -> io::Result<Run> {
     let mut command: usize = 0;
     while command < command::EACH {
-        call(run, command, 0, 0);
+        call(out, run, command, 0, 0)?;
         command += 1;
     }
-    run
+    Ok(run)
 }

@@ -1,6 +1,8 @@
 // Cases of the crates `queue` and `shift`, as a script on standard input: a command to a line, echoed with what came back. The
 // script's own first lines say what each command does.
 
+#![tactic(auto)]
+
 mod calls;
 mod command;
 mod packing;
@@ -12,8 +14,10 @@ mod shift_record;
 mod show;
 
 use crate::run::Run;
-use libc::STDIN_FILENO;
 use script::{Numbers, is_text};
+use std::io;
+use std::io::Write;
+use streams::{large_buffer, read_full};
 
 // That a number fits 32 bits is tested before (`command::takes`).
 fn word(value: u64) -> u32 {
@@ -34,68 +38,69 @@ fn words(n: [u64; 8]) -> [u32; 8] {
 }
 
 // What the command does, once its numbers are as many as it takes.
-fn obey(run: Run, command: usize, arguments: Numbers) -> Run {
+fn obey(out: &mut impl Write, run: Run, command: usize, arguments: Numbers) -> io::Result<Run> {
     if !command::takes(command, arguments) {
-        show::words(b" ?");
-        return run;
+        show::words(out, b" ?")?;
+        return Ok(run);
     }
     let values = arguments.values;
     let numbers = words(values);
     if command < command::EACH {
-        return calls::call(run, command, numbers[0], numbers[1]);
+        return calls::call(out, run, command, numbers[0], numbers[1]);
     }
     if command == command::EACH {
-        return calls::each(run);
+        return calls::each(out, run);
     }
     if command < command::SET_LOAD_DEPTH {
-        return run::other(run, command, numbers, arguments.count);
+        return run::other(out, run, command, numbers, arguments.count);
     }
     if command < command::TAKE_RECORDED {
-        return records::set(run, command, numbers);
+        return Ok(records::set(run, command, numbers));
     }
-    shift_record::obey(run, command, numbers)
+    shift_record::obey(out, run, command, numbers)
 }
 
 // A line with a command.
-fn command_line(run: Run, line: &[u8]) -> Run {
+fn command_line(out: &mut impl Write, run: Run, line: &[u8]) -> io::Result<Run> {
     let end = script::next_byte(line, 0, b' ');
     let word = &line[..end];
     let command = command::named(word);
     if command == command::TABLE {
-        return run::read_table(run, script::bytes_of(line, end));
+        return run::read_table(out, run, script::bytes_of(line, end));
     }
-    obey(run, command, script::numbers_of(line, end))
+    obey(out, run, command, script::numbers_of(line, end))
 }
 
 // An empty line ends a case: nothing of it is held any more.
-fn one_line(run: Run, line: &[u8]) -> Run {
-    show::words(line);
+fn one_line(out: &mut impl Write, run: Run, line: &[u8]) -> io::Result<Run> {
+    show::words(out, line)?;
     if line.len() == 0 {
-        return run::fresh();
+        return Ok(run::fresh());
     }
     if is_text(line) {
-        return run;
+        return Ok(run);
     }
-    command_line(run, line)
+    command_line(out, run, line)
 }
 
 // Every line of the script, in turn.
-fn follow(text: &[u8]) {
+fn follow(out: &mut impl Write, text: &[u8]) -> io::Result<()> {
     let mut run = run::fresh();
     let mut at: usize = 0;
     while at < text.len() {
         let end = script::next_byte(text, at, b'\n');
-        run = one_line(run, &text[at..end]);
-        show::words(b"\n");
+        run = one_line(out, run, &text[at..end])?;
+        show::words(out, b"\n")?;
         if end == text.len() {
-            return;
+            return Ok(());
         }
         at = end + 1;
     }
+    Ok(())
 }
 
-fn main() {
-    let mut text = io::large_buffer();
-    let count = io::read_full(STDIN_FILENO, &mut text);
-    follow(&text[..count]);
+fn main(rt: HostRuntime) -> io::Result<()> {
+    let mut text = large_buffer();
+    let count = read_full(&mut rt.stdin(), &mut text);
+    follow(&mut rt.stdout(), &text[..count])
 }

@@ -3,6 +3,8 @@
 use crate::run::Run;
 use crate::{same, show};
 use queue::{Kind, Queue, Readied};
+use std::io;
+use std::io::Write;
 
 // A ready call in the first `count` numbers.
 fn readied(queue: Queue, kind: Kind, numbers: &mut [u32], count: usize) -> Readied {
@@ -13,24 +15,24 @@ fn readied(queue: Queue, kind: Kind, numbers: &mut [u32], count: usize) -> Readi
 }
 
 // Prints what a ready call handed back: its answer, how many serials, and whether the queue is the one handed in.
-fn show_readied(before: Queue, after: Readied) {
-    show::number(b": ", after.answer as u64);
-    show::optional(b"", after.answer == 0, after.count as u64);
+fn show_readied(out: &mut impl Write, before: Queue, after: Readied) -> io::Result<()> {
+    show::number(out, b": ", after.answer as u64)?;
+    show::optional(out, b"", after.answer == 0, after.count as u64)?;
     let next = after.queue;
-    show::same(b"", same::same_queue(before, next));
+    show::same(out, b"", same::same_queue(before, next))
 }
 
-fn ready_in(queue: Queue, kind: Kind, count: usize) -> Queue {
+fn ready_in(out: &mut impl Write, queue: Queue, kind: Kind, count: usize) -> io::Result<Queue> {
     let mut numbers = [7777u32; 80];
     let after = readied(queue, kind, &mut numbers, count);
-    show_readied(queue, after);
-    show::words(b" run");
-    show::front(&numbers, count);
-    after.queue
+    show_readied(out, queue, after)?;
+    show::words(out, b" run")?;
+    show::front(out, &numbers, count)?;
+    Ok(after.queue)
 }
 
-pub(crate) fn ready(mut run: Run, kind: Kind, count: u32) -> Run {
+pub(crate) fn ready(out: &mut impl Write, mut run: Run, kind: Kind, count: u32) -> io::Result<Run> {
     let queue = run.queue;
-    run.queue = ready_in(queue, kind, count as usize);
-    run
+    run.queue = ready_in(out, queue, kind, count as usize)?;
+    Ok(run)
 }

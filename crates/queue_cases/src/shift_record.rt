@@ -5,33 +5,35 @@ use number::BytesWritten;
 use shift::ShiftRecord;
 use shift::page::write_page;
 use shift::recording::{recorded, take_recorded};
+use std::io;
+use std::io::Write;
 
 // A few bytes more than a page has, so that a case can show what stays behind it.
 const MOST_BYTES: usize = 1400;
 
 // A take that keeps the record. What it hands back is held, refused or not.
-fn take(mut run: Run, port: u32) -> Run {
+fn take(out: &mut impl Write, mut run: Run, port: u32) -> io::Result<Run> {
     let queue = run.queue;
     let kept = run.kept;
     let taken = take_recorded(queue, kept, port);
     let value = taken.value;
     let next = taken.queue;
     let after = taken.kept;
-    show::answer(taken.answer, value);
-    show::same(b"", same::same_queue(queue, next));
-    show::same(b" record", same::same_record(kept, after));
+    show::answer(out, taken.answer, value)?;
+    show::same(out, b"", same::same_queue(queue, next))?;
+    show::same(out, b" record", same::same_record(kept, after))?;
     run.queue = next;
     run.kept = after;
-    run
+    Ok(run)
 }
 
 // The rule with no queue: only so can a case hand it a port that no table has.
-fn record(mut run: Run, port: u32, value: u32) -> Run {
+fn record(out: &mut impl Write, mut run: Run, port: u32, value: u32) -> io::Result<Run> {
     let kept = run.kept;
     let after = recorded(kept, port, value);
-    show::same(b":", same::same_record(kept, after));
+    show::same(out, b":", same::same_record(kept, after))?;
     run.kept = after;
-    run
+    Ok(run)
 }
 
 // One port's two numbers. That the port is at most 31 is tested before (`command::takes`), so the remainder does not change it.
@@ -62,45 +64,55 @@ fn untouched(out: &[u8]) -> bool {
 
 // The whole buffer stands below an accepted answer, with what lies behind the page. After a refusal it would be dots alone, and whether
 // it is so is said instead.
-fn show_page(out: &[u8], written: BytesWritten) {
+fn show_page(out: &mut impl Write, bytes: &[u8], written: BytesWritten) -> io::Result<()> {
     match written {
         BytesWritten::Bytes(count) => {
-            show::number(b": 0 wrote ", count as u64);
-            show::words(b"\n");
-            show::words(out);
+            show::number(out, b": 0 wrote ", count as u64)?;
+            show::words(out, b"\n")?;
+            show::words(out, bytes)
         }
         BytesWritten::Unwritten(refusal) => {
-            show::number(b": ", refusal as u64);
-            show::same(b"", untouched(out));
+            show::number(out, b": ", refusal as u64)?;
+            show::same(out, b"", untouched(bytes))
         }
     }
 }
 
-fn page_in(kept: ShiftRecord, out: &mut [u8]) {
-    let written = write_page(kept, out);
-    show_page(out, written);
+fn page_in(out: &mut impl Write, kept: ShiftRecord, bytes: &mut [u8]) -> io::Result<()> {
+    let written = write_page(kept, bytes);
+    show_page(out, bytes, written)
 }
 
 // The page in a buffer that is the first `length` bytes. No letter of the shapes stands for 1,400, so a longer one is refused here.
-fn page_front(kept: ShiftRecord, bytes: &mut [u8], length: usize) {
+fn page_front(
+    out: &mut impl Write,
+    kept: ShiftRecord,
+    bytes: &mut [u8],
+    length: usize,
+) -> io::Result<()> {
     if length <= bytes.len() {
-        return page_in(kept, &mut bytes[..length]);
+        return page_in(out, kept, &mut bytes[..length]);
     }
-    show::words(b" ?");
+    show::words(out, b" ?")
 }
 
-fn page(run: Run, length: u32) -> Run {
+fn page(out: &mut impl Write, run: Run, length: u32) -> io::Result<Run> {
     let kept = run.kept;
     let mut bytes = [b'.'; MOST_BYTES];
-    page_front(kept, &mut bytes, length as usize);
-    run
+    page_front(out, kept, &mut bytes, length as usize)?;
+    Ok(run)
 }
 
-pub(crate) fn obey(run: Run, command: usize, numbers: [u32; 8]) -> Run {
+pub(crate) fn obey(
+    out: &mut impl Write,
+    run: Run,
+    command: usize,
+    numbers: [u32; 8],
+) -> io::Result<Run> {
     match command {
-        command::TAKE_RECORDED => take(run, numbers[0]),
-        command::RECORDED => record(run, numbers[0], numbers[1]),
-        command::SET_RECORD => set(run, numbers[0], numbers[1], numbers[2]),
-        _ => page(run, numbers[0]),
+        command::TAKE_RECORDED => take(out, run, numbers[0]),
+        command::RECORDED => record(out, run, numbers[0], numbers[1]),
+        command::SET_RECORD => Ok(set(run, numbers[0], numbers[1], numbers[2])),
+        _ => page(out, run, numbers[0]),
     }
 }

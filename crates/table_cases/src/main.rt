@@ -1,5 +1,8 @@
 // Cases of the crates `number`, `trace` and `table`, as a script on standard input: a command to a line, echoed with what came
 // back. The script's own first lines say what each command does.
+
+#![tactic(auto)]
+
 mod command;
 mod run;
 mod show;
@@ -7,69 +10,73 @@ mod tables;
 mod traces;
 
 use crate::run::Run;
-use libc::STDIN_FILENO;
 use script::is_text;
+use std::io;
+use std::io::Write;
+use streams::{large_buffer, read_full};
 
 // What the command does, once its numbers are as many as it takes.
-fn obey(run: Run, command: usize, numbers: [u64; 8]) -> Run {
+fn obey(out: &mut impl Write, run: Run, command: usize, numbers: [u64; 8]) -> io::Result<Run> {
     if command == command::LENGTH {
         show::number(
+            out,
             b": ",
             number::writing::number_length((numbers[0] % 4294967296) as u32) as u64,
-        );
-        return run;
+        )?;
+        return Ok(run);
     }
     if command < command::FILL {
-        return run::look(run, command, numbers[0]);
+        return run::look(out, run, command, numbers[0]);
     }
     if command < command::WRITE_NUMBER {
-        return tables::set(run, command, numbers);
+        return Ok(tables::set(run, command, numbers));
     }
-    traces::write(run, command, numbers)
+    traces::write(out, run, command, numbers)
 }
 
 // A line with a command.
-fn command_line(run: Run, line: &[u8]) -> Run {
+fn command_line(out: &mut impl Write, run: Run, line: &[u8]) -> io::Result<Run> {
     let end = script::next_byte(line, 0, b' ');
     let word = &line[..end];
     let command = command::named(word);
     if command == command::BYTES {
-        return run::set_bytes(run, script::bytes_of(line, end));
+        return run::set_bytes(out, run, script::bytes_of(line, end));
     }
     let arguments = script::numbers_of(line, end);
     if !command::takes(command, arguments) {
-        show::words(b" ?");
-        return run;
+        show::words(out, b" ?")?;
+        return Ok(run);
     }
     let numbers = arguments.values;
-    obey(run, command, numbers)
+    obey(out, run, command, numbers)
 }
 
-fn one_line(run: Run, line: &[u8]) -> Run {
-    show::words(line);
+fn one_line(out: &mut impl Write, run: Run, line: &[u8]) -> io::Result<Run> {
+    show::words(out, line)?;
     if is_text(line) {
-        return run;
+        return Ok(run);
     }
-    command_line(run, line)
+    command_line(out, run, line)
 }
 
 // Every line of the script, in turn.
-fn follow(text: &[u8]) {
+fn follow(out: &mut impl Write, text: &[u8]) -> io::Result<()> {
     let mut run = run::fresh();
     let mut at: usize = 0;
     while at < text.len() {
         let end = script::next_byte(text, at, b'\n');
-        run = one_line(run, &text[at..end]);
-        show::words(b"\n");
+        run = one_line(out, run, &text[at..end])?;
+        show::words(out, b"\n")?;
         if end == text.len() {
-            return;
+            return Ok(());
         }
         at = end + 1;
     }
+    Ok(())
 }
 
-fn main() {
-    let mut text = io::large_buffer();
-    let count = io::read_full(STDIN_FILENO, &mut text);
-    follow(&text[..count]);
+fn main(rt: HostRuntime) -> io::Result<()> {
+    let mut text = large_buffer();
+    let count = read_full(&mut rt.stdin(), &mut text);
+    follow(&mut rt.stdout(), &text[..count])
 }

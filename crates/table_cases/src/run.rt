@@ -1,6 +1,8 @@
 // What the script works on: the bytes to read, the length of the buffers to write to, and a table.
 use crate::{command, show};
 use script::Bytes;
+use std::io;
+use std::io::Write;
 use table::{Table, TableRead};
 
 // The bytes to read are the first `count`. A buffer that is written to has `length` bytes, each EE.
@@ -22,41 +24,47 @@ pub(crate) fn fresh() -> Run {
     }
 }
 
-pub(crate) fn set_bytes(mut run: Run, bytes: Bytes) -> Run {
+pub(crate) fn set_bytes(out: &mut impl Write, mut run: Run, bytes: Bytes) -> io::Result<Run> {
     if !bytes.right {
-        show::words(b" ?");
-        return run;
+        show::words(out, b" ?")?;
+        return Ok(run);
     }
     let values = bytes.values;
     run.bytes = values;
     run.count = bytes.count;
-    run
+    Ok(run)
 }
 
 // The event at a place, and one step of a reader that stands there.
-fn event_at(bytes: &[u8], at: usize) {
-    show::event_read(trace::reading::read_event(bytes, at));
+fn event_at(out: &mut impl Write, bytes: &[u8], at: usize) -> io::Result<()> {
+    show::event_read(out, trace::reading::read_event(bytes, at))?;
     let stepped = trace::reading::step_at(bytes, at);
     let read = stepped.read;
-    show::words(b", step");
-    show::event_read(read);
-    show::number(b" then at ", stepped.next as u64);
+    show::words(out, b", step")?;
+    show::event_read(out, read)?;
+    show::number(out, b" then at ", stepped.next as u64)
 }
 
-fn read_at(bytes: &[u8], command: usize, at: usize) {
+fn read_at(out: &mut impl Write, bytes: &[u8], command: usize, at: usize) -> io::Result<()> {
     match command {
-        command::READ_NUMBER => show::number_read(number::reading::read_number(bytes, at)),
-        command::READ_EVENT => event_at(bytes, at),
-        _ => show::header_read(trace::reading::read_header(bytes)),
+        command::READ_NUMBER => show::number_read(out, number::reading::read_number(bytes, at)),
+        command::READ_EVENT => event_at(out, bytes, at),
+        _ => show::header_read(out, trace::reading::read_header(bytes)),
     }
 }
 
 // Reads in the first `count` bytes.
-fn read_in(bytes: &[u8], count: usize, command: usize, at: usize) {
+fn read_in(
+    out: &mut impl Write,
+    bytes: &[u8],
+    count: usize,
+    command: usize,
+    at: usize,
+) -> io::Result<()> {
     if count < bytes.len() {
-        return read_at(&bytes[..count], command, at);
+        return read_at(out, &bytes[..count], command, at);
     }
-    read_at(bytes, command, at)
+    read_at(out, bytes, command, at)
 }
 
 // Reads the table in the first `count` bytes.
@@ -68,36 +76,41 @@ fn table_in(bytes: &[u8], count: usize) -> TableRead {
 }
 
 // Reads a table, and keeps it where it is right.
-fn read_table(mut run: Run) -> Run {
+fn read_table(out: &mut impl Write, mut run: Run) -> io::Result<Run> {
     let bytes = run.bytes;
     let read = table_in(&bytes, run.count);
-    show::number(b": ", read.answer as u64);
+    show::number(out, b": ", read.answer as u64)?;
     if read.answer != 0 {
-        return run;
+        return Ok(run);
     }
     let found = read.table;
-    show::groups(found);
+    show::groups(out, found)?;
     run.table = found;
-    run
+    Ok(run)
 }
 
 // What is read in the bytes, or looked at.
-pub(crate) fn look(mut run: Run, command: usize, number: u64) -> Run {
+pub(crate) fn look(
+    out: &mut impl Write,
+    mut run: Run,
+    command: usize,
+    number: u64,
+) -> io::Result<Run> {
     let bytes = run.bytes;
     let table = run.table;
     match command {
-        command::READ_TABLE => read_table(run),
+        command::READ_TABLE => read_table(out, run),
         command::CHECK => {
-            show::number(b": ", table::check::table_fault(table) as u64);
-            run
+            show::number(out, b": ", table::check::table_fault(table) as u64)?;
+            Ok(run)
         }
         command::BUFFER => {
             run.length = number as usize;
-            run
+            Ok(run)
         }
         _ => {
-            read_in(&bytes, run.count, command, number as usize);
-            run
+            read_in(out, &bytes, run.count, command, number as usize)?;
+            Ok(run)
         }
     }
 }

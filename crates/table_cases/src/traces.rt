@@ -2,6 +2,8 @@
 use crate::run::Run;
 use crate::{command, show};
 use number::BytesWritten;
+use std::io;
+use std::io::Write;
 use table::Table;
 use trace::{Event, Header};
 
@@ -67,19 +69,24 @@ fn put_in(
 }
 
 // Writes to a part of a buffer, shows all of it, and keeps it as the bytes to read.
-pub(crate) fn write(mut run: Run, command: usize, numbers: [u64; 8]) -> Run {
+pub(crate) fn write(
+    out: &mut impl Write,
+    mut run: Run,
+    command: usize,
+    numbers: [u64; 8],
+) -> io::Result<Run> {
     let room = numbers[0] as usize;
     if run.length < room {
-        show::words(b" ?");
-        return run;
+        show::words(out, b" ?")?;
+        return Ok(run);
     }
     let table = run.table;
     let mut buffer = [0xEEu8; 128];
     let answer = put_in(table, command, numbers, &mut buffer, room);
-    show::written(answer);
-    show::words(b" buffer");
-    show::front(&buffer, run.length);
+    show::written(out, answer)?;
+    show::words(out, b" buffer")?;
+    show::front(out, &buffer, run.length)?;
     run.bytes = buffer;
     run.count = run.length;
-    run
+    Ok(run)
 }

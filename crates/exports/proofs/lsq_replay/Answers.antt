@@ -27,7 +27,8 @@ returns-then-counts-lt2 c =
     let traceAt : List ℕ = c.args.trace.now in
     let lent_at : Lent = let a = c.args in
     lent a.memory.now a.counts.now a.answers.now a.given.now a.values.now in
-    let table-right : read_table bytes_at ≡ accept (groups_of c.read_table-read.result.table) = table_given bytes_at c.read_table-read.result c.read_table-read.ensures c.if-read-ne0.false in
+    let table-right : read_table bytes_at ≡ accept (groups_of c.read_table-read.result.table) =
+            table_given bytes_at c.read_table-read.result c.read_table-read.ensures c.if-read-ne0.false in
     let l = lent_at in
     answered-refused l (lent-short bytes_at traceAt l table-right c.if-counts-lt2.true)
 
@@ -37,6 +38,7 @@ returns c =
     let traceAt : List ℕ = c.args.trace.now in
     let lent_at : Lent = let a = c.args in
     lent a.memory.now a.counts.now a.answers.now a.given.now a.values.now in
-    let table-right : read_table bytes_at ≡ accept (groups_of c.read_table-read.result.table) = table_given bytes_at c.read_table-read.result c.read_table-read.ensures c.if-read-ne0.false in
+    let table-right : read_table bytes_at ≡ accept (groups_of c.read_table-read.result.table) =
+            table_given bytes_at c.read_table-read.result c.read_table-read.ensures c.if-read-ne0.false in
     let l = lent_at in
     answered-lent bytes_at traceAt l table-right c.if-counts-lt2.false c.replay-done.result c.replay-done.ensures

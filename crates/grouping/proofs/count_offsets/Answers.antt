@@ -1,17 +1,17 @@
 -- Invariant: the loads and the stores along the accesses passed.
-use Prim.Native.Nat.{◌≤◌, ◌<◌, ◌-◌}
+use Prim.Native.Nat.{◌≤◌, ◌<◌}
 use native.Mathlib.Omega.{arith}
-use mathlib.Core.Path.{◌≡◌, refl}
+use mathlib.Core.Path.{◌≡◌}
 use lib.ListN.{length, take, get_or}
 use borrow.Author.Rules.{rules}
 use Rattle.grouping.specs.Grouping.{in_order}
-use Rattle.grouping.specs.Internal.{HoldsGroup}
-use Rattle.grouping.proofs.CountLaws.{group_none, group-room, group-more, order-count, order-here, one_more, fewer, group_all}
+use Rattle.grouping.proofs.CountLaws.{group-room, group-more, order-count, one_more, fewer}
 use Rattle.grouping.proofs.count_offsets.Goals as goal
 
 pub with_access-group-requires : goal.with_access-group-requires
 with_access-group-requires c =
-    let room : (length c.args.order.accesses ≡ 32) × (c.args.order.count ≤ 32) = (search rules, order-count c.args.order c.args.accesses c.requires) in
+    let room : (length c.args.order.accesses ≡ 32) × (c.args.order.count ≤ 32) =
+            (search rules, order-count c.args.order c.args.accesses c.requires) in
     let short : length (in_order c.args.accesses (take c.loop-i.i c.args.order.accesses)) < 32 = let (size, few) = room in
     let e = fewer c.args.accesses c.args.order.accesses c.loop-i.i (omega arith) in
     omega arith in
@@ -19,7 +19,8 @@ with_access-group-requires c =
 
 pub loop-i-preserved : goal.loop-i-preserved
 loop-i-preserved c =
-    let room : (length c.args.order.accesses ≡ 32) × (c.args.order.count ≤ 32) = (search rules, order-count c.args.order c.args.accesses c.requires) in
+    let room : (length c.args.order.accesses ≡ 32) × (c.args.order.count ≤ 32) =
+            (search rules, order-count c.args.order c.args.accesses c.requires) in
     let short : length (in_order c.args.accesses (take c.loop-i.i c.args.order.accesses)) < 32 = let (size, few) = room in
     let e = fewer c.args.accesses c.args.order.accesses c.loop-i.i (omega arith) in
     omega arith in

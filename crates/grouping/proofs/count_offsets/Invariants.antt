@@ -1,12 +1,8 @@
 -- Invariant: the loads and the stores along the accesses passed.
-use Prim.Native.Nat.{◌≤◌, ◌<◌, ◌-◌}
-use native.Mathlib.Omega.{arith}
-use mathlib.Core.Path.{◌≡◌, refl}
-use lib.ListN.{length, take, get_or}
-use borrow.Author.Rules.{rules}
+use Prim.Native.Nat.{◌≤◌, ◌-◌}
+use lib.ListN.{take}
 use Rattle.grouping.specs.Grouping.{in_order}
 use Rattle.grouping.specs.Internal.{HoldsGroup}
-use Rattle.grouping.proofs.CountLaws.{group_none, group-room, group-more, order-count, order-here, one_more, fewer, group_all}
 use Rattle.grouping.proofs.count_offsets.Given as goal
 
 abbrev pub invariant-loop-i : goal.invariant-loop-i

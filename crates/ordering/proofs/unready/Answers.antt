@@ -13,8 +13,16 @@ loop-i-preserved c =
     let (first, second) = listed_here c.args.pairs c.args.accesses c.loop-i.i c.requires.within c.loop-i-test.true in
     let few = c.requires.few in
     elim c.if-not-placed-first.branch [
-      | then-not-placed-first w ↦
-          (omega arith, rw (w.marks-is, length-set) v.1, rw w.marks-is (marked-set v.2 c.loop-i-test.true (rw (lt-ltb _ _ first, w.if-not-placed-first.true)) (omega arith)))
-      | else-not-placed-first w ↦
-          (omega arith, rw w.marks-is v.1, rw w.marks-is (marked-keep v.2 c.loop-i-test.true (rw (lt-ltb _ _ first, w.if-not-placed-first.false))))
+      | then-not-placed-first w ↦ (
+        omega arith,
+        rw (w.marks-is, length-set) v.1,
+        rw w.marks-is
+            (marked-set v.2 c.loop-i-test.true (rw (lt-ltb _ _ first, w.if-not-placed-first.true)) (omega arith)),
+      )
+      | else-not-placed-first w ↦ (
+        omega arith,
+        rw w.marks-is v.1,
+        rw w.marks-is
+            (marked-keep v.2 c.loop-i-test.true (rw (lt-ltb _ _ first, w.if-not-placed-first.false))),
+      )
     ]

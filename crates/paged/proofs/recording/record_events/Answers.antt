@@ -36,12 +36,14 @@ returns-in_default c = along-end c.loop-i.invariant (ended c _ refl)
 
 pub loop-i-smaller : goal.loop-i-smaller
 loop-i-smaller c =
-    let event : EventGot c.args.trace.now c.loop-i.place c.in-Found.event c.in-Found.next = event_got _ _ (sym c.read_event-read.ensures ∙ ap event_reply c.in-Found.is) in
+    let event : EventGot c.args.trace.now c.loop-i.place c.in-Found.event c.in-Found.next =
+            event_got _ _ (sym c.read_event-read.ensures ∙ ap event_reply c.in-Found.is) in
     let e = event in omega (arith, e.later, e.inside)
 
 pub loop-i-preserved : goal.loop-i-preserved
 loop-i-preserved c =
-    let event : EventGot c.args.trace.now c.loop-i.place c.in-Found.event c.in-Found.next = event_got _ _ (sym c.read_event-read.ensures ∙ ap event_reply c.in-Found.is) in
+    let event : EventGot c.args.trace.now c.loop-i.place c.in-Found.event c.in-Found.next =
+            event_got _ _ (sym c.read_event-read.ensures ∙ ap event_reply c.in-Found.is) in
     let in-given : c.loop-i.i < length c.args.given.now = c.if-given-i.false in
     let in-values : c.loop-i.i < length c.args.values.now = c.if-values-i.false in
     rw c.after_event-kept.ensures (along-more c.loop-i.invariant event in-given in-values)

@@ -32,7 +32,8 @@ unread trace at (BadEvent k) e z = ap events_read (not_read trace at e)
 pub returns-in_default-count : goal.returns-in_default-count
 returns-in_default-count c =
     let lent : List ℕ = c.args.trace.now in
-    let behind : events_behind (read_header lent) ≡ events_from lent c.in-Leading.at = events-behind lent (sym (ap header_reply c.in-Leading.is) ∙ c.read_header-read.ensures) in
+    let behind : events_behind (read_header lent) ≡ events_from lent c.in-Leading.at =
+            events-behind lent (sym (ap header_reply c.in-Leading.is) ∙ c.read_header-read.ensures) in
     let a = c.args in
     ap (λ (es : List Event). record_buffered a.kept es a.given.now a.values.now)
     (sym (ap events_read behind
@@ -41,6 +42,7 @@ returns-in_default-count c =
 pub returns : goal.returns
 returns c =
     let lent : List ℕ = c.args.trace.now in
-    let behind : events_behind (read_header lent) ≡ events_from lent c.in-Leading.at = events-behind lent (sym (ap header_reply c.in-Leading.is) ∙ c.read_header-read.ensures) in
+    let behind : events_behind (read_header lent) ≡ events_from lent c.in-Leading.at =
+            events-behind lent (sym (ap header_reply c.in-Leading.is) ∙ c.read_header-read.ensures) in
     let a = c.args in
     c.record_events.ensures ∙ ap (λ (es : List Event). record_buffered a.kept es a.given.now a.values.now) (sym (ap events_read behind))

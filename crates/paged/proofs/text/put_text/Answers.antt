@@ -26,7 +26,8 @@ returns-in-TableFault c =
     let lent : Buffers = buffers c.no_answers-answers.result c.no_answers-given.result c.no_values-values.result in
     let memoryLeft : List ℕ = c.play_files-played.new.memory in
     let left : Buffers = let l = c.play_files-played.new in buffers l.answers l.given l.values in
-    let told : (r : FilesPlayed) → c.play_files-played.result ≡ r → HasPlayed (played_on memoryLent lent filesAt) r memoryLeft left = λ r e. let m : length memoryLent ≡ 4096 = search rules in
+    let told : (r : FilesPlayed) → c.play_files-played.result ≡ r → HasPlayed (played_on memoryLent lent filesAt) r memoryLeft left =
+            λ r e. let m : length memoryLent ≡ 4096 = search rules in
     let a : length lent.answers ≡ 16384 = search rules in
     let g : length lent.given ≡ 16384 = search rules in
     let w : length lent.values ≡ 16384 = search rules in
@@ -44,7 +45,8 @@ returns-in-TraceFault c =
     let lent : Buffers = buffers c.no_answers-answers.result c.no_answers-given.result c.no_values-values.result in
     let memoryLeft : List ℕ = c.play_files-played.new.memory in
     let left : Buffers = let l = c.play_files-played.new in buffers l.answers l.given l.values in
-    let told : (r : FilesPlayed) → c.play_files-played.result ≡ r → HasPlayed (played_on memoryLent lent filesAt) r memoryLeft left = λ r e. let m : length memoryLent ≡ 4096 = search rules in
+    let told : (r : FilesPlayed) → c.play_files-played.result ≡ r → HasPlayed (played_on memoryLent lent filesAt) r memoryLeft left =
+            λ r e. let m : length memoryLent ≡ 4096 = search rules in
     let a : length lent.answers ≡ 16384 = search rules in
     let g : length lent.given ≡ 16384 = search rules in
     let w : length lent.values ≡ 16384 = search rules in
@@ -62,7 +64,8 @@ returns-in-Run c =
     let lent : Buffers = buffers c.no_answers-answers.result c.no_answers-given.result c.no_values-values.result in
     let memoryLeft : List ℕ = c.play_files-played.new.memory in
     let left : Buffers = let l = c.play_files-played.new in buffers l.answers l.given l.values in
-    let told : (r : FilesPlayed) → c.play_files-played.result ≡ r → HasPlayed (played_on memoryLent lent filesAt) r memoryLeft left = λ r e. let m : length memoryLent ≡ 4096 = search rules in
+    let told : (r : FilesPlayed) → c.play_files-played.result ≡ r → HasPlayed (played_on memoryLent lent filesAt) r memoryLeft left =
+            λ r e. let m : length memoryLent ≡ 4096 = search rules in
     let a : length lent.answers ≡ 16384 = search rules in
     let g : length lent.given ≡ 16384 = search rules in
     let w : length lent.values ≡ 16384 = search rules in
@@ -81,7 +84,8 @@ returns-in-NoRoom c =
     let lent : Buffers = buffers c.no_answers-answers.result c.no_answers-given.result c.no_values-values.result in
     let memoryLeft : List ℕ = c.play_files-played.new.memory in
     let left : Buffers = let l = c.play_files-played.new in buffers l.answers l.given l.values in
-    let told : (r : FilesPlayed) → c.play_files-played.result ≡ r → HasPlayed (played_on memoryLent lent filesAt) r memoryLeft left = λ r e. let m : length memoryLent ≡ 4096 = search rules in
+    let told : (r : FilesPlayed) → c.play_files-played.result ≡ r → HasPlayed (played_on memoryLent lent filesAt) r memoryLeft left =
+            λ r e. let m : length memoryLent ≡ 4096 = search rules in
     let a : length lent.answers ≡ 16384 = search rules in
     let g : length lent.given ≡ 16384 = search rules in
     let w : length lent.values ≡ 16384 = search rules in

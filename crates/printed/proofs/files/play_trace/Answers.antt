@@ -44,21 +44,28 @@ pub returns-in-Events : goal.returns-in-Events
 returns-in-Events c =
     let lent : Buffers = buffers c.args.answers.now c.args.given.now c.args.values.now in
     let eventsAt : Reply (List Event) = events_from c.args.trace.now c.open_trace-opened.result.at in
-    let opened : let a = c.args in trace_files (groups_of a.table) a.trace.now ≡ (start_files (start_of (contents_of c.open_trace-opened.result.queue) eventsAt)) = let gs = groups_of c.args.table in
+    let opened : let a = c.args in trace_files (groups_of a.table) a.trace.now ≡
+            (start_files (start_of (contents_of c.open_trace-opened.result.queue) eventsAt)) = let gs = groups_of c.args.table in
     let trace = c.args.trace.now in
     trace-short gs trace c.if-trace-gt-MOST_BYTES.false
     ∙ ap start_files (prepare-opened gs trace c.open_trace-opened.result c.open_trace-opened.ensures c.if-opened-ne0.false) in
-    let read = all_read c.args.trace.now c.open_trace-opened.result.at (sym (ap count_reply c.in-Events.is) ∙ c.count_events-count.ensures) in
+    let read = all_read c.args.trace.now c.open_trace-opened.result.at
+            (sym (ap count_reply c.in-Events.is) ∙ c.count_events-count.ensures) in
     told-as c.args.memory.now lent opened
-    (told-cleared c.args.memory.now lent (ap ((λ (g : Reply (List Event)). start_files (start_of (contents_of c.open_trace-opened.result.queue) g))) read.is) c.clear.ensures c.play_events.ensures)
+    (told-cleared c.args.memory.now lent (ap
+            ((λ (g : Reply (List Event)). start_files (start_of (contents_of c.open_trace-opened.result.queue) g))) read.is)
+            c.clear.ensures c.play_events.ensures)
 
 pub returns-in-BadEvent : goal.returns-in-BadEvent
 returns-in-BadEvent c =
     let lent : Buffers = buffers c.args.answers.now c.args.given.now c.args.values.now in
     let eventsAt : Reply (List Event) = events_from c.args.trace.now c.open_trace-opened.result.at in
-    let opened : let a = c.args in trace_files (groups_of a.table) a.trace.now ≡ (start_files (start_of (contents_of c.open_trace-opened.result.queue) eventsAt)) = let gs = groups_of c.args.table in
+    let opened : let a = c.args in trace_files (groups_of a.table) a.trace.now ≡
+            (start_files (start_of (contents_of c.open_trace-opened.result.queue) eventsAt)) = let gs = groups_of c.args.table in
     let trace = c.args.trace.now in
     trace-short gs trace c.if-trace-gt-MOST_BYTES.false
     ∙ ap start_files (prepare-opened gs trace c.open_trace-opened.result c.open_trace-opened.ensures c.if-opened-ne0.false) in
-    let fault = not_read c.args.trace.now c.open_trace-opened.result.at (sym (ap count_reply c.in-BadEvent.is) ∙ c.count_events-count.ensures) in
-    told-trace c.args.memory.now lent (opened ∙ ap ((λ (g : Reply (List Event)). start_files (start_of (contents_of c.open_trace-opened.result.queue) g))) fault)
+    let fault = not_read c.args.trace.now c.open_trace-opened.result.at
+            (sym (ap count_reply c.in-BadEvent.is) ∙ c.count_events-count.ensures) in
+    told-trace c.args.memory.now lent (opened ∙ ap
+            ((λ (g : Reply (List Event)). start_files (start_of (contents_of c.open_trace-opened.result.queue) g))) fault)

@@ -26,7 +26,8 @@ slice_bounds-memory-end c =
     let lent : Buffers = buffers c.no_answers-answers.result c.no_answers-given.result c.no_values-values.result in
     let memoryLeft : List ℕ = c.play_files-played.new.memory in
     let left : Buffers = let l = c.play_files-played.new in buffers l.answers l.given l.values in
-    let told : (r : FilesPlayed) → c.play_files-played.result ≡ r → HasPlayed (played_on memoryLent lent filesAt) r memoryLeft left = λ r e. let m : length memoryLent ≡ 4096 = search rules in
+    let told : (r : FilesPlayed) → c.play_files-played.result ≡ r → HasPlayed (played_on memoryLent lent filesAt) r memoryLeft left =
+            λ r e. let m : length memoryLent ≡ 4096 = search rules in
     let a : length lent.answers ≡ 16384 = search rules in
     let g : length lent.given ≡ 16384 = search rules in
     let w : length lent.values ≡ 16384 = search rules in
@@ -41,7 +42,8 @@ slice_bounds-put_run-end-in-Run-3 c =
     let lent : Buffers = buffers c.no_answers-answers.result c.no_answers-given.result c.no_values-values.result in
     let memoryLeft : List ℕ = c.play_files-played.new.memory in
     let left : Buffers = let l = c.play_files-played.new in buffers l.answers l.given l.values in
-    let told : (r : FilesPlayed) → c.play_files-played.result ≡ r → HasPlayed (played_on memoryLent lent filesAt) r memoryLeft left = λ r e. let m : length memoryLent ≡ 4096 = search rules in
+    let told : (r : FilesPlayed) → c.play_files-played.result ≡ r → HasPlayed (played_on memoryLent lent filesAt) r memoryLeft left =
+            λ r e. let m : length memoryLent ≡ 4096 = search rules in
     let a : length lent.answers ≡ 16384 = search rules in
     let g : length lent.given ≡ 16384 = search rules in
     let w : length lent.values ≡ 16384 = search rules in
@@ -56,7 +58,8 @@ put_run-requires c =
     let lent : Buffers = buffers c.no_answers-answers.result c.no_answers-given.result c.no_values-values.result in
     let memoryLeft : List ℕ = c.play_files-played.new.memory in
     let left : Buffers = let l = c.play_files-played.new in buffers l.answers l.given l.values in
-    let told : (r : FilesPlayed) → c.play_files-played.result ≡ r → HasPlayed (played_on memoryLent lent filesAt) r memoryLeft left = λ r e. let m : length memoryLent ≡ 4096 = search rules in
+    let told : (r : FilesPlayed) → c.play_files-played.result ≡ r → HasPlayed (played_on memoryLent lent filesAt) r memoryLeft left =
+            λ r e. let m : length memoryLent ≡ 4096 = search rules in
     let a : length lent.answers ≡ 16384 = search rules in
     let g : length lent.given ≡ 16384 = search rules in
     let w : length lent.values ≡ 16384 = search rules in
@@ -82,7 +85,8 @@ returns-in-TableFault c =
     let lent : Buffers = buffers c.no_answers-answers.result c.no_answers-given.result c.no_values-values.result in
     let memoryLeft : List ℕ = c.play_files-played.new.memory in
     let left : Buffers = let l = c.play_files-played.new in buffers l.answers l.given l.values in
-    let told : (r : FilesPlayed) → c.play_files-played.result ≡ r → HasPlayed (played_on memoryLent lent filesAt) r memoryLeft left = λ r e. let m : length memoryLent ≡ 4096 = search rules in
+    let told : (r : FilesPlayed) → c.play_files-played.result ≡ r → HasPlayed (played_on memoryLent lent filesAt) r memoryLeft left =
+            λ r e. let m : length memoryLent ≡ 4096 = search rules in
     let a : length lent.answers ≡ 16384 = search rules in
     let g : length lent.given ≡ 16384 = search rules in
     let w : length lent.values ≡ 16384 = search rules in
@@ -98,7 +102,8 @@ returns-in-TraceFault c =
     let lent : Buffers = buffers c.no_answers-answers.result c.no_answers-given.result c.no_values-values.result in
     let memoryLeft : List ℕ = c.play_files-played.new.memory in
     let left : Buffers = let l = c.play_files-played.new in buffers l.answers l.given l.values in
-    let told : (r : FilesPlayed) → c.play_files-played.result ≡ r → HasPlayed (played_on memoryLent lent filesAt) r memoryLeft left = λ r e. let m : length memoryLent ≡ 4096 = search rules in
+    let told : (r : FilesPlayed) → c.play_files-played.result ≡ r → HasPlayed (played_on memoryLent lent filesAt) r memoryLeft left =
+            λ r e. let m : length memoryLent ≡ 4096 = search rules in
     let a : length lent.answers ≡ 16384 = search rules in
     let g : length lent.given ≡ 16384 = search rules in
     let w : length lent.values ≡ 16384 = search rules in
@@ -114,7 +119,8 @@ returns-in-Run c =
     let lent : Buffers = buffers c.no_answers-answers.result c.no_answers-given.result c.no_values-values.result in
     let memoryLeft : List ℕ = c.play_files-played.new.memory in
     let left : Buffers = let l = c.play_files-played.new in buffers l.answers l.given l.values in
-    let told : (r : FilesPlayed) → c.play_files-played.result ≡ r → HasPlayed (played_on memoryLent lent filesAt) r memoryLeft left = λ r e. let m : length memoryLent ≡ 4096 = search rules in
+    let told : (r : FilesPlayed) → c.play_files-played.result ≡ r → HasPlayed (played_on memoryLent lent filesAt) r memoryLeft left =
+            λ r e. let m : length memoryLent ≡ 4096 = search rules in
     let a : length lent.answers ≡ 16384 = search rules in
     let g : length lent.given ≡ 16384 = search rules in
     let w : length lent.values ≡ 16384 = search rules in
@@ -130,7 +136,8 @@ returns-in-NoRoom c =
     let lent : Buffers = buffers c.no_answers-answers.result c.no_answers-given.result c.no_values-values.result in
     let memoryLeft : List ℕ = c.play_files-played.new.memory in
     let left : Buffers = let l = c.play_files-played.new in buffers l.answers l.given l.values in
-    let told : (r : FilesPlayed) → c.play_files-played.result ≡ r → HasPlayed (played_on memoryLent lent filesAt) r memoryLeft left = λ r e. let m : length memoryLent ≡ 4096 = search rules in
+    let told : (r : FilesPlayed) → c.play_files-played.result ≡ r → HasPlayed (played_on memoryLent lent filesAt) r memoryLeft left =
+            λ r e. let m : length memoryLent ≡ 4096 = search rules in
     let a : length lent.answers ≡ 16384 = search rules in
     let g : length lent.given ≡ 16384 = search rules in
     let w : length lent.values ≡ 16384 = search rules in

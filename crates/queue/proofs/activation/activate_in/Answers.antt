@@ -29,7 +29,8 @@ returns-then-not-sound_in c =
     let queueIn : Queue = queue_of frame c.args.load_entries.now c.args.store_entries.now in
     let q = queueIn in
     rw (unfit q (activate (contents_of q) c.args.group) c.sound_in.ensures (ap not c.if-not-sound_in.true)
-    (activate-unsound (contents_of q) c.args.group)) (ap ((λ (t : Step). handed (outcome_of frame t c.args.load_entries.now c.args.store_entries.now))) c.refused.ensures)
+    (activate-unsound (contents_of q) c.args.group))
+            (ap ((λ (t : Step). handed (outcome_of frame t c.args.load_entries.now c.args.store_entries.now))) c.refused.ensures)
 
 pub returns-then-outline-group : goal.returns-then-outline-group
 returns-then-outline-group c =
@@ -37,7 +38,9 @@ returns-then-outline-group c =
     let queueIn : Queue = queue_of frame c.args.load_entries.now c.args.store_entries.now in
     let queue : Queue = queueIn in
     let good : PartsFit queue = fit queue c.sound_in.ensures (ap not c.if-not-sound_in.false) in
-    rw (good.full, activate-no-group queueIn c.args.group good.right c.if-outline-group.true) (ap ((λ (t : Step). handed (outcome_of frame t c.args.load_entries.now c.args.store_entries.now))) c.refused-then-outline-group.ensures)
+    rw (good.full, activate-no-group queueIn c.args.group good.right c.if-outline-group.true)
+            (ap ((λ (t : Step). handed (outcome_of frame t c.args.load_entries.now c.args.store_entries.now)))
+            c.refused-then-outline-group.ensures)
 
 pub returns-then-not-has_room : goal.returns-then-not-has_room
 returns-then-not-has_room c =
@@ -47,9 +50,14 @@ returns-then-not-has_room c =
     let good : PartsFit queue = fit queue c.sound_in.ensures (ap not c.if-not-sound_in.false) in
     let meant : GroupPairs = pairs_of frame.table.loads frame.table.stores c.group_at-chosen.result in
     let below : c.args.group < frame.table.count = c.if-outline-group.false in
-    let rule : activate (contents_of queueIn) c.args.group ≡ need (room (contents_of queueIn) meant) no_place (accept (with_group (contents_of queueIn) meant)) = activate-group queueIn c.args.group good.right below c.group_at-chosen.ensures in
-    let has-place : room (contents_of queueIn) meant ≡ c.has_room.result = room-record queueIn c.group_at-chosen.result ∙ sym c.has_room.ensures in
-    rw (good.full, rule, has-place ∙ c.if-not-has_room.true) (ap ((λ (t : Step). handed (outcome_of frame t c.args.load_entries.now c.args.store_entries.now))) c.refused-then-not-has_room.ensures)
+    let rule : activate (contents_of queueIn) c.args.group ≡ need (room (contents_of queueIn) meant) no_place
+            (accept (with_group (contents_of queueIn) meant))
+            = activate-group queueIn c.args.group good.right below c.group_at-chosen.ensures in
+    let has-place : room (contents_of queueIn) meant ≡ c.has_room.result =
+            room-record queueIn c.group_at-chosen.result ∙ sym c.has_room.ensures in
+    rw (good.full, rule, has-place ∙ c.if-not-has_room.true)
+            (ap ((λ (t : Step). handed (outcome_of frame t c.args.load_entries.now c.args.store_entries.now)))
+            c.refused-then-not-has_room.ensures)
 
 pub append-requires : goal.append-requires
 append-requires c =
@@ -61,9 +69,12 @@ append-requires c =
     let below : c.args.group < frame.table.count = c.if-outline-group.false in
     let good-group : GroupRight meant = let t = table-right queueIn good.right in
     group-right frame.table (groups-few frame.table t) c.args.group below c.group_at-chosen.ensures t in
-    let has-place : room (contents_of queueIn) meant ≡ c.has_room.result = room-record queueIn c.group_at-chosen.result ∙ sym c.has_room.ensures in
+    let has-place : room (contents_of queueIn) meant ≡ c.has_room.result =
+            room-record queueIn c.group_at-chosen.result ∙ sym c.has_room.ensures in
     let place : room (contents_of queueIn) meant ≡ true = has-place ∙ c.if-not-has_room.false in
-    let fits : PairsFit frame.loads.count frame.table.loads c.group_at-chosen.result.loads × PairsFit frame.stores.count frame.table.stores c.group_at-chosen.result.stores = group-fits queueIn c.group_at-chosen.result (group-inside _ _ c.group_at-chosen.ensures) good.right good-group place in
+    let fits : PairsFit frame.loads.count frame.table.loads c.group_at-chosen.result.loads
+            × PairsFit frame.stores.count frame.table.stores c.group_at-chosen.result.stores = group-fits queueIn c.group_at-chosen.result
+            (group-inside _ _ c.group_at-chosen.ensures) good.right good-group place in
     (fits.0, count_most queueIn good.right Kind.Store, good.loads-whole)
 
 pub append-requires-2 : goal.append-requires-2
@@ -76,9 +87,12 @@ append-requires-2 c =
     let below : c.args.group < frame.table.count = c.if-outline-group.false in
     let good-group : GroupRight meant = let t = table-right queueIn good.right in
     group-right frame.table (groups-few frame.table t) c.args.group below c.group_at-chosen.ensures t in
-    let has-place : room (contents_of queueIn) meant ≡ c.has_room.result = room-record queueIn c.group_at-chosen.result ∙ sym c.has_room.ensures in
+    let has-place : room (contents_of queueIn) meant ≡ c.has_room.result =
+            room-record queueIn c.group_at-chosen.result ∙ sym c.has_room.ensures in
     let place : room (contents_of queueIn) meant ≡ true = has-place ∙ c.if-not-has_room.false in
-    let fits : PairsFit frame.loads.count frame.table.loads c.group_at-chosen.result.loads × PairsFit frame.stores.count frame.table.stores c.group_at-chosen.result.stores = group-fits queueIn c.group_at-chosen.result (group-inside _ _ c.group_at-chosen.ensures) good.right good-group place in
+    let fits : PairsFit frame.loads.count frame.table.loads c.group_at-chosen.result.loads
+            × PairsFit frame.stores.count frame.table.stores c.group_at-chosen.result.stores = group-fits queueIn c.group_at-chosen.result
+            (group-inside _ _ c.group_at-chosen.ensures) good.right good-group place in
     (fits.1, count_most queueIn good.right Kind.Load, good.stores-whole)
 
 pub longer-more_loads-requires : goal.longer-more_loads-requires
@@ -91,9 +105,12 @@ longer-more_loads-requires c =
     let below : c.args.group < frame.table.count = c.if-outline-group.false in
     let good-group : GroupRight meant = let t = table-right queueIn good.right in
     group-right frame.table (groups-few frame.table t) c.args.group below c.group_at-chosen.ensures t in
-    let has-place : room (contents_of queueIn) meant ≡ c.has_room.result = room-record queueIn c.group_at-chosen.result ∙ sym c.has_room.ensures in
+    let has-place : room (contents_of queueIn) meant ≡ c.has_room.result =
+            room-record queueIn c.group_at-chosen.result ∙ sym c.has_room.ensures in
     let place : room (contents_of queueIn) meant ≡ true = has-place ∙ c.if-not-has_room.false in
-    let fits : PairsFit frame.loads.count frame.table.loads c.group_at-chosen.result.loads × PairsFit frame.stores.count frame.table.stores c.group_at-chosen.result.stores = group-fits queueIn c.group_at-chosen.result (group-inside _ _ c.group_at-chosen.ensures) good.right good-group place in
+    let fits : PairsFit frame.loads.count frame.table.loads c.group_at-chosen.result.loads
+            × PairsFit frame.stores.count frame.table.stores c.group_at-chosen.result.stores = group-fits queueIn c.group_at-chosen.result
+            (group-inside _ _ c.group_at-chosen.ensures) good.right good-group place in
     fits.0.room
 
 pub longer-more_stores-requires : goal.longer-more_stores-requires
@@ -106,9 +123,12 @@ longer-more_stores-requires c =
     let below : c.args.group < frame.table.count = c.if-outline-group.false in
     let good-group : GroupRight meant = let t = table-right queueIn good.right in
     group-right frame.table (groups-few frame.table t) c.args.group below c.group_at-chosen.ensures t in
-    let has-place : room (contents_of queueIn) meant ≡ c.has_room.result = room-record queueIn c.group_at-chosen.result ∙ sym c.has_room.ensures in
+    let has-place : room (contents_of queueIn) meant ≡ c.has_room.result =
+            room-record queueIn c.group_at-chosen.result ∙ sym c.has_room.ensures in
     let place : room (contents_of queueIn) meant ≡ true = has-place ∙ c.if-not-has_room.false in
-    let fits : PairsFit frame.loads.count frame.table.loads c.group_at-chosen.result.loads × PairsFit frame.stores.count frame.table.stores c.group_at-chosen.result.stores = group-fits queueIn c.group_at-chosen.result (group-inside _ _ c.group_at-chosen.ensures) good.right good-group place in
+    let fits : PairsFit frame.loads.count frame.table.loads c.group_at-chosen.result.loads
+            × PairsFit frame.stores.count frame.table.stores c.group_at-chosen.result.stores = group-fits queueIn c.group_at-chosen.result
+            (group-inside _ _ c.group_at-chosen.ensures) good.right good-group place in
     fits.1.room
 
 pub returns : goal.returns
@@ -121,8 +141,11 @@ returns c =
     let below : c.args.group < frame.table.count = c.if-outline-group.false in
     let good-group : GroupRight meant = let t = table-right queueIn good.right in
     group-right frame.table (groups-few frame.table t) c.args.group below c.group_at-chosen.ensures t in
-    let rule : activate (contents_of queueIn) c.args.group ≡ need (room (contents_of queueIn) meant) no_place (accept (with_group (contents_of queueIn) meant)) = activate-group queueIn c.args.group good.right below c.group_at-chosen.ensures in
-    let has-place : room (contents_of queueIn) meant ≡ c.has_room.result = room-record queueIn c.group_at-chosen.result ∙ sym c.has_room.ensures in
+    let rule : activate (contents_of queueIn) c.args.group ≡ need (room (contents_of queueIn) meant) no_place
+            (accept (with_group (contents_of queueIn) meant))
+            = activate-group queueIn c.args.group good.right below c.group_at-chosen.ensures in
+    let has-place : room (contents_of queueIn) meant ≡ c.has_room.result =
+            room-record queueIn c.group_at-chosen.result ∙ sym c.has_room.ensures in
     let place : room (contents_of queueIn) meant ≡ true = has-place ∙ c.if-not-has_room.false in
     rw (good.full, rule, place, c.accepted.ensures)
     (record {

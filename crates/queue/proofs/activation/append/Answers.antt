@@ -35,7 +35,9 @@ pub returns : goal.returns
 returns c =
     let listed : List Pair = list_of c.args.places.now c.args.pairs in
     let left : c.args.pairs.count ≤ length listed = omega (arith, view-length c.args.places.now c.args.pairs) in
-    let fits : (i : ℕ) → i < c.args.pairs.count → let p = get_or listed i blank_pair in entry_in (number_after c.args.others p) ≡ entry_after c.args.others p = λ i k. after_number c.args.others _ c.requires.1 (c.requires.0.ports i k) (c.requires.0.offsets i k) in
+    let fits : (i : ℕ) → i < c.args.pairs.count → let p = get_or listed i blank_pair in entry_in (number_after c.args.others p)
+            ≡ entry_after c.args.others p = λ i k. after_number c.args.others _ c.requires.1 (c.requires.0.ports i k)
+            (c.requires.0.offsets i k) in
     let i = c.loop-j.invariant in
     let n = c.args.pairs.count in
     let all : take n listed ≡ listed = take_all n listed (omega (arith, view-length c.args.places.now c.args.pairs)) in

@@ -9,12 +9,16 @@ use Rattle.queue.proofs.entries.oldest_without.Goals as goal
 
 pub returns-then-lacks : goal.returns-then-lacks
 returns-then-lacks c =
-    let here : drop c.loop-i.i (entries_held c.args.held c.args.entries.now) ≡ entry_of c.unpack-entry.result ∷ drop (c.loop-i.i + 1) (entries_held c.args.held c.args.entries.now) = rw c.unpack-entry.ensures (mapped-here entry_in 0 c.args.held c.args.entries.now c.loop-i.i c.loop-i-test.true) in
+    let here : drop c.loop-i.i (entries_held c.args.held c.args.entries.now) ≡ entry_of c.unpack-entry.result ∷ drop (c.loop-i.i + 1)
+            (entries_held c.args.held c.args.entries.now) = rw c.unpack-entry.ensures
+            (mapped-here entry_in 0 c.args.held c.args.entries.now c.loop-i.i c.loop-i-test.true) in
     seeking-stop c.loop-i.invariant.1 here (sym c.lacks.ensures ∙ c.if-lacks.true)
 
 pub loop-i-preserved : goal.loop-i-preserved
 loop-i-preserved c =
-    let here : drop c.loop-i.i (entries_held c.args.held c.args.entries.now) ≡ entry_of c.unpack-entry.result ∷ drop (c.loop-i.i + 1) (entries_held c.args.held c.args.entries.now) = rw c.unpack-entry.ensures (mapped-here entry_in 0 c.args.held c.args.entries.now c.loop-i.i c.loop-i-test.true) in
+    let here : drop c.loop-i.i (entries_held c.args.held c.args.entries.now) ≡ entry_of c.unpack-entry.result ∷ drop (c.loop-i.i + 1)
+            (entries_held c.args.held c.args.entries.now) = rw c.unpack-entry.ensures
+            (mapped-here entry_in 0 c.args.held c.args.entries.now c.loop-i.i c.loop-i-test.true) in
     (
   omega arith,
   seeking-on c.loop-i.invariant.1 here (sym c.lacks.ensures

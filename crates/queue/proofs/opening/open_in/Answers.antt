@@ -16,18 +16,21 @@ use Rattle.queue.proofs.opening.open_in.Goals as goal
 
 pub returns-then-fault-ne0 : goal.returns-then-fault-ne0
 unfolding open_queue
-returns-then-fault-ne0 c = rw (some_refused (check_table (groups_of c.args.table)) c.table_fault-fault.ensures c.if-fault-ne0.true) c.refused.ensures
+returns-then-fault-ne0 c = rw (some_refused (check_table (groups_of c.args.table)) c.table_fault-fault.ensures c.if-fault-ne0.true)
+    c.refused.ensures
 
 pub returns-then-not-depth_right : goal.returns-then-not-depth_right
 unfolding open_queue
 returns-then-not-depth_right c =
-    let table-right : check_table (groups_of c.args.table) ≡ passed = table-zero (groups_of c.args.table) (sym c.table_fault-fault.ensures ∙ c.if-fault-ne0.false) in
+    let table-right : check_table (groups_of c.args.table) ≡ passed =
+            table-zero (groups_of c.args.table) (sym c.table_fault-fault.ensures ∙ c.if-fault-ne0.false) in
     rw (table-right, sym c.depth_right.ensures ∙ c.if-not-depth_right.true) c.refused-then-not-depth_right.ensures
 
 pub returns-then-not-depth_right-2 : goal.returns-then-not-depth_right-2
 unfolding open_queue
 returns-then-not-depth_right-2 c =
-    let table-right : check_table (groups_of c.args.table) ≡ passed = table-zero (groups_of c.args.table) (sym c.table_fault-fault.ensures ∙ c.if-fault-ne0.false) in
+    let table-right : check_table (groups_of c.args.table) ≡ passed =
+            table-zero (groups_of c.args.table) (sym c.table_fault-fault.ensures ∙ c.if-fault-ne0.false) in
     let load-depth : depth_right c.args.load_depth ≡ true = sym c.depth_right.ensures ∙ c.if-not-depth_right.false in
     rw (table-right, load-depth, sym c.depth_right-2.ensures ∙ c.if-not-depth_right-2.true)
     c.refused-then-not-depth_right-2.ensures
@@ -35,7 +38,8 @@ returns-then-not-depth_right-2 c =
 pub returns-then-not-memory_right : goal.returns-then-not-memory_right
 unfolding open_queue
 returns-then-not-memory_right c =
-    let table-right : check_table (groups_of c.args.table) ≡ passed = table-zero (groups_of c.args.table) (sym c.table_fault-fault.ensures ∙ c.if-fault-ne0.false) in
+    let table-right : check_table (groups_of c.args.table) ≡ passed =
+            table-zero (groups_of c.args.table) (sym c.table_fault-fault.ensures ∙ c.if-fault-ne0.false) in
     let load-depth : depth_right c.args.load_depth ≡ true = sym c.depth_right.ensures ∙ c.if-not-depth_right.false in
     let store-depth : depth_right c.args.store_depth ≡ true = sym c.depth_right-2.ensures ∙ c.if-not-depth_right-2.false in
     rw (
@@ -48,13 +52,15 @@ returns-then-not-memory_right c =
 
 pub groups_fit-requires : goal.groups_fit-requires
 groups_fit-requires c =
-    let table-right : check_table (groups_of c.args.table) ≡ passed = table-zero (groups_of c.args.table) (sym c.table_fault-fault.ensures ∙ c.if-fault-ne0.false) in
+    let table-right : check_table (groups_of c.args.table) ≡ passed =
+            table-zero (groups_of c.args.table) (sym c.table_fault-fault.ensures ∙ c.if-fault-ne0.false) in
     groups-few _ table-right
 
 pub returns-then-not-groups_fit : goal.returns-then-not-groups_fit
 unfolding open_queue
 returns-then-not-groups_fit c =
-    let table-right : check_table (groups_of c.args.table) ≡ passed = table-zero (groups_of c.args.table) (sym c.table_fault-fault.ensures ∙ c.if-fault-ne0.false) in
+    let table-right : check_table (groups_of c.args.table) ≡ passed =
+            table-zero (groups_of c.args.table) (sym c.table_fault-fault.ensures ∙ c.if-fault-ne0.false) in
     let load-depth : depth_right c.args.load_depth ≡ true = sym c.depth_right.ensures ∙ c.if-not-depth_right.false in
     let store-depth : depth_right c.args.store_depth ≡ true = sym c.depth_right-2.ensures ∙ c.if-not-depth_right-2.false in
     let memory : memory_right c.args.memory_length ≡ true = sym c.memory_right.ensures ∙ c.if-not-memory_right.false in
@@ -70,7 +76,8 @@ returns-then-not-groups_fit c =
 pub returns : goal.returns
 unfolding open_queue contents_of
 returns c =
-    let table-right : check_table (groups_of c.args.table) ≡ passed = table-zero (groups_of c.args.table) (sym c.table_fault-fault.ensures ∙ c.if-fault-ne0.false) in
+    let table-right : check_table (groups_of c.args.table) ≡ passed =
+            table-zero (groups_of c.args.table) (sym c.table_fault-fault.ensures ∙ c.if-fault-ne0.false) in
     let load-depth : depth_right c.args.load_depth ≡ true = sym c.depth_right.ensures ∙ c.if-not-depth_right.false in
     let store-depth : depth_right c.args.store_depth ≡ true = sym c.depth_right-2.ensures ∙ c.if-not-depth_right-2.false in
     let memory : memory_right c.args.memory_length ≡ true = sym c.memory_right.ensures ∙ c.if-not-memory_right.false in

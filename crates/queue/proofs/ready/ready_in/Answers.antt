@@ -16,7 +16,8 @@ returns-then-not-sound_in c =
     let q = queue in
     let kind = c.args.kind in
     let run = c.args.out.now in
-    rw (unfit q (ready kind (contents_of q) run) c.sound_in.ensures (ap not c.if-not-sound_in.true) (ready-unsound kind (contents_of q) run))
+    rw (unfit q (ready kind (contents_of q) run) c.sound_in.ensures (ap not c.if-not-sound_in.true)
+            (ready-unsound kind (contents_of q) run))
     (record { outcome = refl; run_is = refl })
 
 pub ready_serials-found-requires : goal.ready_serials-found-requires

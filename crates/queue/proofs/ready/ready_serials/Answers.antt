@@ -38,6 +38,10 @@ pub returns : goal.returns
 returns c t right =
     let whole : Queue = (queue_of (frame_with c.requires.table c.args.outline) c.args.load_entries.now c.args.store_entries.now) in
     let side : c.side_of-side.result ≡ counts_of c.args.kind whole = c.side_of-side.ensures in
-    let first : (t : Table) → c.oldest_serial-serial.result ≡ oldest_of c.args.kind (contents_of ((queue_of (frame_with t c.args.outline) c.args.load_entries.now c.args.store_entries.now))) = λ t. c.oldest_serial-serial.ensures ∙ ap (λ (x : SideStruct). oldest x.next x.count) side ∙ sym (oldest_in c.args.kind ((queue_of (frame_with t c.args.outline) c.args.load_entries.now c.args.store_entries.now))) in
+    let first : (t : Table) → c.oldest_serial-serial.result ≡ oldest_of c.args.kind
+            (contents_of ((queue_of (frame_with t c.args.outline) c.args.load_entries.now c.args.store_entries.now)))
+            = λ t. c.oldest_serial-serial.ensures ∙ ap (λ (x : SideStruct). oldest x.next x.count) side ∙ sym
+            (oldest_in c.args.kind ((queue_of (frame_with t c.args.outline) c.args.load_entries.now c.args.store_entries.now))) in
     let i = c.loop-i.invariant in
-    gathered c.args.kind ((queue_of (frame_with t c.args.outline) c.args.load_entries.now c.args.store_entries.now)) right i.1 (first t) (ap (λ (x : SideStruct). x.count) side) i.0 c.loop-i-test.false
+    gathered c.args.kind ((queue_of (frame_with t c.args.outline) c.args.load_entries.now c.args.store_entries.now)) right i.1 (first t)
+            (ap (λ (x : SideStruct). x.count) side) i.0 c.loop-i-test.false

@@ -8,8 +8,10 @@ use Rattle.queue.proofs.retiring.shift.Goals as goal
 
 pub loop-i-preserved : goal.loop-i-preserved
 loop-i-preserved c =
-    let put : c.pack.result ≡ lowered_in c.args.others (get_or c.loop-i.entries (c.loop-i.i + c.args.gone) 0) = c.pack.ensures ∙ rw (c.less.ensures, c.unpack-entry.ensures) in
-    (omega arith, moved_more c.loop-i.invariant.1 0 put (omega (arith, c.requires, c.loop-i-test.true)), simp length-set c.loop-i.invariant.2)
+    let put : c.pack.result ≡ lowered_in c.args.others (get_or c.loop-i.entries (c.loop-i.i + c.args.gone) 0) =
+            c.pack.ensures ∙ rw (c.less.ensures, c.unpack-entry.ensures) in
+    (omega arith, moved_more c.loop-i.invariant.1 0 put
+            (omega (arith, c.requires, c.loop-i-test.true)), simp length-set c.loop-i.invariant.2)
 
 pub returns : goal.returns
 returns c =
@@ -18,6 +20,7 @@ returns c =
     let left : n - c.args.gone ≡ c.args.left = omega arith in
     record {
       holds = ap (λ (m : ℕ). entries_held m c.loop-i.entries) (sym left)
-          ∙ moved-side i.1 entry_in 0 (after_retiring c.args.others) (lowered_number c.args.others) n (omega (arith, i.0, c.loop-i-test.false))
+          ∙ moved-side i.1 entry_in 0 (after_retiring c.args.others) (lowered_number c.args.others) n
+                  (omega (arith, i.0, c.loop-i-test.false))
           (omega arith) (omega (arith, c.requires));
     }

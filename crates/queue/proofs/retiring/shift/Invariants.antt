@@ -7,7 +7,8 @@ use Rattle.queue.proofs.RetireLaws.{lowered_in, Moved, moved_none, moved_more, m
 use Rattle.queue.proofs.retiring.shift.Given as goal
 
 abbrev pub invariant-loop-i : goal.invariant-loop-i
-invariant-loop-i l = (l.i ≤ l.left) × Moved (lowered_in l.others) l.gone l.initial.entries l.i l.entries × (length l.entries ≡ length l.initial.entries)
+invariant-loop-i l = (l.i ≤ l.left) × Moved (lowered_in l.others) l.gone l.initial.entries l.i l.entries ×
+    (length l.entries ≡ length l.initial.entries)
 
 abbrev pub decreases-loop-i : goal.decreases-loop-i
 decreases-loop-i l = l.left - l.i

@@ -4,7 +4,8 @@ use Rattle.queue.proofs.SourceLaws.{WalkedBack, back_none, back-unknown, back-ma
 use Rattle.queue.proofs.serving.source_of.Goals as goal
 
 pub returns-then-not-store : goal.returns-then-not-store
-returns-then-not-store c = back-unknown c.loop-i.invariant.1 c.loop-i-test.true c.unpack-store.result c.unpack-store.ensures c.if-not-store.true
+returns-then-not-store c = back-unknown c.loop-i.invariant.1 c.loop-i-test.true c.unpack-store.result c.unpack-store.ensures
+    c.if-not-store.true
 
 pub returns-then-store-address : goal.returns-then-store-address
 returns-then-store-address c =
@@ -15,7 +16,8 @@ pub loop-i-preserved : goal.loop-i-preserved
 loop-i-preserved c =
     (
       omega arith,
-      back-passed c.loop-i.invariant.1 c.loop-i-test.true c.unpack-store.result c.unpack-store.ensures c.if-not-store.false c.if-store-address.false,
+      back-passed c.loop-i.invariant.1 c.loop-i-test.true c.unpack-store.result c.unpack-store.ensures c.if-not-store.false
+              c.if-store-address.false,
     )
 
 pub returns : goal.returns

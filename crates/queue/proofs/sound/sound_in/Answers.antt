@@ -27,7 +27,8 @@ returns-then-not-side_right c =
     queue_of (frame_of a.outline a.groups.now a.load_places.now a.store_places.now) a.load_entries.now a.store_entries.now in
     let lent-loads : List ℕ = c.args.load_entries.now in
     let lent-stores : List ℕ = c.args.store_entries.now in
-    let full : whole lent-loads lent-stores ≡ true = both-whole lent-loads lent-stores c.if-load_entries-ne64.false c.if-store_entries-ne64.false in
+    let full : whole lent-loads lent-stores ≡ true =
+            both-whole lent-loads lent-stores c.if-load_entries-ne64.false c.if-store_entries-ne64.false in
     rw (full, sound-sides queue, sym c.side_right.ensures ∙ c.if-not-side_right.true)
 
 pub returns-then-not-side_right-2 : goal.returns-then-not-side_right-2
@@ -35,10 +36,12 @@ returns-then-not-side_right-2 c =
     let queue : Queue = let a = c.args in
     queue_of (frame_of a.outline a.groups.now a.load_places.now a.store_places.now) a.load_entries.now a.store_entries.now in
     let at1 : Queue = queue in
-    let load_side : (depth_right at1.frame.loads.depth && leb at1.frame.loads.count at1.frame.loads.depth) ≡ true = sym c.side_right.ensures ∙ c.if-not-side_right.false in
+    let load_side : (depth_right at1.frame.loads.depth && leb at1.frame.loads.count at1.frame.loads.depth) ≡ true =
+            sym c.side_right.ensures ∙ c.if-not-side_right.false in
     let lent-loads : List ℕ = c.args.load_entries.now in
     let lent-stores : List ℕ = c.args.store_entries.now in
-    let full : whole lent-loads lent-stores ≡ true = both-whole lent-loads lent-stores c.if-load_entries-ne64.false c.if-store_entries-ne64.false in
+    let full : whole lent-loads lent-stores ≡ true =
+            both-whole lent-loads lent-stores c.if-load_entries-ne64.false c.if-store_entries-ne64.false in
     rw (full, sound-sides at1, load_side, sym c.side_right-2.ensures ∙ c.if-not-side_right-2.true)
 
 pub returns-then-not-memory_right : goal.returns-then-not-memory_right
@@ -47,11 +50,14 @@ returns-then-not-memory_right c =
     queue_of (frame_of a.outline a.groups.now a.load_places.now a.store_places.now) a.load_entries.now a.store_entries.now in
     let at1 : Queue = queue in
     let at2 : Queue = at1 in
-    let load_side : (depth_right at1.frame.loads.depth && leb at1.frame.loads.count at1.frame.loads.depth) ≡ true = sym c.side_right.ensures ∙ c.if-not-side_right.false in
-    let store-side : (depth_right at2.frame.stores.depth && leb at2.frame.stores.count at2.frame.stores.depth) ≡ true = sym c.side_right-2.ensures ∙ c.if-not-side_right-2.false in
+    let load_side : (depth_right at1.frame.loads.depth && leb at1.frame.loads.count at1.frame.loads.depth) ≡ true =
+            sym c.side_right.ensures ∙ c.if-not-side_right.false in
+    let store-side : (depth_right at2.frame.stores.depth && leb at2.frame.stores.count at2.frame.stores.depth) ≡ true =
+            sym c.side_right-2.ensures ∙ c.if-not-side_right-2.false in
     let lent-loads : List ℕ = c.args.load_entries.now in
     let lent-stores : List ℕ = c.args.store_entries.now in
-    let full : whole lent-loads lent-stores ≡ true = both-whole lent-loads lent-stores c.if-load_entries-ne64.false c.if-store_entries-ne64.false in
+    let full : whole lent-loads lent-stores ≡ true =
+            both-whole lent-loads lent-stores c.if-load_entries-ne64.false c.if-store_entries-ne64.false in
     rw (
       full,
       sound-sides at2,
@@ -67,12 +73,15 @@ returns-then-not-entries_right c =
     let at1 : Queue = queue in
     let at2 : Queue = at1 in
     let at3 : Queue = at2 in
-    let load_side : (depth_right at1.frame.loads.depth && leb at1.frame.loads.count at1.frame.loads.depth) ≡ true = sym c.side_right.ensures ∙ c.if-not-side_right.false in
-    let store-side : (depth_right at2.frame.stores.depth && leb at2.frame.stores.count at2.frame.stores.depth) ≡ true = sym c.side_right-2.ensures ∙ c.if-not-side_right-2.false in
+    let load_side : (depth_right at1.frame.loads.depth && leb at1.frame.loads.count at1.frame.loads.depth) ≡ true =
+            sym c.side_right.ensures ∙ c.if-not-side_right.false in
+    let store-side : (depth_right at2.frame.stores.depth && leb at2.frame.stores.count at2.frame.stores.depth) ≡ true =
+            sym c.side_right-2.ensures ∙ c.if-not-side_right-2.false in
     let memory : memory_right at3.frame.memory_length ≡ true = sym c.memory_right.ensures ∙ c.if-not-memory_right.false in
     let lent-loads : List ℕ = c.args.load_entries.now in
     let lent-stores : List ℕ = c.args.store_entries.now in
-    let full : whole lent-loads lent-stores ≡ true = both-whole lent-loads lent-stores c.if-load_entries-ne64.false c.if-store_entries-ne64.false in
+    let full : whole lent-loads lent-stores ≡ true =
+            both-whole lent-loads lent-stores c.if-load_entries-ne64.false c.if-store_entries-ne64.false in
     rw (
       full,
       sound-sides at3,
@@ -90,13 +99,17 @@ returns-then-not-entries_right-2 c =
     let at2 : Queue = at1 in
     let at3 : Queue = at2 in
     let at4 : Queue = at3 in
-    let load_side : (depth_right at1.frame.loads.depth && leb at1.frame.loads.count at1.frame.loads.depth) ≡ true = sym c.side_right.ensures ∙ c.if-not-side_right.false in
-    let store-side : (depth_right at2.frame.stores.depth && leb at2.frame.stores.count at2.frame.stores.depth) ≡ true = sym c.side_right-2.ensures ∙ c.if-not-side_right-2.false in
+    let load_side : (depth_right at1.frame.loads.depth && leb at1.frame.loads.count at1.frame.loads.depth) ≡ true =
+            sym c.side_right.ensures ∙ c.if-not-side_right.false in
+    let store-side : (depth_right at2.frame.stores.depth && leb at2.frame.stores.count at2.frame.stores.depth) ≡ true =
+            sym c.side_right-2.ensures ∙ c.if-not-side_right-2.false in
     let memory : memory_right at3.frame.memory_length ≡ true = sym c.memory_right.ensures ∙ c.if-not-memory_right.false in
-    let loads : all_of (entry_right at4.frame.memory_length at4.frame.stores.count) (entries_held at4.frame.loads.count at4.load_entries) ≡ true = sym c.entries_right.ensures ∙ c.if-not-entries_right.false in
+    let loads : all_of (entry_right at4.frame.memory_length at4.frame.stores.count) (entries_held at4.frame.loads.count at4.load_entries)
+            ≡ true = sym c.entries_right.ensures ∙ c.if-not-entries_right.false in
     let lent-loads : List ℕ = c.args.load_entries.now in
     let lent-stores : List ℕ = c.args.store_entries.now in
-    let full : whole lent-loads lent-stores ≡ true = both-whole lent-loads lent-stores c.if-load_entries-ne64.false c.if-store_entries-ne64.false in
+    let full : whole lent-loads lent-stores ≡ true =
+            both-whole lent-loads lent-stores c.if-load_entries-ne64.false c.if-store_entries-ne64.false in
     rw (
       full,
       sound-sides at4,
@@ -116,14 +129,19 @@ returns c =
     let at3 : Queue = at2 in
     let at4 : Queue = at3 in
     let at5 : Queue = at4 in
-    let load_side : (depth_right at1.frame.loads.depth && leb at1.frame.loads.count at1.frame.loads.depth) ≡ true = sym c.side_right.ensures ∙ c.if-not-side_right.false in
-    let store-side : (depth_right at2.frame.stores.depth && leb at2.frame.stores.count at2.frame.stores.depth) ≡ true = sym c.side_right-2.ensures ∙ c.if-not-side_right-2.false in
+    let load_side : (depth_right at1.frame.loads.depth && leb at1.frame.loads.count at1.frame.loads.depth) ≡ true =
+            sym c.side_right.ensures ∙ c.if-not-side_right.false in
+    let store-side : (depth_right at2.frame.stores.depth && leb at2.frame.stores.count at2.frame.stores.depth) ≡ true =
+            sym c.side_right-2.ensures ∙ c.if-not-side_right-2.false in
     let memory : memory_right at3.frame.memory_length ≡ true = sym c.memory_right.ensures ∙ c.if-not-memory_right.false in
-    let loads : all_of (entry_right at4.frame.memory_length at4.frame.stores.count) (entries_held at4.frame.loads.count at4.load_entries) ≡ true = sym c.entries_right.ensures ∙ c.if-not-entries_right.false in
-    let stores : all_of (entry_right at5.frame.memory_length at5.frame.loads.count) (entries_held at5.frame.stores.count at5.store_entries) ≡ true = sym c.entries_right-2.ensures ∙ c.if-not-entries_right-2.false in
+    let loads : all_of (entry_right at4.frame.memory_length at4.frame.stores.count) (entries_held at4.frame.loads.count at4.load_entries)
+            ≡ true = sym c.entries_right.ensures ∙ c.if-not-entries_right.false in
+    let stores : all_of (entry_right at5.frame.memory_length at5.frame.loads.count) (entries_held at5.frame.stores.count at5.store_entries)
+            ≡ true = sym c.entries_right-2.ensures ∙ c.if-not-entries_right-2.false in
     let lent-loads : List ℕ = c.args.load_entries.now in
     let lent-stores : List ℕ = c.args.store_entries.now in
-    let full : whole lent-loads lent-stores ≡ true = both-whole lent-loads lent-stores c.if-load_entries-ne64.false c.if-store_entries-ne64.false in
+    let full : whole lent-loads lent-stores ≡ true =
+            both-whole lent-loads lent-stores c.if-load_entries-ne64.false c.if-store_entries-ne64.false in
     rw (
       full,
       sound-sides at5,

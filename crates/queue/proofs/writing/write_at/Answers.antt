@@ -22,37 +22,53 @@ use Rattle.queue.proofs.writing.write_at.Goals as goal
 
 pub returns-then-stores-place : goal.returns-then-stores-place
 returns-then-stores-place c table =
-    rw (write-none ((queue_of (frame_with table c.args.outline) c.args.load_entries.now c.args.store_entries.now)) c.args.memory.now c.args.place c.if-stores-place.true)
-    (record { outcome = ap ((λ (step : Step). handed (outcome_of (frame_with table c.args.outline) step c.args.load_entries.now c.args.store_entries.now))) c.refused.ensures; memory_is = refl })
+    rw (write-none ((queue_of (frame_with table c.args.outline) c.args.load_entries.now c.args.store_entries.now)) c.args.memory.now
+            c.args.place c.if-stores-place.true)
+    (record { outcome = ap ((λ (step : Step). handed
+            (outcome_of (frame_with table c.args.outline) step c.args.load_entries.now c.args.store_entries.now))) c.refused.ensures;
+            memory_is = refl })
 
 pub write_fault-answer-requires : goal.write_fault-answer-requires
 write_fault-answer-requires c =
     let queue : Queue = (queue_of (frame_with c.requires.0.table c.args.outline) c.args.load_entries.now c.args.store_entries.now) in
     let store : EntryStruct = unpacked (get_or c.args.store_entries.now c.args.place 0) in
-    let stores_room : c.args.outline.stores.count ≤ length c.args.store_entries.now = omega (arith, count_most queue c.requires.0.right Kind.Store, c.requires.0.stores-whole) in
-    let before-few : store.before ≤ c.args.outline.loads.count = before-held queue c.requires.0.right Kind.Store c.args.place c.if-stores-place.false in
+    let stores_room : c.args.outline.stores.count ≤ length c.args.store_entries.now =
+            omega (arith, count_most queue c.requires.0.right Kind.Store, c.requires.0.stores-whole) in
+    let before-few : store.before ≤ c.args.outline.loads.count =
+            before-held queue c.requires.0.right Kind.Store c.args.place c.if-stores-place.false in
     let placed : c.args.place < length c.args.store_entries.now = le_trans c.if-stores-place.false stores_room in
-    let loads_room : c.args.outline.loads.count ≤ length c.args.load_entries.now = omega (arith, count_most queue c.requires.0.right Kind.Load, c.requires.0.loads-whole) in
+    let loads_room : c.args.outline.loads.count ≤ length c.args.load_entries.now =
+            omega (arith, count_most queue c.requires.0.right Kind.Load, c.requires.0.loads-whole) in
     (placed, le_trans before-few loads_room)
 
 pub returns-then-answer-ne0 : goal.returns-then-answer-ne0
 returns-then-answer-ne0 c table =
     let queue : Queue = (queue_of (frame_with c.requires.0.table c.args.outline) c.args.load_entries.now c.args.store_entries.now) in
     let store : EntryStruct = unpacked (get_or c.args.store_entries.now c.args.place 0) in
-    let before-few : store.before ≤ c.args.outline.loads.count = before-held queue c.requires.0.right Kind.Store c.args.place c.if-stores-place.false in
-    let held : (t : Table) → write_at (contents_of ((queue_of (frame_with t c.args.outline) c.args.load_entries.now c.args.store_entries.now))) c.args.memory.now c.args.place ≡ and_then (may_write_at c.args.load_entries.now c.args.store_entries.now c.args.place) λ p. accept (written_with (contents_of ((queue_of (frame_with t c.args.outline) c.args.load_entries.now c.args.store_entries.now))) c.args.memory.now c.args.place p) = λ t. write-held ((queue_of (frame_with t c.args.outline) c.args.load_entries.now c.args.store_entries.now)) c.args.memory.now c.args.place c.if-stores-place.false before-few in
+    let before-few : store.before ≤ c.args.outline.loads.count =
+            before-held queue c.requires.0.right Kind.Store c.args.place c.if-stores-place.false in
+    let held : (t : Table) → write_at (contents_of
+            ((queue_of (frame_with t c.args.outline) c.args.load_entries.now c.args.store_entries.now))) c.args.memory.now c.args.place
+            ≡ and_then (may_write_at c.args.load_entries.now c.args.store_entries.now c.args.place) λ p. accept
+            (written_with (contents_of ((queue_of (frame_with t c.args.outline) c.args.load_entries.now c.args.store_entries.now)))
+            c.args.memory.now c.args.place p) = λ t. write-held
+            ((queue_of (frame_with t c.args.outline) c.args.load_entries.now c.args.store_entries.now)) c.args.memory.now c.args.place
+            c.if-stores-place.false before-few in
     rw (
       held table,
       refused_number (may_write_at c.args.load_entries.now c.args.store_entries.now c.args.place)
           (λ z. c.if-answer-ne0.true (c.write_fault-answer.ensures ∙ z)),
       ← c.write_fault-answer.ensures,
     )
-    (record { outcome = ap ((λ (step : Step). handed (outcome_of (frame_with table c.args.outline) step c.args.load_entries.now c.args.store_entries.now))) c.refused-then-answer-ne0.ensures; memory_is = refl })
+    (record { outcome = ap ((λ (step : Step). handed
+            (outcome_of (frame_with table c.args.outline) step c.args.load_entries.now c.args.store_entries.now)))
+            c.refused-then-answer-ne0.ensures; memory_is = refl })
 
 pub bounds-store_entries-at : goal.bounds-store_entries-at
 bounds-store_entries-at c =
     let queue : Queue = (queue_of (frame_with c.requires.0.table c.args.outline) c.args.load_entries.now c.args.store_entries.now) in
-    let stores_room : c.args.outline.stores.count ≤ length c.args.store_entries.now = omega (arith, count_most queue c.requires.0.right Kind.Store, c.requires.0.stores-whole) in
+    let stores_room : c.args.outline.stores.count ≤ length c.args.store_entries.now =
+            omega (arith, count_most queue c.requires.0.right Kind.Store, c.requires.0.stores-whole) in
     let placed : c.args.place < length c.args.store_entries.now = le_trans c.if-stores-place.false stores_room in
     placed
 
@@ -60,32 +76,46 @@ pub bounds-memory-store : goal.bounds-memory-store
 bounds-memory-store c =
     let queue : Queue = (queue_of (frame_with c.requires.0.table c.args.outline) c.args.load_entries.now c.args.store_entries.now) in
     let store : EntryStruct = unpacked (get_or c.args.store_entries.now c.args.place 0) in
-    let puts : Puts (entries_held store.before c.args.load_entries.now) (entries_held c.args.place c.args.store_entries.now) store = may-puts (entries_held store.before c.args.load_entries.now) (entries_held c.args.place c.args.store_entries.now) store
+    let puts : Puts (entries_held store.before c.args.load_entries.now) (entries_held c.args.place c.args.store_entries.now) store =
+            may-puts (entries_held store.before c.args.load_entries.now) (entries_held c.args.place c.args.store_entries.now) store
     (sym c.write_fault-answer.ensures ∙ c.if-answer-ne0.false) in
-    rw (c.requires.1, c.unpack-store.ensures) (address-low queue c.requires.0.right Kind.Store c.args.place c.if-stores-place.false puts.addressed)
+    rw (c.requires.1, c.unpack-store.ensures)
+            (address-low queue c.requires.0.right Kind.Store c.args.place c.if-stores-place.false puts.addressed)
 
 pub bounds-store_entries-at-2 : goal.bounds-store_entries-at-2
 bounds-store_entries-at-2 c =
     let queue : Queue = (queue_of (frame_with c.requires.0.table c.args.outline) c.args.load_entries.now c.args.store_entries.now) in
-    let stores_room : c.args.outline.stores.count ≤ length c.args.store_entries.now = omega (arith, count_most queue c.requires.0.right Kind.Store, c.requires.0.stores-whole) in
+    let stores_room : c.args.outline.stores.count ≤ length c.args.store_entries.now =
+            omega (arith, count_most queue c.requires.0.right Kind.Store, c.requires.0.stores-whole) in
     let placed : c.args.place < length c.args.store_entries.now = le_trans c.if-stores-place.false stores_room in
     placed
 
 pub retire-left-requires : goal.retire-left-requires
 retire-left-requires c =
     let queue : Queue = (queue_of (frame_with c.requires.0.table c.args.outline) c.args.load_entries.now c.args.store_entries.now) in
-    let stores_room : c.args.outline.stores.count ≤ length c.args.store_entries.now = omega (arith, count_most queue c.requires.0.right Kind.Store, c.requires.0.stores-whole) in
-    let loads_room : c.args.outline.loads.count ≤ length c.args.load_entries.now = omega (arith, count_most queue c.requires.0.right Kind.Load, c.requires.0.loads-whole) in
+    let stores_room : c.args.outline.stores.count ≤ length c.args.store_entries.now =
+            omega (arith, count_most queue c.requires.0.right Kind.Store, c.requires.0.stores-whole) in
+    let loads_room : c.args.outline.loads.count ≤ length c.args.load_entries.now =
+            omega (arith, count_most queue c.requires.0.right Kind.Load, c.requires.0.loads-whole) in
     (loads_room, rw (length-set c.args.store_entries.now c.args.place c.pack.result) stores_room)
 
 pub returns : goal.returns
 returns c table =
     let queue : Queue = (queue_of (frame_with c.requires.0.table c.args.outline) c.args.load_entries.now c.args.store_entries.now) in
     let store : EntryStruct = unpacked (get_or c.args.store_entries.now c.args.place 0) in
-    let stores_room : c.args.outline.stores.count ≤ length c.args.store_entries.now = omega (arith, count_most queue c.requires.0.right Kind.Store, c.requires.0.stores-whole) in
-    let before-few : store.before ≤ c.args.outline.loads.count = before-held queue c.requires.0.right Kind.Store c.args.place c.if-stores-place.false in
-    let held : (t : Table) → write_at (contents_of ((queue_of (frame_with t c.args.outline) c.args.load_entries.now c.args.store_entries.now))) c.args.memory.now c.args.place ≡ and_then (may_write_at c.args.load_entries.now c.args.store_entries.now c.args.place) λ p. accept (written_with (contents_of ((queue_of (frame_with t c.args.outline) c.args.load_entries.now c.args.store_entries.now))) c.args.memory.now c.args.place p) = λ t. write-held ((queue_of (frame_with t c.args.outline) c.args.load_entries.now c.args.store_entries.now)) c.args.memory.now c.args.place c.if-stores-place.false before-few in
-    let puts : Puts (entries_held store.before c.args.load_entries.now) (entries_held c.args.place c.args.store_entries.now) store = may-puts (entries_held store.before c.args.load_entries.now) (entries_held c.args.place c.args.store_entries.now) store
+    let stores_room : c.args.outline.stores.count ≤ length c.args.store_entries.now =
+            omega (arith, count_most queue c.requires.0.right Kind.Store, c.requires.0.stores-whole) in
+    let before-few : store.before ≤ c.args.outline.loads.count =
+            before-held queue c.requires.0.right Kind.Store c.args.place c.if-stores-place.false in
+    let held : (t : Table) → write_at (contents_of
+            ((queue_of (frame_with t c.args.outline) c.args.load_entries.now c.args.store_entries.now))) c.args.memory.now c.args.place
+            ≡ and_then (may_write_at c.args.load_entries.now c.args.store_entries.now c.args.place) λ p. accept
+            (written_with (contents_of ((queue_of (frame_with t c.args.outline) c.args.load_entries.now c.args.store_entries.now)))
+            c.args.memory.now c.args.place p) = λ t. write-held
+            ((queue_of (frame_with t c.args.outline) c.args.load_entries.now c.args.store_entries.now)) c.args.memory.now c.args.place
+            c.if-stores-place.false before-few in
+    let puts : Puts (entries_held store.before c.args.load_entries.now) (entries_held c.args.place c.args.store_entries.now) store =
+            may-puts (entries_held store.before c.args.load_entries.now) (entries_held c.args.place c.args.store_entries.now) store
     (sym c.write_fault-answer.ensures ∙ c.if-answer-ne0.false) in
     let put : entry_in c.pack.result ≡ mark_finished (entry_of store) = finished_number (get_or c.args.store_entries.now c.args.place 0)
     (c.pack.ensures ∙ ap (λ (e : EntryStruct). number_of (set_finished e)) c.unpack-store.ensures) in
@@ -95,7 +125,9 @@ returns c table =
         answer = refl {a = 0};
         gives = refl {a = none};
         holds = c.retire-left.ensures table
-            ∙ ap retire (side-anew Kind.Store ((queue_of (frame_with table c.args.outline) c.args.load_entries.now c.args.store_entries.now)) c.args.place stores_room c.if-stores-place.false
+            ∙ ap retire (side-anew Kind.Store ((queue_of
+                    (frame_with table c.args.outline) c.args.load_entries.now c.args.store_entries.now)) c.args.place stores_room
+                    c.if-stores-place.false
             (record { number = c.pack.result; holds = put; leaves = refl }));
       };
       memory_is = rw c.unpack-store.ensures;

@@ -18,7 +18,8 @@ returns-then-not-sound_in c =
     let q = queueIn in
     rw (unfit q (write (contents_of q) c.args.memory.now c.args.serial) c.sound_in.ensures (ap not c.if-not-sound_in.true)
     (write-unsound q c.args.memory.now c.args.serial))
-    (record { outcome = ap ((λ t. handed (outcome_of frame t c.args.load_entries.now c.args.store_entries.now))) c.refused.ensures; memory_is = refl })
+    (record { outcome = ap ((λ t. handed (outcome_of frame t c.args.load_entries.now c.args.store_entries.now))) c.refused.ensures;
+            memory_is = refl })
 
 pub returns-then-memory-outline : goal.returns-then-memory-outline
 returns-then-memory-outline c =
@@ -27,7 +28,8 @@ returns-then-memory-outline c =
     let queue : Queue = queueIn in
     let good : PartsFit queue = fit queue c.sound_in.ensures (ap not c.if-not-sound_in.false) in
     rw (good.full, write-memory queueIn c.args.memory.now c.args.serial good.right c.if-memory-outline.true)
-    (record { outcome = ap ((λ t. handed (outcome_of frame t c.args.load_entries.now c.args.store_entries.now))) c.refused-then-memory-outline.ensures; memory_is = refl })
+    (record { outcome = ap ((λ t. handed (outcome_of frame t c.args.load_entries.now c.args.store_entries.now)))
+            c.refused-then-memory-outline.ensures; memory_is = refl })
 
 pub write_at-requires : goal.write_at-requires
 write_at-requires c =

@@ -10,7 +10,8 @@ use Rattle.replay.proofs.preparing.prepare.Goals as goal
 pub returns-then-opened-ne0 : goal.returns-then-opened-ne0
 returns-then-opened-ne0 c =
     let a = c.args in
-    rw (prepare-refused (groups_of a.table) a.trace.now c.open_trace-opened.result c.open_trace-opened.ensures c.if-opened-ne0.true) c.unprepared.ensures
+    rw (prepare-refused (groups_of a.table) a.trace.now c.open_trace-opened.result c.open_trace-opened.ensures c.if-opened-ne0.true)
+            c.unprepared.ensures
 
 pub returns-in-Events : goal.returns-in-Events
 returns-in-Events c =

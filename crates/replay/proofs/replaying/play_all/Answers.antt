@@ -32,7 +32,8 @@ loop-event-init c =
 ended : (c : After-played) (r : EventRead) → c.read_event-read.result ≡ r → events_from c.args.trace.now c.loop-event.place ≡ accept []
 ended c (Found e n) is = absurd (c.in_default.not-Found e n is)
 ended c End is = event_end _ _ (sym c.read_event-read.ensures ∙ ap event_reply is)
-ended c (NoEvent n) is = absurd (walk_no_fault c.loop-event.invariant.0 (event_fault _ _ (sym c.read_event-read.ensures ∙ ap event_reply is)))
+ended c (NoEvent n) is = absurd (walk_no_fault c.loop-event.invariant.0
+    (event_fault _ _ (sym c.read_event-read.ensures ∙ ap event_reply is)))
 
 pub returns-in_default : goal.returns-in_default
 returns-in_default c = rw c.played.ensures (walk_end c.loop-event.invariant.0 (ended c _ refl))
@@ -42,7 +43,8 @@ play_event-step-requires c = both-whole c.loop-event.loads c.loop-event.stores c
 
 pub put-requires : goal.put-requires
 put-requires c =
-    let event : EventGot c.args.trace.now c.loop-event.place c.in-Found.event c.in-Found.next = event_got _ _ (sym c.read_event-read.ensures ∙ ap event_reply c.in-Found.is) in
+    let event : EventGot c.args.trace.now c.loop-event.place c.in-Found.event c.in-Found.next =
+            event_got _ _ (sym c.read_event-read.ensures ∙ ap event_reply c.in-Found.is) in
     let room : Room c.loop-event.invariant.0 = walk-room c.loop-event.invariant.0 event in
     let r =
     room in
@@ -50,13 +52,15 @@ put-requires c =
 
 pub loop-event-smaller : goal.loop-event-smaller
 loop-event-smaller c =
-    let event : EventGot c.args.trace.now c.loop-event.place c.in-Found.event c.in-Found.next = event_got _ _ (sym c.read_event-read.ensures ∙ ap event_reply c.in-Found.is) in
+    let event : EventGot c.args.trace.now c.loop-event.place c.in-Found.event c.in-Found.next =
+            event_got _ _ (sym c.read_event-read.ensures ∙ ap event_reply c.in-Found.is) in
     let g = event in
     omega (arith, g.later, g.inside)
 
 pub loop-event-preserved : goal.loop-event-preserved
 loop-event-preserved c =
-    let event : EventGot c.args.trace.now c.loop-event.place c.in-Found.event c.in-Found.next = event_got _ _ (sym c.read_event-read.ensures ∙ ap event_reply c.in-Found.is) in
+    let event : EventGot c.args.trace.now c.loop-event.place c.in-Found.event c.in-Found.next =
+            event_got _ _ (sym c.read_event-read.ensures ∙ ap event_reply c.in-Found.is) in
     let kept = c.play_event-step.auto in (
       walk_more _ c.loop-event.invariant.0 event c.play_event-step.ensures c.put.ensures,
       kept.memory ∙ c.loop-event.invariant.1,

@@ -15,16 +15,20 @@ use Rattle.replay.proofs.replaying.replay_from.Goals as goal
 pub returns-then-memory-frame : goal.returns-then-memory-frame
 returns-then-memory-frame c =
     let lent_at : Buffers = let a = c.args in buffers a.answers.now a.given.now a.values.now in
-    let read : let a = c.args in AllRead a.trace.now a.at c.in-Events.events = all_read _ _ (sym (ap count_reply c.in-Events.is) ∙ c.count_events-count.ensures) in
+    let read : let a = c.args in AllRead a.trace.now a.at c.in-Events.events = all_read _ _
+            (sym (ap count_reply c.in-Events.is) ∙ c.count_events-count.ensures) in
     let a = c.args in
-    let apart : length a.memory.now ≡ (contents_of a.queue).memory_length → ⊥ = λ z. omega (arith, c.if-memory-frame.true, z, words-held a.queue) in
+    let apart : length a.memory.now ≡ (contents_of a.queue).memory_length → ⊥ =
+            λ z. omega (arith, c.if-memory-frame.true, z, words-held a.queue) in
     replay-memory (contents_of a.queue) _ a.memory.now a.counts lent_at read.is apart c.unplayed-then-memory-frame.ensures
 
 pub returns-then-not-have_room : goal.returns-then-not-have_room
 returns-then-not-have_room c =
     let lent_at : Buffers = let a = c.args in buffers a.answers.now a.given.now a.values.now in
-    let read : let a = c.args in AllRead a.trace.now a.at c.in-Events.events = all_read _ _ (sym (ap count_reply c.in-Events.is) ∙ c.count_events-count.ensures) in
-    let room : (t : Bool) → c.have_room.result ≡ t → fits (length read.events) lent_at ≡ t = λ t e. rw (sym read.many) (sym c.have_room.ensures ∙ e) in
+    let read : let a = c.args in AllRead a.trace.now a.at c.in-Events.events = all_read _ _
+            (sym (ap count_reply c.in-Events.is) ∙ c.count_events-count.ensures) in
+    let room : (t : Bool) → c.have_room.result ≡ t → fits (length read.events) lent_at ≡ t =
+            λ t e. rw (sym read.many) (sym c.have_room.ensures ∙ e) in
     let long : let a = c.args in length a.memory.now ≡ (contents_of a.queue).memory_length = c.if-memory-frame.false ∙ sym (words-held _) in
     let a = c.args in
     let short = room _ (c.if-not-have_room.true) in
@@ -33,8 +37,10 @@ returns-then-not-have_room c =
 pub returns : goal.returns
 returns c =
     let lent_at : Buffers = let a = c.args in buffers a.answers.now a.given.now a.values.now in
-    let read : let a = c.args in AllRead a.trace.now a.at c.in-Events.events = all_read _ _ (sym (ap count_reply c.in-Events.is) ∙ c.count_events-count.ensures) in
-    let room : (t : Bool) → c.have_room.result ≡ t → fits (length read.events) lent_at ≡ t = λ t e. rw (sym read.many) (sym c.have_room.ensures ∙ e) in
+    let read : let a = c.args in AllRead a.trace.now a.at c.in-Events.events = all_read _ _
+            (sym (ap count_reply c.in-Events.is) ∙ c.count_events-count.ensures) in
+    let room : (t : Bool) → c.have_room.result ≡ t → fits (length read.events) lent_at ≡ t =
+            λ t e. rw (sym read.many) (sym c.have_room.ensures ∙ e) in
     let long : let a = c.args in length a.memory.now ≡ (contents_of a.queue).memory_length = c.if-memory-frame.false ∙ sym (words-held _) in
     let a = c.args in
     let fit = room _ (c.if-not-have_room.false) in

@@ -10,7 +10,8 @@ use Rattle.shift.proofs.PageLaws.{PutsMany, many-ends, many-long, many-then, man
 use Rattle.shift.proofs.page.put_ports.Given as goal
 
 abbrev pub invariant-loop-port : goal.invariant-loop-port
-invariant-loop-port l =     (l.port ≤ 32) × PutsMany l.initial.out l.at (lines_to (takes_of l.kept) (value_shown l.kept) l.port) (41 * l.port) l.place l.out
+invariant-loop-port l =     (l.port ≤ 32) × PutsMany l.initial.out l.at (lines_to (takes_of l.kept) (value_shown l.kept) l.port)
+    (41 * l.port) l.place l.out
 
 abbrev pub decreases-loop-port : goal.decreases-loop-port
 decreases-loop-port l = 32 - l.port

@@ -20,10 +20,14 @@ returns-then-out-lt-PAGE_BYTES c = rw (written-short c.args.kept c.args.out.now 
 pub returns : goal.returns
 returns c =
     let room : page_bytes ≤ length c.args.out.now = c.if-out-lt-PAGE_BYTES.false in
-    let put₁ : PutsMany c.args.out.now 0 (with_line_feed header) 41 c.put_bytes-place.result c.put_bytes-place.new.out = many-fit (record { puts = puts_none; wide = refl; room = omega arith }) 41 c.put_bytes-place.ensures refl (omega (arith, room)) in
-    let put₂ : let a = c.args in PutsMany a.out.now 0 (with_line_feed header ++ flat_map with_line_feed (port_lines (takes_of a.kept) (value_shown a.kept))) 1353 c.put_ports-place.result c.put_ports-place.new.out = let put = c.put_ports-place.ensures in
+    let put₁ : PutsMany c.args.out.now 0 (with_line_feed header) 41 c.put_bytes-place.result c.put_bytes-place.new.out = many-fit
+            (record { puts = puts_none; wide = refl; room = omega arith }) 41 c.put_bytes-place.ensures refl (omega (arith, room)) in
+    let put₂ : let a = c.args in PutsMany a.out.now 0
+            (with_line_feed header ++ flat_map with_line_feed (port_lines (takes_of a.kept) (value_shown a.kept))) 1353
+            c.put_ports-place.result c.put_ports-place.new.out = let put = c.put_ports-place.ensures in
     many-then put₁ 1312 put.0 (omega (arith, put.0.ends, put.1)) (omega (arith, room)) in
-    let put₃ : let a = c.args in PutsMany a.out.now 0 (page a.kept) page_bytes c.put_bytes.result c.put_bytes.new.out = many-as (many-fit put₂ 41 c.put_bytes.ensures refl (omega (arith, room))) (sym (page-parts c.args.kept)) in
+    let put₃ : let a = c.args in PutsMany a.out.now 0 (page a.kept) page_bytes c.put_bytes.result c.put_bytes.new.out = many-as
+            (many-fit put₂ 41 c.put_bytes.ensures refl (omega (arith, room))) (sym (page-parts c.args.kept)) in
     let a = c.args in
     let w = put₃ in
     rw (written-fits a.kept a.out.now room)

@@ -12,23 +12,28 @@ use Rattle.table.proofs.check.check_group.Goals as goal
 pub returns-then-not-counts_right : goal.returns-then-not-counts_right
 returns-then-not-counts_right c =
     record {
-      answer = group-counts c.args.loads.now c.args.stores.now c.args.group (seen_in c.args.seen_loads.now c.args.seen_stores.now) (sym c.counts_right.ensures ∙ c.if-not-counts_right.true);
+      answer = group-counts c.args.loads.now c.args.stores.now c.args.group (seen_in c.args.seen_loads.now c.args.seen_stores.now)
+          (sym c.counts_right.ensures ∙ c.if-not-counts_right.true);
       marks = λ z. absurd (omega arith);
     }
 
 pub returns-then-answer-ne0 : goal.returns-then-answer-ne0
 returns-then-answer-ne0 c =
-    let right : counts_right c.args.group.loads.count c.args.group.stores.count ≡ true = sym c.counts_right.ensures ∙ c.if-not-counts_right.false in
+    let right : counts_right c.args.group.loads.count c.args.group.stores.count ≡ true =
+    sym c.counts_right.ensures ∙ c.if-not-counts_right.false in
     record {
-      answer = group-loads c.args.loads.now c.args.stores.now c.args.group (seen_in c.args.seen_loads.now c.args.seen_stores.now) right c.check_pairs-answer.ensures.answer c.if-answer-ne0.true;
+      answer = group-loads c.args.loads.now c.args.stores.now c.args.group
+          (seen_in c.args.seen_loads.now c.args.seen_stores.now) right c.check_pairs-answer.ensures.answer c.if-answer-ne0.true;
       marks = λ z. absurd (c.if-answer-ne0.true z);
     }
 
 pub check_pairs-requires : goal.check_pairs-requires
 check_pairs-requires c =
     let pre : GroupInside c.args.group = c.requires in
-    let right : counts_right c.args.group.loads.count c.args.group.stores.count ≡ true = sym c.counts_right.ensures ∙ c.if-not-counts_right.false in
-    let few : (c.args.group.loads.count ≤ 16) × (c.args.group.stores.count ≤ 16) = counts-few c.args.group.loads.count c.args.group.stores.count right in
+    let right : counts_right c.args.group.loads.count c.args.group.stores.count ≡ true =
+    sym c.counts_right.ensures ∙ c.if-not-counts_right.false in
+    let few : (c.args.group.loads.count ≤ 16) × (c.args.group.stores.count ≤ 16) =
+    counts-few c.args.group.loads.count c.args.group.stores.count right in
     let f = few in
     let i = pre in (
       record {
@@ -43,7 +48,8 @@ check_pairs-requires c =
 
 pub returns : goal.returns
 returns c =
-    let right : counts_right c.args.group.loads.count c.args.group.stores.count ≡ true = sym c.counts_right.ensures ∙ c.if-not-counts_right.false in
+    let right : counts_right c.args.group.loads.count c.args.group.stores.count ≡ true =
+    sym c.counts_right.ensures ∙ c.if-not-counts_right.false in
     let d = c.if-answer-ne0.false in
     record {
       answer = group-stores c.args.loads.now c.args.stores.now c.args.group (seen_in c.args.seen_loads.now c.args.seen_stores.now) right

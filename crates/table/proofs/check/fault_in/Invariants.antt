@@ -6,7 +6,8 @@ use Rattle.table.proofs.CheckLaws.{Passing}
 use Rattle.table.proofs.check.fault_in.Given as goal
 
 abbrev pub invariant-loop-i : goal.invariant-loop-i
-invariant-loop-i l = (l.i ≤ l.count) × Passing none_seen (groups_in l.count l.groups l.loads l.stores) l.i (seen_in l.seen_loads l.seen_stores)
+invariant-loop-i l = (l.i ≤ l.count) × Passing none_seen (groups_in l.count l.groups l.loads l.stores) l.i
+    (seen_in l.seen_loads l.seen_stores)
 
 abbrev pub decreases-loop-i : goal.decreases-loop-i
 decreases-loop-i l = l.many - l.i

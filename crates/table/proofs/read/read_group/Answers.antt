@@ -25,13 +25,15 @@ returns-in_default c =
 
 pub returns-then-not-counts_right : goal.returns-then-not-counts_right
 returns-then-not-counts_right c =
-    let counts : TwoGot c.args.bytes.now c.args.at c.in-Two.load_count c.in-Two.store_count c.in-Two.next = two-answer _ _ (sym (ap two_reply c.in-Two.is) ∙ c.read_two-read.ensures) in
+    let counts : TwoGot c.args.bytes.now c.args.at c.in-Two.load_count c.in-Two.store_count c.in-Two.next =
+    two-answer _ _ (sym (ap two_reply c.in-Two.is) ∙ c.read_two-read.ensures) in
     let wrong = sym c.counts_right.ensures ∙ c.if-not-counts_right.true in
     tells-refused (group-two _ _ ∙ rw (counts.is, wrong)) c.no_group-then-not-counts_right.ensures (λ z. omega arith)
 
 pub returns-then-first-ne0 : goal.returns-then-first-ne0
 returns-then-first-ne0 c =
-    let counts : TwoGot c.args.bytes.now c.args.at c.in-Two.load_count c.in-Two.store_count c.in-Two.next = two-answer _ _ (sym (ap two_reply c.in-Two.is) ∙ c.read_two-read.ensures) in
+    let counts : TwoGot c.args.bytes.now c.args.at c.in-Two.load_count c.in-Two.store_count c.in-Two.next =
+    two-answer _ _ (sym (ap two_reply c.in-Two.is) ∙ c.read_two-read.ensures) in
     let right : counts_right c.in-Two.load_count c.in-Two.store_count ≡ true = sym c.counts_right.ensures ∙ c.if-not-counts_right.false in
     let wrong = c.read_pairs-first.ensures.refused c.if-first-ne0.true in
     tells-refused (group-two _ _ ∙ rw (counts.is, right, wrong)) c.no_group-then-first-ne0.ensures c.if-first-ne0.true
@@ -40,8 +42,12 @@ pub read_pairs-second-requires : goal.read_pairs-second-requires
 read_pairs-second-requires c =
     let right : counts_right c.in-Two.load_count c.in-Two.store_count ≡ true = sym c.counts_right.ensures ∙ c.if-not-counts_right.false in
     let few : (c.in-Two.load_count ≤ 16) × (c.in-Two.store_count ≤ 16) = counts-few c.in-Two.load_count c.in-Two.store_count right in
-    let loads : Finds (read_pairs (load_rule c.in-Two.store_count) c.in-Two.load_count 0 0 c.args.seen.loads (drop c.in-Two.next c.args.bytes.now)) c.args.bytes.now c.read_pairs-first.result.next (PairsFound c.args.seen.loads c.read_pairs-first.result) = c.read_pairs-first.ensures.given c.if-first-ne0.false in
-    let loads_right : PairsWritten (load_rule c.in-Two.store_count) c.in-Two.load_count 0 0 c.args.seen.loads (drop c.in-Two.next c.args.bytes.now) loads.what (drop c.read_pairs-first.result.next c.args.bytes.now) = pairs-written _ _ _ _ _ _ loads.is in
+    let loads : Finds (read_pairs (load_rule c.in-Two.store_count) c.in-Two.load_count 0 0 c.args.seen.loads
+    (drop c.in-Two.next c.args.bytes.now)) c.args.bytes.now c.read_pairs-first.result.next
+    (PairsFound c.args.seen.loads c.read_pairs-first.result) = c.read_pairs-first.ensures.given c.if-first-ne0.false in
+    let loads_right : PairsWritten (load_rule c.in-Two.store_count) c.in-Two.load_count 0 0 c.args.seen.loads
+    (drop c.in-Two.next c.args.bytes.now) loads.what (drop c.read_pairs-first.result.next c.args.bytes.now)
+    = pairs-written _ _ _ _ _ _ loads.is in
     let loads-few : length loads.what ≤ 16 = omega (arith, loads_right.many, few.0) in (
       few.1,
       loads.inside,
@@ -55,17 +61,23 @@ read_pairs-second-requires c =
 
 pub returns-then-second-ne0 : goal.returns-then-second-ne0
 returns-then-second-ne0 c =
-    let counts : TwoGot c.args.bytes.now c.args.at c.in-Two.load_count c.in-Two.store_count c.in-Two.next = two-answer _ _ (sym (ap two_reply c.in-Two.is) ∙ c.read_two-read.ensures) in
+    let counts : TwoGot c.args.bytes.now c.args.at c.in-Two.load_count c.in-Two.store_count c.in-Two.next =
+    two-answer _ _ (sym (ap two_reply c.in-Two.is) ∙ c.read_two-read.ensures) in
     let right : counts_right c.in-Two.load_count c.in-Two.store_count ≡ true = sym c.counts_right.ensures ∙ c.if-not-counts_right.false in
-    let loads : Finds (read_pairs (load_rule c.in-Two.store_count) c.in-Two.load_count 0 0 c.args.seen.loads (drop c.in-Two.next c.args.bytes.now)) c.args.bytes.now c.read_pairs-first.result.next (PairsFound c.args.seen.loads c.read_pairs-first.result) = c.read_pairs-first.ensures.given c.if-first-ne0.false in
+    let loads : Finds (read_pairs (load_rule c.in-Two.store_count) c.in-Two.load_count 0 0 c.args.seen.loads
+    (drop c.in-Two.next c.args.bytes.now)) c.args.bytes.now c.read_pairs-first.result.next
+    (PairsFound c.args.seen.loads c.read_pairs-first.result) = c.read_pairs-first.ensures.given c.if-first-ne0.false in
     let wrong = rw loads.found.holds at (c.read_pairs-second.ensures.refused c.if-second-ne0.true) in
     tells-refused (group-two _ _ ∙ rw (counts.is, right, loads.is, wrong)) c.no_group-then-second-ne0.ensures c.if-second-ne0.true
 
 pub returns : goal.returns
 returns c =
-    let counts : TwoGot c.args.bytes.now c.args.at c.in-Two.load_count c.in-Two.store_count c.in-Two.next = two-answer _ _ (sym (ap two_reply c.in-Two.is) ∙ c.read_two-read.ensures) in
+    let counts : TwoGot c.args.bytes.now c.args.at c.in-Two.load_count c.in-Two.store_count c.in-Two.next =
+    two-answer _ _ (sym (ap two_reply c.in-Two.is) ∙ c.read_two-read.ensures) in
     let right : counts_right c.in-Two.load_count c.in-Two.store_count ≡ true = sym c.counts_right.ensures ∙ c.if-not-counts_right.false in
-    let loads : Finds (read_pairs (load_rule c.in-Two.store_count) c.in-Two.load_count 0 0 c.args.seen.loads (drop c.in-Two.next c.args.bytes.now)) c.args.bytes.now c.read_pairs-first.result.next (PairsFound c.args.seen.loads c.read_pairs-first.result) = c.read_pairs-first.ensures.given c.if-first-ne0.false in
+    let loads : Finds (read_pairs (load_rule c.in-Two.store_count) c.in-Two.load_count 0 0 c.args.seen.loads
+    (drop c.in-Two.next c.args.bytes.now)) c.args.bytes.now c.read_pairs-first.result.next
+    (PairsFound c.args.seen.loads c.read_pairs-first.result) = c.read_pairs-first.ensures.given c.if-first-ne0.false in
     let t = c.read_pairs-second.ensures.given c.if-second-ne0.false in
     let is = rw loads.found.holds at t.is in
     rw c.group_made.ensures

@@ -33,16 +33,34 @@ returns-in_default c =
 
 pub returns-then-answer-ne0 : goal.returns-then-answer-ne0
 returns-then-answer-ne0 c =
-    let two : TwoGot c.args.bytes.now c.loop-i.place c.in-Two.offset c.in-Two.port c.in-Two.next = two-answer _ _ (sym (ap two_reply c.in-Two.is) ∙ c.read_two-read.ensures) in
-    let fault : c.pair_fault-answer.result ≡ number ((check_pair (let a = c.args in rule_of a.storing a.stores (list_of a.loads.places (front a.loads.count)) c.loop-i.low c.loop-i.i c.in-Two.offset) c.loop-i.marks c.in-Two.port)) = c.pair_fault-answer.ensures ∙ ap (λ (right : Bool). number ((check_pair right c.loop-i.marks c.in-Two.port))) c.offset_right-right.ensures in
-    let e = some_refused ((check_pair (let a = c.args in rule_of a.storing a.stores (list_of a.loads.places (front a.loads.count)) c.loop-i.low c.loop-i.i c.in-Two.offset) c.loop-i.marks c.in-Two.port)) fault c.if-answer-ne0.true in
+    let two : TwoGot c.args.bytes.now c.loop-i.place c.in-Two.offset c.in-Two.port c.in-Two.next =
+    two-answer _ _ (sym (ap two_reply c.in-Two.is) ∙ c.read_two-read.ensures) in
+    let fault : c.pair_fault-answer.result ≡ number
+    ((check_pair (let a = c.args in rule_of a.storing a.stores
+    (list_of a.loads.places (front a.loads.count)) c.loop-i.low c.loop-i.i c.in-Two.offset) c.loop-i.marks c.in-Two.port))
+    = c.pair_fault-answer.ensures ∙ ap
+    (λ (right : Bool). number ((check_pair right c.loop-i.marks c.in-Two.port))) c.offset_right-right.ensures in
+    let e = some_refused ((check_pair (let a = c.args in rule_of a.storing a.stores
+    (list_of a.loads.places (front a.loads.count)) c.loop-i.low c.loop-i.i c.in-Two.offset) c.loop-i.marks c.in-Two.port)) fault
+    c.if-answer-ne0.true in
     tells-refused (reading-fault c.loop-i.invariant.1 c.loop-i-test.true two e) c.no_pairs_read-then-answer-ne0.ensures c.if-answer-ne0.true
 
 pub overflow_cast-pair : goal.overflow_cast-pair
 overflow_cast-pair c =
-    let fault : c.pair_fault-answer.result ≡ number ((check_pair (let a = c.args in rule_of a.storing a.stores (list_of a.loads.places (front a.loads.count)) c.loop-i.low c.loop-i.i c.in-Two.offset) c.loop-i.marks c.in-Two.port)) = c.pair_fault-answer.ensures ∙ ap (λ (right : Bool). number ((check_pair right c.loop-i.marks c.in-Two.port))) c.offset_right-right.ensures in
-    let no-fault : (check_pair (let a = c.args in rule_of a.storing a.stores (list_of a.loads.places (front a.loads.count)) c.loop-i.low c.loop-i.i c.in-Two.offset) c.loop-i.marks c.in-Two.port) ≡ passed = pair-zero (let a = c.args in rule_of a.storing a.stores (list_of a.loads.places (front a.loads.count)) c.loop-i.low c.loop-i.i c.in-Two.offset) c.loop-i.marks c.in-Two.port (sym fault ∙ c.if-answer-ne0.false) in
-    let small : (c.in-Two.offset ≤ 16) × (c.in-Two.port ≤ 31) = let f = pair-passed (let a = c.args in rule_of a.storing a.stores (list_of a.loads.places (front a.loads.count)) c.loop-i.low c.loop-i.i c.in-Two.offset) c.loop-i.marks c.in-Two.port no-fault in (
+    let fault : c.pair_fault-answer.result ≡ number
+    ((check_pair (let a = c.args in rule_of a.storing a.stores
+    (list_of a.loads.places (front a.loads.count)) c.loop-i.low c.loop-i.i c.in-Two.offset) c.loop-i.marks c.in-Two.port))
+    = c.pair_fault-answer.ensures ∙ ap
+    (λ (right : Bool). number ((check_pair right c.loop-i.marks c.in-Two.port))) c.offset_right-right.ensures in
+    let no-fault : (check_pair (let a = c.args in rule_of a.storing a.stores
+    (list_of a.loads.places (front a.loads.count)) c.loop-i.low c.loop-i.i c.in-Two.offset) c.loop-i.marks c.in-Two.port) ≡ passed
+    = pair-zero (let a = c.args in rule_of a.storing a.stores
+    (list_of a.loads.places (front a.loads.count)) c.loop-i.low c.loop-i.i c.in-Two.offset) c.loop-i.marks c.in-Two.port
+    (sym fault ∙ c.if-answer-ne0.false) in
+    let small : (c.in-Two.offset ≤ 16) × (c.in-Two.port ≤ 31) = let f = pair-passed
+    (let a = c.args in rule_of a.storing a.stores
+    (list_of a.loads.places (front a.loads.count)) c.loop-i.low c.loop-i.i c.in-Two.offset) c.loop-i.marks c.in-Two.port no-fault
+    in (
       rule_small c.args.storing c.args.stores c.args.loads.places (front c.args.loads.count) c.loop-i.low c.loop-i.i
           c.in-Two.offset c.requires.2 f.0,
       f.1,
@@ -51,15 +69,28 @@ overflow_cast-pair c =
 
 pub loop-i-preserved : goal.loop-i-preserved
 loop-i-preserved c =
-    let two : TwoGot c.args.bytes.now c.loop-i.place c.in-Two.offset c.in-Two.port c.in-Two.next = two-answer _ _ (sym (ap two_reply c.in-Two.is) ∙ c.read_two-read.ensures) in
-    let fault : c.pair_fault-answer.result ≡ number ((check_pair (let a = c.args in rule_of a.storing a.stores (list_of a.loads.places (front a.loads.count)) c.loop-i.low c.loop-i.i c.in-Two.offset) c.loop-i.marks c.in-Two.port)) = c.pair_fault-answer.ensures ∙ ap (λ (right : Bool). number ((check_pair right c.loop-i.marks c.in-Two.port))) c.offset_right-right.ensures in
-    let no-fault : (check_pair (let a = c.args in rule_of a.storing a.stores (list_of a.loads.places (front a.loads.count)) c.loop-i.low c.loop-i.i c.in-Two.offset) c.loop-i.marks c.in-Two.port) ≡ passed = pair-zero (let a = c.args in rule_of a.storing a.stores (list_of a.loads.places (front a.loads.count)) c.loop-i.low c.loop-i.i c.in-Two.offset) c.loop-i.marks c.in-Two.port (sym fault ∙ c.if-answer-ne0.false) in
-    let small : (c.in-Two.offset ≤ 16) × (c.in-Two.port ≤ 31) = let f = pair-passed (let a = c.args in rule_of a.storing a.stores (list_of a.loads.places (front a.loads.count)) c.loop-i.low c.loop-i.i c.in-Two.offset) c.loop-i.marks c.in-Two.port no-fault in (
+    let two : TwoGot c.args.bytes.now c.loop-i.place c.in-Two.offset c.in-Two.port c.in-Two.next =
+    two-answer _ _ (sym (ap two_reply c.in-Two.is) ∙ c.read_two-read.ensures) in
+    let fault : c.pair_fault-answer.result ≡ number
+    ((check_pair (let a = c.args in rule_of a.storing a.stores
+    (list_of a.loads.places (front a.loads.count)) c.loop-i.low c.loop-i.i c.in-Two.offset) c.loop-i.marks c.in-Two.port))
+    = c.pair_fault-answer.ensures ∙ ap
+    (λ (right : Bool). number ((check_pair right c.loop-i.marks c.in-Two.port))) c.offset_right-right.ensures in
+    let no-fault : (check_pair (let a = c.args in rule_of a.storing a.stores
+    (list_of a.loads.places (front a.loads.count)) c.loop-i.low c.loop-i.i c.in-Two.offset) c.loop-i.marks c.in-Two.port) ≡ passed
+    = pair-zero (let a = c.args in rule_of a.storing a.stores
+    (list_of a.loads.places (front a.loads.count)) c.loop-i.low c.loop-i.i c.in-Two.offset) c.loop-i.marks c.in-Two.port
+    (sym fault ∙ c.if-answer-ne0.false) in
+    let small : (c.in-Two.offset ≤ 16) × (c.in-Two.port ≤ 31) = let f = pair-passed
+    (let a = c.args in rule_of a.storing a.stores
+    (list_of a.loads.places (front a.loads.count)) c.loop-i.low c.loop-i.i c.in-Two.offset) c.loop-i.marks c.in-Two.port no-fault
+    in (
       rule_small c.args.storing c.args.stores c.args.loads.places (front c.args.loads.count) c.loop-i.low c.loop-i.i
           c.in-Two.offset c.requires.2 f.0,
       f.1,
     ) in
-    let small-pair : SmallPair (pair c.in-Two.offset c.in-Two.port) = record { offset = omega (arith, small.0); port = omega (arith, small.1) } in (
+    let small-pair : SmallPair (pair c.in-Two.offset c.in-Two.port) =
+    record { offset = omega (arith, small.0); port = omega (arith, small.1) } in (
       omega (arith, c.loop-i-test.true),
       reading-more c.loop-i.invariant.1 c.loop-i-test.true two c.requires.0
           no-fault small-pair _ c.pack_pair.ensures,

@@ -28,15 +28,19 @@ returns-in_default c =
 pub returns-then-fields-ne2 : goal.returns-then-fields-ne2
 unfolding read_table
 returns-then-fields-ne2 c =
-    let fields-got : NumberGot c.args.bytes.now 0 c.in-Number.fields c.in-Number.place = number_got _ _ (sym (ap number_reply c.in-Number.is) ∙ c.read_number-read.ensures) in
-    let fields-are : read_number c.args.bytes.now ≡ accept (got c.in-Number.fields (drop c.in-Number.place c.args.bytes.now)) = fields-got.is in
+    let fields-got : NumberGot c.args.bytes.now 0 c.in-Number.fields c.in-Number.place =
+    number_got _ _ (sym (ap number_reply c.in-Number.is) ∙ c.read_number-read.ensures) in
+    let fields-are : read_number c.args.bytes.now ≡ accept (got c.in-Number.fields (drop c.in-Number.place c.args.bytes.now)) =
+    fields-got.is in
     rw (c.refused-then-fields-ne2.ensures, fields-are, ne_eqb _ _ c.if-fields-ne2.true)
 
 pub returns-in_default-read : goal.returns-in_default-read
 unfolding read_table
 returns-in_default-read c =
-    let fields-got : NumberGot c.args.bytes.now 0 c.in-Number.fields c.in-Number.place = number_got _ _ (sym (ap number_reply c.in-Number.is) ∙ c.read_number-read.ensures) in
-    let fields-are : read_number c.args.bytes.now ≡ accept (got c.in-Number.fields (drop c.in-Number.place c.args.bytes.now)) = fields-got.is in
+    let fields-got : NumberGot c.args.bytes.now 0 c.in-Number.fields c.in-Number.place =
+    number_got _ _ (sym (ap number_reply c.in-Number.is) ∙ c.read_number-read.ensures) in
+    let fields-are : read_number c.args.bytes.now ≡ accept (got c.in-Number.fields (drop c.in-Number.place c.args.bytes.now)) =
+    fields-got.is in
     let s = c.args.bytes.now in
     rw (
       c.refused-in_default-read.ensures,
@@ -49,17 +53,23 @@ returns-in_default-read c =
 pub returns-then-count-lt1 : goal.returns-then-count-lt1
 unfolding read_table
 returns-then-count-lt1 c =
-    let fields-got : NumberGot c.args.bytes.now 0 c.in-Number.fields c.in-Number.place = number_got _ _ (sym (ap number_reply c.in-Number.is) ∙ c.read_number-read.ensures) in
-    let fields-are : read_number c.args.bytes.now ≡ accept (got c.in-Number.fields (drop c.in-Number.place c.args.bytes.now)) = fields-got.is in
-    let count-got : NumberGot c.args.bytes.now c.in-Number.place c.in-Number-read.count c.in-Number-read.place = number_got _ _ (sym (ap number_reply c.in-Number-read.is) ∙ c.read_number-read-2.ensures) in
+    let fields-got : NumberGot c.args.bytes.now 0 c.in-Number.fields c.in-Number.place =
+    number_got _ _ (sym (ap number_reply c.in-Number.is) ∙ c.read_number-read.ensures) in
+    let fields-are : read_number c.args.bytes.now ≡ accept (got c.in-Number.fields (drop c.in-Number.place c.args.bytes.now)) =
+    fields-got.is in
+    let count-got : NumberGot c.args.bytes.now c.in-Number.place c.in-Number-read.count c.in-Number-read.place =
+    number_got _ _ (sym (ap number_reply c.in-Number-read.is) ∙ c.read_number-read-2.ensures) in
     rw (c.refused-then-count-lt1.ensures, fields-are, eq-eqb _ _ c.if-fields-ne2.false, count-got.is, lt-leb _ _ c.if-count-lt1.true)
 
 pub returns-then-count-gt16 : goal.returns-then-count-gt16
 unfolding read_table
 returns-then-count-gt16 c =
-    let fields-got : NumberGot c.args.bytes.now 0 c.in-Number.fields c.in-Number.place = number_got _ _ (sym (ap number_reply c.in-Number.is) ∙ c.read_number-read.ensures) in
-    let fields-are : read_number c.args.bytes.now ≡ accept (got c.in-Number.fields (drop c.in-Number.place c.args.bytes.now)) = fields-got.is in
-    let count-got : NumberGot c.args.bytes.now c.in-Number.place c.in-Number-read.count c.in-Number-read.place = number_got _ _ (sym (ap number_reply c.in-Number-read.is) ∙ c.read_number-read-2.ensures) in
+    let fields-got : NumberGot c.args.bytes.now 0 c.in-Number.fields c.in-Number.place =
+    number_got _ _ (sym (ap number_reply c.in-Number.is) ∙ c.read_number-read.ensures) in
+    let fields-are : read_number c.args.bytes.now ≡ accept (got c.in-Number.fields (drop c.in-Number.place c.args.bytes.now)) =
+    fields-got.is in
+    let count-got : NumberGot c.args.bytes.now c.in-Number.place c.in-Number-read.count c.in-Number-read.place =
+    number_got _ _ (sym (ap number_reply c.in-Number-read.is) ∙ c.read_number-read-2.ensures) in
     rw (
       c.refused-then-count-gt16.ensures,
       fields-are,
@@ -72,9 +82,12 @@ returns-then-count-gt16 c =
 pub returns-then-groups-ne0 : goal.returns-then-groups-ne0
 unfolding read_table
 returns-then-groups-ne0 c =
-    let fields-got : NumberGot c.args.bytes.now 0 c.in-Number.fields c.in-Number.place = number_got _ _ (sym (ap number_reply c.in-Number.is) ∙ c.read_number-read.ensures) in
-    let fields-are : read_number c.args.bytes.now ≡ accept (got c.in-Number.fields (drop c.in-Number.place c.args.bytes.now)) = fields-got.is in
-    let count-got : NumberGot c.args.bytes.now c.in-Number.place c.in-Number-read.count c.in-Number-read.place = number_got _ _ (sym (ap number_reply c.in-Number-read.is) ∙ c.read_number-read-2.ensures) in
+    let fields-got : NumberGot c.args.bytes.now 0 c.in-Number.fields c.in-Number.place =
+    number_got _ _ (sym (ap number_reply c.in-Number.is) ∙ c.read_number-read.ensures) in
+    let fields-are : read_number c.args.bytes.now ≡ accept (got c.in-Number.fields (drop c.in-Number.place c.args.bytes.now)) =
+    fields-got.is in
+    let count-got : NumberGot c.args.bytes.now c.in-Number.place c.in-Number-read.count c.in-Number-read.place =
+    number_got _ _ (sym (ap number_reply c.in-Number-read.is) ∙ c.read_number-read-2.ensures) in
     rw (
       c.refused-then-groups-ne0.ensures,
       fields-are,
@@ -88,11 +101,17 @@ returns-then-groups-ne0 c =
 pub returns-then-groups-bytes : goal.returns-then-groups-bytes
 unfolding read_table
 returns-then-groups-bytes c =
-    let fields-got : NumberGot c.args.bytes.now 0 c.in-Number.fields c.in-Number.place = number_got _ _ (sym (ap number_reply c.in-Number.is) ∙ c.read_number-read.ensures) in
-    let fields-are : read_number c.args.bytes.now ≡ accept (got c.in-Number.fields (drop c.in-Number.place c.args.bytes.now)) = fields-got.is in
-    let count-got : NumberGot c.args.bytes.now c.in-Number.place c.in-Number-read.count c.in-Number-read.place = number_got _ _ (sym (ap number_reply c.in-Number-read.is) ∙ c.read_number-read-2.ensures) in
-    let groups : let r = c.read_groups-groups.result in Finds (read_groups c.in-Number-read.count none_seen (drop c.in-Number-read.place c.args.bytes.now)) c.args.bytes.now r.next (λ gs. r.table ≡ pack gs) = c.read_groups-groups.ensures.given c.if-groups-ne0.false in
-    let left_over : length (drop c.read_groups-groups.result.next c.args.bytes.now) ≡ length c.args.bytes.now - c.read_groups-groups.result.next = length-drop c.read_groups-groups.result.next c.args.bytes.now in
+    let fields-got : NumberGot c.args.bytes.now 0 c.in-Number.fields c.in-Number.place =
+    number_got _ _ (sym (ap number_reply c.in-Number.is) ∙ c.read_number-read.ensures) in
+    let fields-are : read_number c.args.bytes.now ≡ accept (got c.in-Number.fields (drop c.in-Number.place c.args.bytes.now)) =
+    fields-got.is in
+    let count-got : NumberGot c.args.bytes.now c.in-Number.place c.in-Number-read.count c.in-Number-read.place =
+    number_got _ _ (sym (ap number_reply c.in-Number-read.is) ∙ c.read_number-read-2.ensures) in
+    let groups : let r = c.read_groups-groups.result in Finds
+    (read_groups c.in-Number-read.count none_seen (drop c.in-Number-read.place c.args.bytes.now)) c.args.bytes.now r.next
+    (λ gs. r.table ≡ pack gs) = c.read_groups-groups.ensures.given c.if-groups-ne0.false in
+    let left_over : length (drop c.read_groups-groups.result.next c.args.bytes.now)
+    ≡ length c.args.bytes.now - c.read_groups-groups.result.next = length-drop c.read_groups-groups.result.next c.args.bytes.now in
     rw (
       c.refused-then-groups-bytes.ensures,
       fields-are,
@@ -101,17 +120,24 @@ returns-then-groups-bytes c =
       le-leb _ _ c.if-count-lt1.false,
       le-leb _ _ c.if-count-gt16.false,
       groups.is,
-      ne_eqb (length (drop c.read_groups-groups.result.next c.args.bytes.now)) 0 (λ z. c.if-groups-bytes.true (omega (arith, left_over, groups.inside))),
+      ne_eqb (length (drop c.read_groups-groups.result.next c.args.bytes.now)) 0
+          (λ z. c.if-groups-bytes.true (omega (arith, left_over, groups.inside))),
     )
 
 pub returns : goal.returns
 unfolding read_table
 returns c =
-    let fields-got : NumberGot c.args.bytes.now 0 c.in-Number.fields c.in-Number.place = number_got _ _ (sym (ap number_reply c.in-Number.is) ∙ c.read_number-read.ensures) in
-    let fields-are : read_number c.args.bytes.now ≡ accept (got c.in-Number.fields (drop c.in-Number.place c.args.bytes.now)) = fields-got.is in
-    let count-got : NumberGot c.args.bytes.now c.in-Number.place c.in-Number-read.count c.in-Number-read.place = number_got _ _ (sym (ap number_reply c.in-Number-read.is) ∙ c.read_number-read-2.ensures) in
-    let groups : let r = c.read_groups-groups.result in Finds (read_groups c.in-Number-read.count none_seen (drop c.in-Number-read.place c.args.bytes.now)) c.args.bytes.now r.next (λ gs. r.table ≡ pack gs) = c.read_groups-groups.ensures.given c.if-groups-ne0.false in
-    let left_over : length (drop c.read_groups-groups.result.next c.args.bytes.now) ≡ length c.args.bytes.now - c.read_groups-groups.result.next = length-drop c.read_groups-groups.result.next c.args.bytes.now in
+    let fields-got : NumberGot c.args.bytes.now 0 c.in-Number.fields c.in-Number.place =
+    number_got _ _ (sym (ap number_reply c.in-Number.is) ∙ c.read_number-read.ensures) in
+    let fields-are : read_number c.args.bytes.now ≡ accept (got c.in-Number.fields (drop c.in-Number.place c.args.bytes.now)) =
+    fields-got.is in
+    let count-got : NumberGot c.args.bytes.now c.in-Number.place c.in-Number-read.count c.in-Number-read.place =
+    number_got _ _ (sym (ap number_reply c.in-Number-read.is) ∙ c.read_number-read-2.ensures) in
+    let groups : let r = c.read_groups-groups.result in Finds
+    (read_groups c.in-Number-read.count none_seen (drop c.in-Number-read.place c.args.bytes.now)) c.args.bytes.now r.next
+    (λ gs. r.table ≡ pack gs) = c.read_groups-groups.ensures.given c.if-groups-ne0.false in
+    let left_over : length (drop c.read_groups-groups.result.next c.args.bytes.now)
+    ≡ length c.args.bytes.now - c.read_groups-groups.result.next = length-drop c.read_groups-groups.result.next c.args.bytes.now in
     rw (
       fields-are,
       eq-eqb _ _ c.if-fields-ne2.false,

@@ -19,7 +19,8 @@ returns-in_default c =
 pub returns-in_default-read : goal.returns-in_default-read
 unfolding read_two
 returns-in_default-read c =
-    let first-got : NumberGot c.args.bytes.now c.args.at c.in-Number.first c.in-Number.place = number_got _ _ (sym (ap number_reply c.in-Number.is) ∙ c.read_number-read.ensures) in
+    let first-got : NumberGot c.args.bytes.now c.args.at c.in-Number.first c.in-Number.place =
+    number_got _ _ (sym (ap number_reply c.in-Number.is) ∙ c.read_number-read.ensures) in
     let bytes = c.args.bytes.now in
     rw (
       c.number_refusal-in_default-read.ensures ∙ ap number_refusal c.in_default-read.is,
@@ -31,6 +32,8 @@ returns-in_default-read c =
 pub returns : goal.returns
 unfolding read_two
 returns c =
-    let first-got : NumberGot c.args.bytes.now c.args.at c.in-Number.first c.in-Number.place = number_got _ _ (sym (ap number_reply c.in-Number.is) ∙ c.read_number-read.ensures) in
-    let second-got : NumberGot c.args.bytes.now c.in-Number.place c.in-Number-read.second c.in-Number-read.next = number_got _ _ (sym (ap number_reply c.in-Number-read.is) ∙ c.read_number-read-2.ensures) in
+    let first-got : NumberGot c.args.bytes.now c.args.at c.in-Number.first c.in-Number.place =
+    number_got _ _ (sym (ap number_reply c.in-Number.is) ∙ c.read_number-read.ensures) in
+    let second-got : NumberGot c.args.bytes.now c.in-Number.place c.in-Number-read.second c.in-Number-read.next =
+    number_got _ _ (sym (ap number_reply c.in-Number-read.is) ∙ c.read_number-read-2.ensures) in
     rw (first-got.is, second-got.is, place_drop _ _ second-got.inside)

@@ -11,8 +11,11 @@ use Rattle.table.proofs.write.pairs_length.Goals as goal
 pub loop-i-preserved : goal.loop-i-preserved
 loop-i-preserved c =
     let size : length (list_of c.args.places.now c.args.pairs) ≡ c.args.pairs.count = view-length c.args.places.now c.args.pairs in
-    let five : (c.number_length.result ≤ 5) × (c.number_length-in-loop-i.result ≤ 5) = let p = c.unpack_pair-pair.result in
-    (omega (arith, c.number_length.ensures.by_bytes, bytes_most p.offset), omega (arith, c.number_length-in-loop-i.ensures.by_bytes, bytes_most p.port)) in
+    let five : (c.number_length.result ≤ 5) × (c.number_length-in-loop-i.result ≤ 5) = let p = c.unpack_pair-pair.result in (
+      omega (arith, c.number_length.ensures.by_bytes, bytes_most p.offset),
+      omega
+          (arith, c.number_length-in-loop-i.ensures.by_bytes, bytes_most p.port),
+    ) in
     let p = c.unpack_pair-pair.result in
     let e : get_or (list_of c.args.places.now c.args.pairs) c.loop-i.i blank_pair ≡ p =
     view-at c.args.places.now c.args.pairs c.loop-i.i c.loop-i-test.true ∙ sym c.unpack_pair-pair.ensures in (

@@ -8,7 +8,8 @@ use Rattle.table.proofs.write.put_pairs.Given as goal
 
 abbrev pub invariant-loop-i : goal.invariant-loop-i
 invariant-loop-i l = (l.i ≤ l.count)
-    × NumbersPut l.initial.out l.at (flat_map pair_numbers (take l.i (list_of l.places (record { first = l.first; count = l.count })))) l.out l.place
+    × NumbersPut l.initial.out l.at (flat_map pair_numbers (take l.i (list_of l.places (record { first = l.first; count = l.count }))))
+    l.out l.place
 
 abbrev pub decreases-loop-i : goal.decreases-loop-i
 decreases-loop-i l = l.count - l.i

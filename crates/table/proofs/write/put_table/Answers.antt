@@ -17,34 +17,74 @@ use Rattle.table.proofs.write.put_table.Goals as goal
 
 pub put_group-place-requires : goal.put_group-place-requires
 put_group-place-requires c =
-    let table_of : Table = record { count = c.args.count; groups = c.args.groups.now; loads = c.args.loads.now; stores = c.args.stores.now } in
+    let table_of : Table = record {
+      count = c.args.count;
+      groups = c.args.groups.now;
+      loads = c.args.loads.now;
+      stores
+          = c.args.stores.now;
+    } in
     let table_at : Table = table_of in
-    let space : length (number_bytes 2) + length (number_bytes c.args.count) + length (bytes_of (flat_map group_numbers (groups_of table_of))) ≤ length c.args.out.now = omega (arith, table-size (groups_of table_of) c.args.count (groups-size table_of), c.requires.1) in
-    let fields-put : Puts c.args.out.now 0 (number_bytes 2) c.put_number-after_fields.result c.put_number-after_fields.new.out = put-at (omega (arith, space)) c.put_number-after_fields.ensures in
-    let count-put : Puts c.put_number-after_fields.new.out c.put_number-after_fields.result (number_bytes c.args.count) c.put_number-place.result c.put_number-place.new.out = put-at (omega (arith, space, fields-put.ends, c.put_number-after_fields.auto.out)) c.put_number-place.ensures in
-    let head-end : (c.put_number-place.result ≡ length (number_bytes 2) + length (number_bytes c.args.count)) × (length c.put_number-place.new.out ≡ length c.args.out.now) = (omega (arith, fields-put.ends, count-put.ends), omega (arith, c.put_number-after_fields.auto.out, c.put_number-place.auto.out)) in
+    let space : length (number_bytes 2) + length (number_bytes c.args.count) + length
+    (bytes_of (flat_map group_numbers (groups_of table_of))) ≤ length c.args.out.now = omega
+    (arith, table-size (groups_of table_of) c.args.count (groups-size table_of), c.requires.1) in
+    let fields-put : Puts c.args.out.now 0 (number_bytes 2) c.put_number-after_fields.result c.put_number-after_fields.new.out =
+    put-at (omega (arith, space)) c.put_number-after_fields.ensures in
+    let count-put : Puts c.put_number-after_fields.new.out c.put_number-after_fields.result
+    (number_bytes c.args.count) c.put_number-place.result c.put_number-place.new.out = put-at
+    (omega (arith, space, fields-put.ends, c.put_number-after_fields.auto.out)) c.put_number-place.ensures in
+    let head-end : (c.put_number-place.result ≡ length (number_bytes 2) + length (number_bytes c.args.count)) ×
+    (length c.put_number-place.new.out ≡ length c.args.out.now) = (
+      omega (arith, fields-put.ends, count-put.ends),
+      omega
+          (arith, c.put_number-after_fields.auto.out, c.put_number-place.auto.out),
+    ) in
     let group_of : GroupPairs = let t = table_at in
     pairs_of t.loads t.stores c.group_at-group.result in
-    let this : get_or (groups_of table_at) c.loop-i.i group_of ≡ group_of = group_at_lem table_at c.requires.0 c.loop-i.i c.loop-i-test.true group_of c.group_at-group.ensures in
+    let this : get_or (groups_of table_at) c.loop-i.i group_of ≡ group_of =
+    group_at_lem table_at c.requires.0 c.loop-i.i c.loop-i-test.true group_of c.group_at-group.ensures in
     let inside : c.loop-i.i < length (groups_of table_at) = omega (arith, groups-size table_at, c.loop-i-test.true) in
-    let room : c.put_number-place.result + (length (bytes_of (flat_map group_numbers (take c.loop-i.i (groups_of table_at)))) + length (bytes_of (group_numbers group_of))) ≤ length c.put_number-place.new.out = let f = rw this at (flat_room group_numbers (groups_of table_at) c.loop-i.i group_of inside) in
+    let room : c.put_number-place.result +
+    (length (bytes_of (flat_map group_numbers (take c.loop-i.i (groups_of table_at)))) + length
+    (bytes_of (group_numbers group_of))) ≤ length c.put_number-place.new.out = let f = rw this at
+    (flat_room group_numbers (groups_of table_at) c.loop-i.i group_of inside) in
     omega (arith, f, space, head-end.0, head-end.1) in
     let w = c.loop-i.invariant.1 in
     (group-inside _ _ c.group_at-group.ensures, omega (arith, room, w.ends, put-length w (omega (arith, room))))
 
 pub loop-i-preserved : goal.loop-i-preserved
 loop-i-preserved c =
-    let table_of : Table = record { count = c.args.count; groups = c.args.groups.now; loads = c.args.loads.now; stores = c.args.stores.now } in
+    let table_of : Table = record {
+      count = c.args.count;
+      groups = c.args.groups.now;
+      loads = c.args.loads.now;
+      stores
+          = c.args.stores.now;
+    } in
     let table_at : Table = table_of in
-    let space : length (number_bytes 2) + length (number_bytes c.args.count) + length (bytes_of (flat_map group_numbers (groups_of table_of))) ≤ length c.args.out.now = omega (arith, table-size (groups_of table_of) c.args.count (groups-size table_of), c.requires.1) in
-    let fields-put : Puts c.args.out.now 0 (number_bytes 2) c.put_number-after_fields.result c.put_number-after_fields.new.out = put-at (omega (arith, space)) c.put_number-after_fields.ensures in
-    let count-put : Puts c.put_number-after_fields.new.out c.put_number-after_fields.result (number_bytes c.args.count) c.put_number-place.result c.put_number-place.new.out = put-at (omega (arith, space, fields-put.ends, c.put_number-after_fields.auto.out)) c.put_number-place.ensures in
-    let head-end : (c.put_number-place.result ≡ length (number_bytes 2) + length (number_bytes c.args.count)) × (length c.put_number-place.new.out ≡ length c.args.out.now) = (omega (arith, fields-put.ends, count-put.ends), omega (arith, c.put_number-after_fields.auto.out, c.put_number-place.auto.out)) in
+    let space : length (number_bytes 2) + length (number_bytes c.args.count) + length
+    (bytes_of (flat_map group_numbers (groups_of table_of))) ≤ length c.args.out.now = omega
+    (arith, table-size (groups_of table_of) c.args.count (groups-size table_of), c.requires.1) in
+    let fields-put : Puts c.args.out.now 0 (number_bytes 2) c.put_number-after_fields.result c.put_number-after_fields.new.out =
+    put-at (omega (arith, space)) c.put_number-after_fields.ensures in
+    let count-put : Puts c.put_number-after_fields.new.out c.put_number-after_fields.result
+    (number_bytes c.args.count) c.put_number-place.result c.put_number-place.new.out = put-at
+    (omega (arith, space, fields-put.ends, c.put_number-after_fields.auto.out)) c.put_number-place.ensures in
+    let head-end : (c.put_number-place.result ≡ length (number_bytes 2) + length (number_bytes c.args.count)) ×
+    (length c.put_number-place.new.out ≡ length c.args.out.now) = (
+      omega (arith, fields-put.ends, count-put.ends),
+      omega
+          (arith, c.put_number-after_fields.auto.out, c.put_number-place.auto.out),
+    ) in
     let group_of : GroupPairs = let t = table_at in
     pairs_of t.loads t.stores c.group_at-group.result in
-    let this : get_or (groups_of table_at) c.loop-i.i group_of ≡ group_of = group_at_lem table_at c.requires.0 c.loop-i.i c.loop-i-test.true group_of c.group_at-group.ensures in
+    let this : get_or (groups_of table_at) c.loop-i.i group_of ≡ group_of =
+    group_at_lem table_at c.requires.0 c.loop-i.i c.loop-i-test.true group_of c.group_at-group.ensures in
     let inside : c.loop-i.i < length (groups_of table_at) = omega (arith, groups-size table_at, c.loop-i-test.true) in
-    let room : c.put_number-place.result + (length (bytes_of (flat_map group_numbers (take c.loop-i.i (groups_of table_at)))) + length (bytes_of (group_numbers group_of))) ≤ length c.put_number-place.new.out = let f = rw this at (flat_room group_numbers (groups_of table_at) c.loop-i.i group_of inside) in
+    let room : c.put_number-place.result +
+    (length (bytes_of (flat_map group_numbers (take c.loop-i.i (groups_of table_at)))) + length
+    (bytes_of (group_numbers group_of))) ≤ length c.put_number-place.new.out = let f = rw this at
+    (flat_room group_numbers (groups_of table_at) c.loop-i.i group_of inside) in
     omega (arith, f, space, head-end.0, head-end.1) in
     let q = flat_next group_numbers (groups_of table_at) c.loop-i.i group_of inside in (
       omega (arith, c.loop-i-test.true),
@@ -54,12 +94,26 @@ loop-i-preserved c =
 
 pub returns : goal.returns
 returns c =
-    let table_of : Table = record { count = c.args.count; groups = c.args.groups.now; loads = c.args.loads.now; stores = c.args.stores.now } in
+    let table_of : Table = record {
+      count = c.args.count;
+      groups = c.args.groups.now;
+      loads = c.args.loads.now;
+      stores
+          = c.args.stores.now;
+    } in
     let table_at : Table = table_of in
-    let space : length (number_bytes 2) + length (number_bytes c.args.count) + length (bytes_of (flat_map group_numbers (groups_of table_of))) ≤ length c.args.out.now = omega (arith, table-size (groups_of table_of) c.args.count (groups-size table_of), c.requires.1) in
-    let fields-put : Puts c.args.out.now 0 (number_bytes 2) c.put_number-after_fields.result c.put_number-after_fields.new.out = put-at (omega (arith, space)) c.put_number-after_fields.ensures in
-    let count-put : Puts c.put_number-after_fields.new.out c.put_number-after_fields.result (number_bytes c.args.count) c.put_number-place.result c.put_number-place.new.out = put-at (omega (arith, space, fields-put.ends, c.put_number-after_fields.auto.out)) c.put_number-place.ensures in
-    let head-put : NumbersPut c.args.out.now 0 (2 ∷ c.args.count ∷ []) c.put_number-place.new.out c.put_number-place.result = put_two put_none 2 c.args.count (omega (arith, space)) fields-put.is fields-put.ends count-put.is count-put.ends in
-    let done : NumbersPut c.put_number-place.new.out c.put_number-place.result (flat_map group_numbers (groups_of table_at)) c.loop-i.out c.loop-i.place = rw (take_all c.loop-i.i (groups_of table_at) (omega (arith, groups-size table_at, c.loop-i-test.false))) at
+    let space : length (number_bytes 2) + length (number_bytes c.args.count) + length
+    (bytes_of (flat_map group_numbers (groups_of table_of))) ≤ length c.args.out.now = omega
+    (arith, table-size (groups_of table_of) c.args.count (groups-size table_of), c.requires.1) in
+    let fields-put : Puts c.args.out.now 0 (number_bytes 2) c.put_number-after_fields.result c.put_number-after_fields.new.out =
+    put-at (omega (arith, space)) c.put_number-after_fields.ensures in
+    let count-put : Puts c.put_number-after_fields.new.out c.put_number-after_fields.result
+    (number_bytes c.args.count) c.put_number-place.result c.put_number-place.new.out = put-at
+    (omega (arith, space, fields-put.ends, c.put_number-after_fields.auto.out)) c.put_number-place.ensures in
+    let head-put : NumbersPut c.args.out.now 0 (2 ∷ c.args.count ∷ []) c.put_number-place.new.out c.put_number-place.result =
+    put_two put_none 2 c.args.count (omega (arith, space)) fields-put.is fields-put.ends count-put.is count-put.ends in
+    let done : NumbersPut c.put_number-place.new.out c.put_number-place.result
+    (flat_map group_numbers (groups_of table_at)) c.loop-i.out c.loop-i.place = rw
+    (take_all c.loop-i.i (groups_of table_at) (omega (arith, groups-size table_at, c.loop-i-test.false))) at
     c.loop-i.invariant.1 in
     put-table (groups_of table_of) (groups-size table_of) head-put done c.requires.1

@@ -10,7 +10,13 @@ group_length-total-requires c = group-inside _ _ c.group_at-group.ensures
 
 pub loop-i-preserved : goal.loop-i-preserved
 loop-i-preserved c =
-    let table_of : Table = record { count = c.args.count; groups = c.args.groups.now; loads = c.args.loads.now; stores = c.args.stores.now } in
+    let table_of : Table = record {
+      count = c.args.count;
+      groups = c.args.groups.now;
+      loads = c.args.loads.now;
+      stores
+          = c.args.stores.now;
+    } in
     let t = table_of in
     let i = c.loop-i.i in
     let g = pairs_of t.loads t.stores c.group_at-group.result in

@@ -14,7 +14,8 @@ use Rattle.table.proofs.write.write_table.Goals as goal
 
 pub returns-then-fault-ne0 : goal.returns-then-fault-ne0
 unfolding wrote_table
-returns-then-fault-ne0 c = rw (some_refused (check_table (groups_of c.args.table)) c.table_fault-fault.ensures c.if-fault-ne0.true) (refl, refl)
+returns-then-fault-ne0 c = rw (some_refused (check_table (groups_of c.args.table)) c.table_fault-fault.ensures c.if-fault-ne0.true)
+    (refl, refl)
 
 pub table_length-length-requires : goal.table_length-length-requires
 table_length-length-requires c =

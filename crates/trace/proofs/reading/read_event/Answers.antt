@@ -23,5 +23,6 @@ returns-in_default c =
 pub returns : goal.returns
 unfolding read_event
 returns c =
-    let kind-got : NumberGot c.args.bytes.now c.args.at c.in-Number.kind c.in-Number.place = number_got _ _ (sym (ap number_reply c.in-Number.is) ∙ c.read_number-read.ensures) in
+    let kind-got : NumberGot c.args.bytes.now c.args.at c.in-Number.kind c.in-Number.place =
+    number_got _ _ (sym (ap number_reply c.in-Number.is) ∙ c.read_number-read.ensures) in
     rw (event_at_inside _ _ c.if-bytes-at.false, kind-got.is) c.read_kind.ensures

@@ -19,7 +19,8 @@ returns-in_default c =
 pub returns-in_default-second : goal.returns-in_default-second
 unfolding read_header
 returns-in_default-second c =
-    let first-got : NumberGot c.args.bytes.now 0 c.in-Number.load_depth c.in-Number.place = number_got _ _ (sym (ap number_reply c.in-Number.is) ∙ c.read_number-first.ensures) in
+    let first-got : NumberGot c.args.bytes.now 0 c.in-Number.load_depth c.in-Number.place =
+    number_got _ _ (sym (ap number_reply c.in-Number.is) ∙ c.read_number-first.ensures) in
     rw (
       c.number_refusal-in_default-second.ensures
           ∙ ap number_refusal c.in_default-second.is,
@@ -30,8 +31,10 @@ returns-in_default-second c =
 pub returns-in_default-third : goal.returns-in_default-third
 unfolding read_header
 returns-in_default-third c =
-    let first-got : NumberGot c.args.bytes.now 0 c.in-Number.load_depth c.in-Number.place = number_got _ _ (sym (ap number_reply c.in-Number.is) ∙ c.read_number-first.ensures) in
-    let second-got : NumberGot c.args.bytes.now c.in-Number.place c.in-Number-second.store_depth c.in-Number-second.place = number_got _ _ (sym (ap number_reply c.in-Number-second.is) ∙ c.read_number-second.ensures) in
+    let first-got : NumberGot c.args.bytes.now 0 c.in-Number.load_depth c.in-Number.place =
+    number_got _ _ (sym (ap number_reply c.in-Number.is) ∙ c.read_number-first.ensures) in
+    let second-got : NumberGot c.args.bytes.now c.in-Number.place c.in-Number-second.store_depth c.in-Number-second.place =
+    number_got _ _ (sym (ap number_reply c.in-Number-second.is) ∙ c.read_number-second.ensures) in
     rw (
       c.number_refusal-in_default-third.ensures
           ∙ ap number_refusal c.in_default-third.is,
@@ -44,9 +47,12 @@ returns-in_default-third c =
 pub returns-in_default-fourth : goal.returns-in_default-fourth
 unfolding read_header
 returns-in_default-fourth c =
-    let first-got : NumberGot c.args.bytes.now 0 c.in-Number.load_depth c.in-Number.place = number_got _ _ (sym (ap number_reply c.in-Number.is) ∙ c.read_number-first.ensures) in
-    let second-got : NumberGot c.args.bytes.now c.in-Number.place c.in-Number-second.store_depth c.in-Number-second.place = number_got _ _ (sym (ap number_reply c.in-Number-second.is) ∙ c.read_number-second.ensures) in
-    let third-got : NumberGot c.args.bytes.now c.in-Number-second.place c.in-Number-third.serial c.in-Number-third.place = number_got _ _ (sym (ap number_reply c.in-Number-third.is) ∙ c.read_number-third.ensures) in
+    let first-got : NumberGot c.args.bytes.now 0 c.in-Number.load_depth c.in-Number.place =
+    number_got _ _ (sym (ap number_reply c.in-Number.is) ∙ c.read_number-first.ensures) in
+    let second-got : NumberGot c.args.bytes.now c.in-Number.place c.in-Number-second.store_depth c.in-Number-second.place =
+    number_got _ _ (sym (ap number_reply c.in-Number-second.is) ∙ c.read_number-second.ensures) in
+    let third-got : NumberGot c.args.bytes.now c.in-Number-second.place c.in-Number-third.serial c.in-Number-third.place =
+    number_got _ _ (sym (ap number_reply c.in-Number-third.is) ∙ c.read_number-third.ensures) in
     rw (
       c.number_refusal-in_default-fourth.ensures
           ∙ ap number_refusal c.in_default-fourth.is,
@@ -60,10 +66,14 @@ returns-in_default-fourth c =
 pub returns : goal.returns
 unfolding read_header
 returns c =
-    let first-got : NumberGot c.args.bytes.now 0 c.in-Number.load_depth c.in-Number.place = number_got _ _ (sym (ap number_reply c.in-Number.is) ∙ c.read_number-first.ensures) in
-    let second-got : NumberGot c.args.bytes.now c.in-Number.place c.in-Number-second.store_depth c.in-Number-second.place = number_got _ _ (sym (ap number_reply c.in-Number-second.is) ∙ c.read_number-second.ensures) in
-    let third-got : NumberGot c.args.bytes.now c.in-Number-second.place c.in-Number-third.serial c.in-Number-third.place = number_got _ _ (sym (ap number_reply c.in-Number-third.is) ∙ c.read_number-third.ensures) in
-    let fourth-got : NumberGot c.args.bytes.now c.in-Number-third.place c.in-Number-fourth.memory_length c.in-Number-fourth.place = number_got _ _ (sym (ap number_reply c.in-Number-fourth.is) ∙ c.read_number-fourth.ensures) in
+    let first-got : NumberGot c.args.bytes.now 0 c.in-Number.load_depth c.in-Number.place =
+    number_got _ _ (sym (ap number_reply c.in-Number.is) ∙ c.read_number-first.ensures) in
+    let second-got : NumberGot c.args.bytes.now c.in-Number.place c.in-Number-second.store_depth c.in-Number-second.place =
+    number_got _ _ (sym (ap number_reply c.in-Number-second.is) ∙ c.read_number-second.ensures) in
+    let third-got : NumberGot c.args.bytes.now c.in-Number-second.place c.in-Number-third.serial c.in-Number-third.place =
+    number_got _ _ (sym (ap number_reply c.in-Number-third.is) ∙ c.read_number-third.ensures) in
+    let fourth-got : NumberGot c.args.bytes.now c.in-Number-third.place c.in-Number-fourth.memory_length c.in-Number-fourth.place =
+    number_got _ _ (sym (ap number_reply c.in-Number-fourth.is) ∙ c.read_number-fourth.ensures) in
     rw (
       first-got.is,
       second-got.is,

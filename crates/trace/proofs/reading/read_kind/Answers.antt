@@ -8,7 +8,8 @@ use Rattle.trace.proofs.reading.read_kind.Goals as goal
 
 pub returns-in_default-read : goal.returns-in_default-read
 returns-in_default-read c =
-    let first-got : NumberGot c.args.bytes.now c.args.at c.in-Number.first c.in-Number.place = number_got _ _ (sym (ap number_reply c.in-Number.is) ∙ c.read_number-read.ensures) in
+    let first-got : NumberGot c.args.bytes.now c.args.at c.in-Number.first c.in-Number.place =
+    number_got _ _ (sym (ap number_reply c.in-Number.is) ∙ c.read_number-read.ensures) in
     rw (
       c.number_refusal-in_default-read.ensures ∙ ap number_refusal c.in_default-read.is,
       le-leb _ _ c.if-kind-gt6.false,
@@ -20,8 +21,10 @@ returns-in_default-read c =
 
 pub returns : goal.returns
 returns c =
-    let first-got : NumberGot c.args.bytes.now c.args.at c.in-Number.first c.in-Number.place = number_got _ _ (sym (ap number_reply c.in-Number.is) ∙ c.read_number-read.ensures) in
-    let second-got : NumberGot c.args.bytes.now c.in-Number.place c.in-Number-read.second c.in-Number-read.place = number_got _ _ (sym (ap number_reply c.in-Number-read.is) ∙ c.read_number-read-2.ensures) in
+    let first-got : NumberGot c.args.bytes.now c.args.at c.in-Number.first c.in-Number.place =
+    number_got _ _ (sym (ap number_reply c.in-Number.is) ∙ c.read_number-read.ensures) in
+    let second-got : NumberGot c.args.bytes.now c.in-Number.place c.in-Number-read.second c.in-Number-read.place =
+    number_got _ _ (sym (ap number_reply c.in-Number-read.is) ∙ c.read_number-read-2.ensures) in
     rw (
       c.event_of-2.ensures,
       le-leb _ _ c.if-kind-gt6.false,

@@ -13,7 +13,9 @@ pub loop-i-preserved : goal.loop-i-preserved
 loop-i-preserved c =
     let whole : c.args.numbers.count ≤ length c.args.numbers.values = let e : length c.args.numbers.values ≡ 4 = search rules in
     omega (arith, c.requires.0) in
-    let next_fits : length (bytes_of (take c.loop-i.i c.args.numbers.values)) + length (number_bytes (get_or c.args.numbers.values c.loop-i.i 0)) ≤ length c.args.out.now = omega (arith, bytes_room c.args.numbers.values c.args.numbers.count c.loop-i.i c.loop-i-test.true whole, c.requires.1) in
+    let next_fits : length (bytes_of (take c.loop-i.i c.args.numbers.values)) + length
+    (number_bytes (get_or c.args.numbers.values c.loop-i.i 0)) ≤ length c.args.out.now = omega
+    (arith, bytes_room c.args.numbers.values c.args.numbers.count c.loop-i.i c.loop-i-test.true whole, c.requires.1) in
     let v = c.args.numbers.values in
     let i = c.loop-i.i in
     let w = c.loop-i.invariant.1 in

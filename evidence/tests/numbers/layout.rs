@@ -164,10 +164,8 @@ fn size_of(sources: &Sources, source: &Source, kind: &str) -> (u64, u64) {
 /// An array's length: a number, or a constant, of the source or of the crate that
 /// it is taken from.
 fn length_of(sources: &Sources, source: &Source, length: &str) -> u64 {
-    let taken = format!("::{length};");
     let mut uses = source.text.lines();
-    let taken_from = uses.find_map(|line| line.strip_prefix("use ")?.strip_suffix(&taken));
-    if let Some(name) = taken_from {
+    if let Some(name) = uses.find_map(|line| taken_from(line, length)) {
         let path = format!("crates/{name}/src/lib.rt");
         return length_of(sources, sources.get(&path), length);
     }
@@ -176,4 +174,15 @@ fn length_of(sources: &Sources, source: &Source, length: &str) -> u64 {
     let constant = lines.find_map(|line| line.strip_prefix(&head)?.strip_suffix(';'));
     let number = constant.unwrap_or(length).parse();
     number.unwrap_or_else(|_| panic!("{}: no length {length}", source.path))
+}
+
+/// The crate that a line `use CRATE::NAME;` or `use CRATE::{NAME, ..};` takes a
+/// name from.
+fn taken_from<'a>(line: &'a str, name: &str) -> Option<&'a str> {
+    let (from, names) = line
+        .strip_prefix("use ")?
+        .strip_suffix(';')?
+        .split_once("::")?;
+    let mut names = names.trim_matches(['{', '}']).split(", ");
+    names.any(|taken| taken == name).then_some(from)
 }

@@ -62,16 +62,16 @@ fn checked(sources: &Sources) -> Check {
     check
 }
 
-/// `mostText = 63 * mostBytes + 47 * 4096 + 85`.
+/// `most_text = 63 * most_bytes + 47 * 4096 + 85`.
 fn longest_text(check: &mut Check, sources: &Sources) {
     let source = sources.get(TEXT_SPECS);
     let line = source
         .lines()
-        .find(|(_, line)| line.starts_with("mostText = "));
+        .find(|(_, line)| line.starts_with("most_text = "));
     let numerals = line.map_or(Vec::new(), |(range, _)| source.numerals_in(&range));
     let file = check.first("bytes of the longest file");
     let ([event, word, words, last], Some(file)) = (&numerals[..], file) else {
-        return check.fault(format!("{TEXT_SPECS}: no mostText as a sum"));
+        return check.fault(format!("{TEXT_SPECS}: no most_text as a sum"));
     };
     let value = |&numeral: &usize| source.numerals[numeral].value;
     let sum = value(event) * file + value(word) * value(words) + value(last);

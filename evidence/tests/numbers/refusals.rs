@@ -99,21 +99,8 @@ fn name_of(before: &str) -> Option<String> {
     let word = before.trim().trim_start_matches("pub const ");
     let word = word.trim_end_matches(": u8").trim_start_matches("LSQ_");
     let is_name = word.chars().all(|c| c.is_ascii_alphabetic() || c == '_');
-    let name = if word.contains(|c: char| c.is_ascii_lowercase()) {
-        screaming(word)
-    } else {
-        word.into()
-    };
+    let name = word.to_ascii_uppercase();
     let other = CRATES_NAMES.iter().find(|(crates, _)| *crates == name);
     let name = other.map_or(name, |(_, lsq)| lsq.to_string());
     is_name.then_some(name)
-}
-
-/// `badLoadDepth` as `BAD_LOAD_DEPTH`.
-fn screaming(word: &str) -> String {
-    let letter = |c: char| match c.is_ascii_uppercase() {
-        true => format!("_{c}"),
-        false => c.to_ascii_uppercase().to_string(),
-    };
-    word.chars().map(letter).collect()
 }

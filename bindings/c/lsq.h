@@ -1,9 +1,9 @@
 /* The group-allocated load-store queue: the functions of two libraries, which
- * `rt staticlib exports` and `rt staticlib live` write to target/staticlib/, and
- * a live queue on top. libexports.a has the replays, the text and the share;
- * liblive.a the calls on a queue, the shift record and its page, a group's order
- * from pairs and its table, and tables, numbers and events as bytes. A program
- * links those that it calls.
+ * `rt lib` in crates/exports and in crates/live writes to out/ there, and a live
+ * queue on top. libexports.a has the replays, the text and the share; liblive.a
+ * the calls on a queue, the shift record and its page, a group's order from pairs
+ * and its table, and tables, numbers and events as bytes. A program links those
+ * that it calls.
  *
  * What is proved, and what is not. Every function that is declared here and
  * not defined is one of the libraries': its whole outcome, for whatever it is

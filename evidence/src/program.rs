@@ -63,7 +63,7 @@ type Text = fn(Option<&[u8]>, Option<&[u8]>) -> Vec<u8>;
 
 /// A program that reads `table.bin` and `trace.bin` of the current folder.
 pub struct Program {
-    /// Its name in `target/bin`.
+    /// The crate's name, and its own.
     pub name: &'static str,
     /// What names another one.
     variable: &'static str,
@@ -86,18 +86,19 @@ pub const PAGE: Program = Program {
 };
 
 impl Program {
-    /// The program of the repository's `target/bin`, or the one that LSQ_PLAY or
-    /// LSQ_PAGE names.
+    /// The program of the repository's `crates/NAME/out`, or the one that LSQ_PLAY
+    /// or LSQ_PAGE names.
     ///
     /// # Errors
     /// Where it is missing, so that no run passes over it.
     pub fn built(&self) -> Result<PathBuf, String> {
         let Self { name, variable, .. } = self;
-        let folder = Path::new(env!("CARGO_MANIFEST_DIR")).join("../target/bin");
-        let named = env::var_os(variable).map_or_else(|| folder.join(name), PathBuf::from);
+        let crates = Path::new(env!("CARGO_MANIFEST_DIR")).join("../crates");
+        let of_crate = || crates.join(name).join("out").join(name);
+        let named = env::var_os(variable).map_or_else(of_crate, PathBuf::from);
         let built = named.canonicalize().ok().filter(|path| path.is_file());
         let shown = named.display();
-        let words = || format!("{shown} is missing: `rt check {name}` builds target/bin/{name}");
+        let words = || format!("{shown} is missing: `rt run` in crates/{name} builds it");
         built.ok_or_else(words)
     }
 }

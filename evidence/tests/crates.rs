@@ -8,8 +8,8 @@ use std::path::Path;
 
 /// How `evidence/run` begins the list of crates of each.
 const LISTS: [(&str, &str); 4] = [
-    ("exports", "if stale staticlib/libexports.a "),
-    ("live", "if stale staticlib/liblive.a "),
+    ("exports", "if stale exports/out/libexports.a "),
+    ("live", "if stale live/out/liblive.a "),
     ("play", "LSQ_PLAY=$(program play \"${LSQ_PLAY:-}\" "),
     ("page", "LSQ_PAGE=$(program page \"${LSQ_PAGE:-}\" "),
 ];
@@ -19,15 +19,16 @@ fn read(path: &str) -> String {
     fs::read_to_string(root.join(path)).unwrap_or_else(|error| panic!("{path}: {error}"))
 }
 
-/// The crates that each crate names. Those of the kit have no line of their own
-/// and are left out.
+/// The crates that each crate names. Behind its own name a crate may be marked as
+/// a static library.
 fn named() -> BTreeMap<String, Vec<String>> {
     let text = read("crates.txt");
     let lines = text.lines().filter(|line| !line.starts_with('#'));
     let crates = lines.filter_map(|line| line.split_once(':'));
     let words = |names: &str| names.split_whitespace().map(String::from).collect();
+    let own = |head: &str| head.split_whitespace().next().map(String::from);
     crates
-        .map(|(name, names)| (name.to_string(), words(names)))
+        .filter_map(|(head, names)| Some((own(head)?, words(names))))
         .collect()
 }
 

@@ -156,5 +156,5 @@ module _ (gs : List GroupPairs) (trace memory : List ℕ) (c : Counts) (b : Buff
         go : (rule : Reply Replay) → replay gs trace memory c b ≡ rule → Replays memory c b rule r memory₂ b₂ → next ≡ kept_after kept trace rule
         go (refuse n) d v = absurd (refused_some _ (replay_proper gs trace memory c b) d (sym (ap (λ (x : Replayed). x.answer) v.outcome) ∙ nought))
         go (accept p) d v =
-            e ∙ ap (λ (x : Buffers). record_buffered kept (trace_events trace) x.given x.values) v.buffers-are
+            e ∙ ap (λ (x : Buffers). record_buffered kept (trace_events trace) x.given x.values) v.buffers_are
             ∙ buffered_log kept (trace_events trace) p.log _ _ (replay-events p d)

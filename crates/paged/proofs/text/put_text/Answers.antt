@@ -73,7 +73,7 @@ returns-in-Run c =
     (enough memoryLent lent (omega (arith, m)) (omega (arith, a)) (omega (arith, g)) (omega (arith, w))) e c.play_files-played.ensures in
     let a = c.args in
     let ran = run-told _ _ filesAt (told _ c.in-Run.is) in
-    puts_as (ap page (run_record a.table.now a.trace.now ran.is lent left ran.buffers-are) ∙ sym (ap files_page ran.is))
+    puts_as (ap page (run_record a.table.now a.trace.now ran.is lent left ran.buffers_are) ∙ sym (ap files_page ran.is))
     c.put_page.ensures
 
 -- what is lent has room

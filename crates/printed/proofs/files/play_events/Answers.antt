@@ -15,13 +15,13 @@ use Rattle.printed.proofs.files.play_events.Goals as goal
 pub slice_bounds-front-end : goal.slice_bounds-front-end
 slice_bounds-front-end c =
     let few_words : c.args.queue.frame.memory_length ≤ length c.args.memory.now =
-            omega (arith, words-held c.args.queue, c.requires.memory-few, c.requires.cleared.room.words) in
+            omega (arith, words-held c.args.queue, c.requires.memory_few, c.requires.cleared.room.words) in
     few_words
 
 pub slice_bounds-front-end-2 : goal.slice_bounds-front-end-2
 slice_bounds-front-end-2 c =
     let few_words : c.args.queue.frame.memory_length ≤ length c.args.memory.now =
-            omega (arith, words-held c.args.queue, c.requires.memory-few, c.requires.cleared.room.words) in
+            omega (arith, words-held c.args.queue, c.requires.memory_few, c.requires.cleared.room.words) in
     sym (length-take-le _ c.args.memory.now few_words)
 
 pub returns-then-played-ne0 : goal.returns-then-played-ne0

@@ -36,7 +36,7 @@ play_events-requires c =
     record {
       cleared = cleared c.args.memory.now lent c.requires c.clear.ensures;
       short = c.if-trace-gt-MOST_BYTES.false;
-      memory-few = opened-words gs (read_header c.args.trace.now) is;
+      memory_few = opened-words gs (read_header c.args.trace.now) is;
     }
 
 -- all events are read: they are played on the memory, which is cleared by then

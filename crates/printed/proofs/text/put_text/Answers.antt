@@ -74,7 +74,7 @@ put_run-requires c =
       given_hold = w.given;
       values_hold = w.values;
       few = omega (arith, w.answers, a);
-      memory-few = omega (arith, words, w.words-few, m);
+      memory_few = omega (arith, words, w.words-few, m);
       room = c.requires;
     }
 

@@ -25,7 +25,7 @@ use Rattle.replay.specs.declared.Replayed.{Replayed}
 use Rattle.replay.specs.Replay.{Start, open_trace, events_behind, prepare, Replay, replayed, Buffers, fits, replay_start, replay}
 use Rattle.replay.specs.Outcome.{Replays}
 use Rattle.replay.proofs.ReplayLaws.{next_left, log-many, replay_proper}
-use Rattle.replay.specs.Playing.{log, Logged, given_in, word_in, given_of, word_of}
+use Rattle.replay.specs.Playing.{Logged, given_in, word_in, given_of, word_of}
 use Rattle.shift.specs.declared.ShiftRecord.{ShiftRecord}
 use Rattle.paged.specs.Recorded.{after_event, record_from, value_given, record_buffered, events_read, trace_events, kept_after}
 use Rattle.paged.specs.Internal.{AllReadable}

@@ -1,5 +1,5 @@
 -- What the crate's own functions promise each other: nothing here is promised to a caller from outside.
-use Rattle.std.specs.Prelude.{ℕ, ◌+◌, ◌≤◌, ◌≡◌, true, List, [], ◌∷◌, ◌++◌, eqb, length}
+use Rattle.std.specs.Prelude.{ℕ, ◌≤◌, ◌≡◌, true, List, [], ◌∷◌, ◌++◌, eqb, length}
 use Rattle.std.proofs.Math.Option.{none, some}
 use Rattle.number.specs.Basics.{pick}
 use Rattle.number.specs.Texts.{decimal}

@@ -4,9 +4,9 @@
 usage: python3 tools/respell_names.py [--list]      at the top of the repository, once, after port.py
 
 Words are in snake case: `countWhere` becomes `count_where`, and a dash that joins plain words an underscore. A dash stays where
-it joins the names of two definitions, as in `drop-map`. Types, facts and modules keep their capitals. Names that Rust code
-declares are left alone, and so are strings, numbers of columns and everything outside `crates/` but the pages of docs/ and
-README.md, where names stand in backticks. The proofs of single functions (proofs/F/Proof.antt) keep their own names of goals:
+it joins the names of two definitions in that of a lemma, as in `drop-map`; a field or a constructor has none. Types, facts and
+modules keep their capitals. Names that Rust code declares are left alone, and so are strings and everything outside `crates/`
+but the pages of docs/ and README.md, where names stand in backticks. The proofs of single functions (proofs/F/Proof.antt) keep their own names of goals:
 there only what they cite is respelled. --list prints the old and new names and changes nothing.
 """
 
@@ -93,7 +93,7 @@ def table(root):
             continue
         # A part that is spelled as a type is the type's name.
         parts = [it if it[:1].isupper() else snake(it) for it in name.split("-")]
-        of_two = len(parts) == 2 and all(it in words or it[:1].isupper() for it in parts)
+        of_two = kind == "definition" and len(parts) == 2 and all(it in words or it[:1].isupper() for it in parts)
         out = ("-" if of_two else "_").join(parts)
         if out != name:
             new[name] = out
@@ -103,7 +103,7 @@ def table(root):
         taken.setdefault(new.get(name, name), set()).add(name)
     for name, of in taken.items():
         for it in of if len(of) > 1 else ():
-            if not re.search("[a-z][A-Z]", it) and it not in RUST and own[it] != "local" and (it != name or not defines(of)):
+            if not re.search("[a-z][A-Z]", it) and it not in RUST and own[it] == "definition" and (it != name or not defines(of)):
                 new[it] = name + "_lem"
     return own, library, new
 

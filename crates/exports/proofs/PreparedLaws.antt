@@ -12,8 +12,8 @@ use Rattle.exports.specs.Prepared.{prepared}
 use Rattle.exports.specs.Internal.{TellsPrepared}
 
 tells : (rule : Reply Start) → TellsPrepared rule (prepared_as rule)
-tells (refuse n) = record { answer = refl; memory-length = refl; events = refl }
-tells (accept s) = record { answer = refl; memory-length = refl; events = refl }
+tells (refuse n) = record { answer = refl; memory_length = refl; events = refl }
+tells (accept s) = record { answer = refl; memory_length = refl; events = refl }
 
 module _ (table trace : List ℕ) (r : Prepared) where
   -- the table is refused

@@ -62,8 +62,8 @@ replay_leaving l r memory b = tell r.answer (record { memory = memory; counts = 
 
 answered-replay : (l : Lent) (rule : Reply Replay) (r : Replayed) {memory : List ℕ} {b : Buffers} → 2 ≤ length l.counts
     → Replays l.memory (counts_of l.counts) l.buffers rule r memory b → replay_leaving l r memory b ≡ lent_after l rule
-answered-replay l (refuse n) r h w = rw (w.outcome, w.memory_is, w.buffers-are, stored_same l.counts h)
-answered-replay l (accept p) r h w = rw (w.outcome, w.memory_is, w.buffers-are, stored-front p.left.counts l.counts h)
+answered-replay l (refuse n) r h w = rw (w.outcome, w.memory_is, w.buffers_are, stored_same l.counts h)
+answered-replay l (accept p) r h w = rw (w.outcome, w.memory_is, w.buffers_are, stored-front p.left.counts l.counts h)
 
 -- the counts that a replay hands back are stored whether it is refused or not
 pub answered-lent : (table trace : List ℕ) (l : Lent) {gs : List GroupPairs} → read_table table ≡ accept gs → 2 ≤ length l.counts

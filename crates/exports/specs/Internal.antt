@@ -8,5 +8,5 @@ use Rattle.exports.specs.Prepared.{event_count, memory_length}
 -- the parts of a prepared trace that callers from outside are told
 pub record TellsPrepared (rule : Reply Start) (r : Prepared) : Type 0 where
   pub answer : r.answer ≡ number rule
-  pub memory-length : r.memory_length ≡ memory_length rule
+  pub memory_length : r.memory_length ≡ memory_length rule
   pub events : r.events ≡ event_count rule

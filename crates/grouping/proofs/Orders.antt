@@ -145,10 +145,10 @@ right_by_ports xs = (to, from)
     to e =
         let r = (right_tables (with_offsets xs ∷ [])).0 e in record {
           counts = r.counts.0;
-          load-ports = rw append-nil at r.load-ports;
-          store-ports = rw append-nil at r.store-ports;
+          load_ports = rw append-nil at r.load_ports;
+          store_ports = rw append-nil at r.store_ports;
           loads_once = rw append-nil at r.loads_once;
-          stores-once = rw append-nil at r.stores-once;
+          stores_once = rw append-nil at r.stores_once;
         }
 
     from : CountsAndPorts (with_offsets xs) → check_table (with_offsets xs ∷ []) ≡ passed
@@ -157,15 +157,15 @@ right_by_ports xs = (to, from)
         let (above, fall, below) = loads_rise (length g.stores) 0 0 g.loads (loads_right xs) in
         let agree : StoresAgree g = λ j few. rw zero-add at (stores-count g.loads 0 0 g.stores (stores_right xs) j few) in
         (right_tables (g ∷ [])).1 (record {
-          group-count = (omega arith, omega arith);
+          group_count = (omega arith, omega arith);
           counts = (r.counts, tt);
           never_fall = (fall, tt);
-          load-offsets = (below, tt);
-          store-offsets = (agree, tt);
-          load-ports = rw append-nil r.load-ports;
-          store-ports = rw append-nil r.store-ports;
+          load_offsets = (below, tt);
+          store_offsets = (agree, tt);
+          load_ports = rw append-nil r.load_ports;
+          store_ports = rw append-nil r.store_ports;
           loads_once = rw append-nil r.loads_once;
-          stores-once = rw append-nil r.stores-once;
+          stores_once = rw append-nil r.stores_once;
         })
 
 -- ---- the answer to pairs

@@ -55,10 +55,10 @@ RefusedForCountsOrPorts =
 -- .. and it is right just where there are at most 16 of each kind and each port is 0 to 31 and stands once among its kind.
 pub record CountsAndPorts (g : GroupPairs) : Type 0 where
   pub counts : CountsWithin g
-  pub load-ports : PortsWithin g.loads
-  pub store-ports : PortsWithin g.stores
+  pub load_ports : PortsWithin g.loads
+  pub store_ports : PortsWithin g.stores
   pub loads_once : Distinct (map port_of g.loads)
-  pub stores-once : Distinct (map port_of g.stores)
+  pub stores_once : Distinct (map port_of g.stores)
 
 abbrev pub RightByPorts : Type 0
 RightByPorts = (accesses : List Access) → (check_table (with_offsets accesses ∷ []) ≡ passed) ↔ CountsAndPorts (with_offsets accesses)

@@ -66,7 +66,7 @@ module _ (P : ℕ → Type 0) where
   need-holds false n rest h k = h
 
   have-holds : {A B : Type 0} (o : Option A) (n : ℕ) (rest : A → Reply B) → P n → ((a : A) → P (number (rest a))) → P
-          (number (have o n rest))
+      (number (have o n rest))
   have-holds none n rest h k = h
   have-holds (some a) n rest h k = k a
 

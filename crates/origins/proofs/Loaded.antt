@@ -104,7 +104,7 @@ module _ {groups : List GroupPairs} {memory : List ℕ} {answered : List Answere
     one = everywhere;
     other = nowhere;
     one_below = λ k. address-low;
-    other-below = λ k. other-low (eqb a 0);
+    other_below = λ k. other-low (eqb a 0);
     differ = λ same-origin. two-left (some_same (sym (origin-there everywhere) ∙ same-origin ∙ origin-there nowhere));
   }
     where

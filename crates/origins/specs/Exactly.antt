@@ -51,7 +51,7 @@ pub record TwoOrigins (groups : List GroupPairs) (memory : List ℕ) (ts : List 
   pub one : Filling
   pub other : Filling
   pub one_below : (k : ℕ) → one.address k < length memory
-  pub other-below : (k : ℕ) → other.address k < length memory
+  pub other_below : (k : ℕ) → other.address k < length memory
   pub differ : ¬ (origin_of groups memory ts one n ≡ origin_of groups memory ts other n)
 
 -- S-7, EXACTLY: a load waits at 28 exactly if two fillings give it different origins. It is false of memories of one word: a store and then

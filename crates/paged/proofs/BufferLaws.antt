@@ -25,7 +25,7 @@ use Rattle.replay.specs.declared.Replayed.{Replayed}
 use Rattle.replay.specs.Replay.{Start, open_trace, events_behind, prepare, Replay, replayed, Buffers, fits, replay_start, replay}
 use Rattle.replay.specs.Outcome.{Replays}
 use Rattle.replay.proofs.ReplayLaws.{next_left, log-many, replay_proper}
-use Rattle.replay.specs.Playing.{log, Logged, given_in, word_in, given_of, word_of}
+use Rattle.replay.specs.Playing.{Logged, given_in, word_in, given_of, word_of}
 use Rattle.shift.specs.declared.ShiftRecord.{ShiftRecord}
 use Rattle.paged.specs.Recorded.{after_event, record_from, value_given, record_buffered, events_read, trace_events, kept_after}
 use Rattle.paged.specs.Internal.{AllReadable}
@@ -156,5 +156,5 @@ module _ (gs : List GroupPairs) (trace memory : List ℕ) (c : Counts) (b : Buff
         go : (rule : Reply Replay) → replay gs trace memory c b ≡ rule → Replays memory c b rule r memory₂ b₂ → next ≡ kept_after kept trace rule
         go (refuse n) d v = absurd (refused_some _ (replay_proper gs trace memory c b) d (sym (ap (λ (x : Replayed). x.answer) v.outcome) ∙ nought))
         go (accept p) d v =
-            e ∙ ap (λ (x : Buffers). record_buffered kept (trace_events trace) x.given x.values) v.buffers-are
+            e ∙ ap (λ (x : Buffers). record_buffered kept (trace_events trace) x.given x.values) v.buffers_are
             ∙ buffered_log kept (trace_events trace) p.log _ _ (replay-events p d)

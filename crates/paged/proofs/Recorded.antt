@@ -9,7 +9,6 @@ use Rattle.trace.specs.declared.Event.{Event}
 use Rattle.trace.specs.declared.Event.TheVariants.{Activate, LoadAddress, StoreAddress, StoreData, Serve, Write, Take}
 use Rattle.number.specs.Reply.{Reply, refuse, accept}
 use Rattle.queue.specs.Take.{Taken, take_rule}
-use Rattle.sequential.specs.Calls as Calls
 use Rattle.sequential.specs.Answers.{Machine, Answered, take_response}
 use Rattle.replay.specs.Playing.{call_of, Playing, played, step_of, Logged, logged, log}
 use Rattle.shift.specs.declared.ShiftRecord.{ShiftRecord}

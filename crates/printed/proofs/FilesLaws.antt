@@ -128,10 +128,10 @@ module _ (memory : List ℕ) (b : Buffers) {f : Files} where
   told-as e w = rw e w
 
   pub told-table : {n : ℕ} → f ≡ table_fault n → HasPlayed (played_on memory b f) (TableFault n) memory b
-  told-table e = rw e (record { outcome = refl; memory_is = refl; buffers-are = refl })
+  told-table e = rw e (record { outcome = refl; memory_is = refl; buffers_are = refl })
 
   pub told-trace : {n : ℕ} → f ≡ trace_fault n → HasPlayed (played_on memory b f) (TraceFault n) memory b
-  told-trace e = rw e (record { outcome = refl; memory_is = refl; buffers-are = refl })
+  told-trace e = rw e (record { outcome = refl; memory_is = refl; buffers_are = refl })
 
   -- of a run on the memory once it is cleared
   pub told-cleared : {s : Start} {r : FilesPlayed} {zeros memory₂ : List ℕ} {b₂ : Buffers} → f ≡ run s → zeros ≡ zeroed memory
@@ -146,7 +146,7 @@ module _ (memory : List ℕ) (b : Buffers) where
 
   pub told-short : (f : Files) → has_room memory b ≡ false → HasPlayed (played_in memory b f) (NoRoom too_short) memory b
   unfolding played_in
-  told-short f h = rw h (record { outcome = refl; memory_is = refl; buffers-are = refl })
+  told-short f h = rw h (record { outcome = refl; memory_is = refl; buffers_are = refl })
 
   pub told_in : (f : Files) {r : FilesPlayed} {memory₂ : List ℕ} {b₂ : Buffers} → has_room memory b ≡ true
       → HasPlayed (played_on memory b f) r memory₂ b₂ → HasPlayed (played_in memory b f) r memory₂ b₂
@@ -168,7 +168,7 @@ pub record Ran (memory₀ : List ℕ) (b₀ : Buffers) (f : Files) (events words
   pub long : words ≡ length (run_of start).left.machine.memory
   pub counts : c ≡ (run_of start).left.counts
   pub memory_is : memory ≡ at_front (run_of start).left.machine.memory (zeroed memory₀)
-  pub buffers-are : b ≡ log_in (run_of start).log b₀
+  pub buffers_are : b ≡ log_in (run_of start).log b₀
 
 module _ (memory₀ : List ℕ) (b₀ : Buffers) {memory : List ℕ} {b : Buffers} where
   pub table-told : (f : Files) {n : ℕ} → HasPlayed (played_on memory₀ b₀ f) (TableFault n) memory b → f ≡ table_fault n
@@ -196,7 +196,7 @@ module _ (memory₀ : List ℕ) (b₀ : Buffers) {memory : List ℕ} {b : Buffer
         long = long ∙ sym (run_long s);
         counts = cc;
         memory_is = w.memory_is;
-        buffers-are = w.buffers-are;
+        buffers_are = w.buffers_are;
       }
 
   -- with room for every file, a want of room is never told
@@ -224,7 +224,7 @@ module _ (q : Contents) {trace memory : List ℕ} (at : ℕ) {b : Buffers} (word
 
   zeros : take words memory ≡ replicate q.memory_length 0
   zeros =
-      let few : words ≤ length memory = omega (arith, lent.memory-few, lent.cleared.room.words, are) in
+      let few : words ≤ length memory = omega (arith, lent.memory_few, lent.cleared.room.words, are) in
       take-zeros memory words lent.cleared.zeros few ∙ ap (λ (n : ℕ). replicate n 0) are
 
   runs : (s : Start) → s.queue ≡ q → ReplayedWell (run_of s) b r front₂ b₂ → Told (run s) (Run r.events words r.counts)
@@ -234,7 +234,7 @@ module _ (q : Contents) {trace memory : List ℕ} (at : ℕ) {b : Buffers} (word
       record {
         outcome = rw (w.outcome, many, sym long, run_long s);
         memory_is = rw (w.memory_is, sym long) (ap (at_front (run_of s).left.machine.memory) lent.cleared.zeros);
-        buffers-are = w.buffers-are;
+        buffers_are = w.buffers_are;
       }
 
   pub plays : Plays (events_from trace at) → PlaysAs q trace at memory b words r (front₂ ++ drop words memory) b₂
@@ -248,7 +248,7 @@ module _ (q : Contents) {trace memory : List ℕ} (at : ℕ) {b : Buffers} (word
             fault = λ apart. rw d (record {
               outcome = ap of_trace answer;
               memory_is = rw v.memory_is (take-append-drop words memory);
-              buffers-are = v.buffers-are;
+              buffers_are = v.buffers_are;
             });
             well = λ nought. absurd (proper (sym answer ∙ nought));
           }

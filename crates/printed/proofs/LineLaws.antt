@@ -1,17 +1,17 @@
 -- The lines of the printed run, piece by piece.
-use Prim.Native.Nat.{ℕ, zero, suc, ◌+◌, ◌*◌, ◌/◌, ◌%◌, ◌^◌, ◌≤◌, ◌<◌}
+use Prim.Native.Nat.{ℕ, zero, suc, ◌+◌, ◌*◌, ◌≤◌, ◌<◌}
 use mathlib.Core.Path.{◌≡◌, refl, sym, ap, ap₂, ◌∙◌}
 use mathlib.Core.Bool.{Bool, true, false}
 use mathlib.Core.List.{List, [], ◌∷◌, ◌++◌, map, append_assoc, append-nil}
 use mathlib.Core.Option.{Option, none, some}
 use native.Mathlib.Omega.{arith}
-use lib.Dec.{eqb, ltb}
+use lib.Dec.{eqb}
 use native.Mathlib.Nat.{add-zero, zero-add}
 use native.Mathlib.Numerals.{add-one}
 use lib.ListN.{length, get_or, take, drop, length-append}
 use lib.Seq.{take-suc, length-take-le, append_snoc, take_at}
-use borrow.Author.Tests.{eq-eqb, ne_eqb, lt-ltb}
-use Rattle.number.specs.Texts.{bytes, digits_up_to, decimal}
+use borrow.Author.Tests.{eq-eqb, ne_eqb}
+use Rattle.number.specs.Texts.{bytes, decimal}
 use Rattle.number.specs.Basics.{pick}
 use Rattle.number.specs.Number.{Puts, PutIfFits}
 use Rattle.number.proofs.SpliceLaws.{splice_front}

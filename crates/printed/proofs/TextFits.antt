@@ -1,5 +1,5 @@
 -- No text is longer than `most_text`, and none is empty.
-use Prim.Native.Nat.{ℕ, ◌+◌, ◌≤◌, ◌<◌}
+use Prim.Native.Nat.{ℕ, ◌≤◌, ◌<◌}
 use mathlib.Core.Path.{◌≡◌, refl, ap, ◌∙◌, sym}
 use mathlib.Core.Bool.{Bool, true, false}
 use mathlib.Core.List.{List, [], ◌∷◌, ◌++◌}
@@ -35,14 +35,14 @@ use Rattle.printed.proofs.FilesLaws.{opened-words}
 -- ---- what a trace that can be played is like
 record SmallText (s : Start) : Type 0 where
   pub events : length s.events ≤ most_bytes
-  pub memory-few : s.queue.memory_length ≤ 4096
+  pub memory_few : s.queue.memory_length ≤ 4096
 
 start_small : (q : Contents) (trace : List ℕ) (at : ℕ) {s : Start} → q.memory_length ≤ 4096 → length trace ≤ most_bytes
     → start_of q (events_from trace at) ≡ accept s → SmallText s
 start_small q trace at {s} h k e =
     let (es, d, f) = andThen-accepts (events_from trace at) (λ l. accept (record { queue = q; events = l })) e in
     let y : s ≡ record { queue = q; events = es } = cc in
-    rw y (record { events = omega (arith, events_few_from trace at d); memory-few = h })
+    rw y (record { events = omega (arith, events_few_from trace at d); memory_few = h })
 
 prepare-small : (gs : List GroupPairs) (trace : List ℕ) {s : Start} → length trace ≤ most_bytes → prepare gs trace ≡ accept s → SmallText s
 unfolding prepare
@@ -105,7 +105,7 @@ play_few s w =
     omega (
       arith,
       w.events,
-      w.memory-few,
+      w.memory_few,
       run-many s,
       run_long s,
       events_text_few 1 l,

@@ -41,7 +41,7 @@ pub run_left : {memory₀ : List ℕ} {b₀ : Buffers} {f : Files} {events words
 run_left {memory₀} {b₀} {words = words} w =
     let r = run_of w.start in
     let m = r.left.machine.memory in
-    rw (w.is, w.memory_is, w.buffers-are, w.many, w.counts) (record {
+    rw (w.is, w.memory_is, w.buffers_are, w.many, w.counts) (record {
       answers = front-few answer_of r.log b₀.answers;
       given = front-few given_of r.log b₀.given;
       values = front-few word_of r.log b₀.values;

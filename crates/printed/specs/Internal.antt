@@ -1,5 +1,5 @@
 -- What the crate's own functions promise each other: nothing here is promised to a caller from outside.
-use Rattle.std.specs.Prelude.{ℕ, ◌+◌, ◌≤◌, ◌≡◌, true, List, [], ◌∷◌, ◌++◌, eqb, length}
+use Rattle.std.specs.Prelude.{ℕ, ◌≤◌, ◌≡◌, true, List, [], ◌∷◌, ◌++◌, eqb, length}
 use Rattle.std.proofs.Math.Option.{none, some}
 use Rattle.number.specs.Basics.{pick}
 use Rattle.number.specs.Texts.{decimal}
@@ -30,7 +30,7 @@ pub record RunFits (count : ℕ) (answers given values memory out : List ℕ) : 
   pub given_hold : count ≤ length given
   pub values_hold : count ≤ length values
   pub few : count ≤ most_bytes
-  pub memory-few : length memory ≤ most_words
+  pub memory_few : length memory ≤ most_words
   pub room : most_text ≤ length out
 
 -- a memory and buffers that have room for every file
@@ -47,4 +47,4 @@ pub record Cleared (memory : List ℕ) (b : Buffers) : Type 0 where
 pub record Playable (q : Contents) (trace memory : List ℕ) (b : Buffers) : Type 0 where
   pub cleared : Cleared memory b
   pub short : length trace ≤ most_bytes
-  pub memory-few : q.memory_length ≤ most_words
+  pub memory_few : q.memory_length ≤ most_words

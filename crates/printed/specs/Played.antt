@@ -57,4 +57,4 @@ played_in memory b f = pick (has_room memory b) (played_on memory b f) (record {
 pub record HasPlayed (w : LeftPlayed) (r : FilesPlayed) (memory₂ : List ℕ) (b₂ : Buffers) : Type 0 where
   pub outcome : files_reply r ≡ w.reply
   pub memory_is : memory₂ ≡ w.memory
-  pub buffers-are : b₂ ≡ w.buffers
+  pub buffers_are : b₂ ≡ w.buffers

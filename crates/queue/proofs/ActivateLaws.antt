@@ -35,9 +35,9 @@ new_counted store n l s (T.store p ∷ xs) = rw (new_counted store n l (suc s) x
 
 new_entries_lem : (kind : Kind) (n : ℕ) {g : GroupPairs} → GroupRight g → map (entry_after n) (of_kind kind g.loads g.stores) ≡ new_entries kind n (order g)
 new_entries_lem load n {g} right =
-    ap (map (entry_after n)) (sym right.loads-are) ∙ sym (new_counted load n 0 0 (order g)) ∙ ap (λ (m : ℕ). new_entries load m (order g)) (add-zero n)
+    ap (map (entry_after n)) (sym right.loads_are) ∙ sym (new_counted load n 0 0 (order g)) ∙ ap (λ (m : ℕ). new_entries load m (order g)) (add-zero n)
 new_entries_lem store n {g} right =
-    ap (map (entry_after n)) (sym right.stores-are) ∙ sym (new_counted store n 0 0 (order g)) ∙ ap (λ (m : ℕ). new_entries store m (order g)) (add-zero n)
+    ap (map (entry_after n)) (sym right.stores_are) ∙ sym (new_counted store n 0 0 (order g)) ∙ ap (λ (m : ℕ). new_entries store m (order g)) (add-zero n)
 
 -- in a right group the offsets say what the order says
 pub with_group_is : (q : Contents) (g : GroupPairs) → GroupRight g → with_pairs q g ≡ with_group q g
@@ -113,9 +113,9 @@ group-fits q g (hl, hs) s right r =
     let loads = leb (q.frame.loads.count + g.loads.count) q.frame.loads.depth in
     let stores = leb (q.frame.stores.count + g.stores.count) q.frame.stores.depth in
     let both : loads && stores ≡ true = sym (room-record q g) ∙ r in (
-      pairs-fit q.frame.table.loads g.loads hl right.few-loads right.load-offset right.load-port q.frame.loads.count
+      pairs-fit q.frame.table.loads g.loads hl right.few_loads right.load_offset right.load_port q.frame.loads.count
           q.frame.loads.depth (and_left loads stores both) (depth-most q s load),
-      pairs-fit q.frame.table.stores g.stores hs right.few-stores right.store-offset right.store-port q.frame.stores.count
+      pairs-fit q.frame.table.stores g.stores hs right.few_stores right.store_offset right.store_port q.frame.stores.count
           q.frame.stores.depth (and_right loads stores both) (depth-most q s store),
     )
 

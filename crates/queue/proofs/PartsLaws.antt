@@ -38,8 +38,8 @@ on_whole_runs A l s rule a b = rw (both-whole l s a b)
 pub record PartsFit (q : Queue) : Type 0 where
   pub full : whole q.load_entries q.store_entries ≡ true
   pub right : sound (contents_of q) ≡ true
-  pub loads-whole : length q.load_entries ≡ 64
-  pub stores-whole : length q.store_entries ≡ 64
+  pub loads_whole : length q.load_entries ≡ 64
+  pub stores_whole : length q.store_entries ≡ 64
   pub loads_room : q.frame.loads.count ≤ length q.load_entries
   pub stores_room : q.frame.stores.count ≤ length q.store_entries
 
@@ -62,8 +62,8 @@ module _ (q : Queue) where
       record {
         full = full;
         right = right;
-        loads-whole = whole-loads full;
-        stores-whole = whole-stores full;
+        loads_whole = whole-loads full;
+        stores_whole = whole-stores full;
         loads_room = omega (arith, count_most q right load, whole-loads full);
         stores_room = omega (arith, count_most q right store, whole-stores full);
       }

@@ -240,11 +240,11 @@ handed q {found} {lent} {run} {s} {r} l h = rw (← l.size) (go (leb s.count (le
 -- the front part that is handed back
 pub fronts : (q : Queue) (lent : List ℕ) (rule : Reply (List ℕ)) (r : Readied) (run : List ℕ) → Readies q lent rule r run
     → (r.count ≤ length run) × Fronts q rule r.answer (take r.count run) r.queue
-fronts q lent (refuse n) r run w = rw w.outcome (omega arith, record { answer_is = refl; serials-are = none run; queue_is = refl })
+fronts q lent (refuse n) r run w = rw w.outcome (omega arith, record { answer_is = refl; serials_are = none run; queue_is = refl })
   where
     none : (l : List ℕ) → take 0 l ≡ []
     none [] = refl
     none (x ∷ l) = refl
 fronts q lent (accept found) r run w =
     rw (w.outcome, w.run_is)
-    (simp length-append (omega arith), record { answer_is = refl; serials-are = take-append_seam found (drop (length found) lent); queue_is = refl })
+    (simp length-append (omega arith), record { answer_is = refl; serials_are = take-append_seam found (drop (length found) lent); queue_is = refl })

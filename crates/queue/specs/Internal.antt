@@ -56,8 +56,8 @@ frame_with table outline = record { table = table; memory_length = outline.memor
 pub record Checked (outline : Outline) (loads stores : List ℕ) : Type 0 where
   pub table : Table
   pub right : sound (contents_of (queue_of (frame_with table outline) loads stores)) ≡ true
-  pub loads-whole : Has64 loads
-  pub stores-whole : Has64 stores
+  pub loads_whole : Has64 loads
+  pub stores_whole : Has64 stores
 
 -- ---- the record of an entry, made anew
 abbrev pub set_address : ℕ → EntryStruct → EntryStruct

@@ -75,5 +75,5 @@ front_of (accept found) = found
 
 pub record Fronts (q : Queue) (rule : Reply (List ℕ)) (answer : ℕ) (serials : List ℕ) (queue : Queue) : Type 0 where
   pub answer_is : answer ≡ number rule
-  pub serials-are : serials ≡ front_of rule
+  pub serials_are : serials ≡ front_of rule
   pub queue_is : queue ≡ q

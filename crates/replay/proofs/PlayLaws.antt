@@ -8,7 +8,6 @@ use Rattle.trace.specs.declared.Event.{Event}
 use Rattle.trace.specs.declared.Event.TheVariants.{Activate, LoadAddress, StoreAddress, StoreData, Serve, Write, Take}
 use Rattle.counts.specs.declared.Counts.{Counts}
 use Rattle.queue.specs.declared.arguments.Argument.{Argument}
-use Rattle.queue.specs.declared.arguments.Argument.TheVariants as Argument
 use Rattle.queue.specs.declared.Queue.{Queue}
 use Rattle.queue.specs.declared.Outcome.{Outcome}
 use Rattle.queue.specs.declared.Counted.{Counted}

@@ -175,7 +175,7 @@ walk_end {s} {start} {p₀} {b₀} {place} {i} {p} {b} w h =
     record {
       outcome = rw (logs, ends, w.many);
       memory_is = rw ends;
-      buffers-are = rw logs w.are;
+      buffers_are = rw logs w.are;
     }
 
 -- every event that is left can be read
@@ -187,7 +187,7 @@ walk_no_fault w h = refused-accepted (sym h ∙ w.reads)
 -- a refused replay leaves all as it was lent
 pub unplayed : {n : ℕ} {memory : List ℕ} {c : Counts} {b : Buffers} {r : Replayed} → r ≡ record { answer = n; events = 0; counts = c }
     → Unreplayed n memory c b r memory b
-unplayed f = record { outcome = f; memory_is = refl; buffers-are = refl }
+unplayed f = record { outcome = f; memory_is = refl; buffers_are = refl }
 
 -- the order of checking
 module _ (q : Contents) (g : Reply (List Event)) (memory : List ℕ) (c : Counts) (b : Buffers) where

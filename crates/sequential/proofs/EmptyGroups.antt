@@ -119,7 +119,7 @@ empty_always_accepted groups memory m o calls group e =
 
 -- ---- a queue that holds no entry
 record Fresh (groups : List GroupPairs) (q : Contents) : Type 0 where
-  pub groups-are : q.groups ≡ groups
+  pub groups_are : q.groups ≡ groups
   pub no_loads : q.loads.entries ≡ []
   pub no_stores : q.stores.entries ≡ []
   pub next_load : q.loads.next < 2 ^ 32
@@ -138,7 +138,7 @@ module _ (groups : List GroupPairs) (m : Machine) (fresh : Fresh groups m.queue)
   group-leaves : (group : ℕ) (g : GroupPairs) → get_elem? m.queue.groups group ≡ some g → get_elem? groups group ≡ some empty_group
       → with_group m.queue g ≡ m.queue
   group-leaves group g is e =
-      let there : get_elem? groups group ≡ some g = rw fresh.groups-are at is in
+      let there : get_elem? groups group ≡ some g = rw fresh.groups_are at is in
       let empty : g ≡ empty_group = cc in
       rw empty (none_more m.queue fresh.next_load fresh.next_store)
 
@@ -173,7 +173,7 @@ module _ (groups : List GroupPairs) (m : Machine) (fresh : Fresh groups m.queue)
 opened-fresh : {groups : List GroupPairs} {memory : List ℕ} {m : Machine} → Opening groups memory m → Fresh groups m.queue
 opened-fresh {groups} {memory} {m} o =
     let is = (limits-opened groups o.load_depth o.store_depth o.first (length memory) m.queue o.accepted).1 in
-    rw (← is) (record { groups-are = refl; no_loads = refl; no_stores = refl; next_load = o.serial; next_store = o.serial })
+    rw (← is) (record { groups_are = refl; no_loads = refl; no_stores = refl; next_load = o.serial; next_store = o.serial })
 
 pub only_empty_holds_none : OnlyEmptyHoldsNone
 only_empty_holds_none groups memory m o calls e =

@@ -152,8 +152,8 @@ module _ (q : Contents) (m : List ℕ) (f : Fits (machine q m)) where
   group-fits g right =
       subst (λ (c : Contents). Fits (machine c m)) (with_group_is q g right) (record {
         entries = elim [
-          | Load ↦ all_join entry_fits q.loads.entries _ (f.entries Load) (new (length q.stores.entries) g.loads right.load-port)
-          | Store ↦ all_join entry_fits q.stores.entries _ (f.entries Store) (new (length q.loads.entries) g.stores right.store-port)
+          | Load ↦ all_join entry_fits q.loads.entries _ (f.entries Load) (new (length q.stores.entries) g.loads right.load_port)
+          | Store ↦ all_join entry_fits q.stores.entries _ (f.entries Store) (new (length q.loads.entries) g.stores right.store_port)
         ];
         next = elim [ Load ↦ omega arith | Store ↦ omega arith ];
         memory = f.memory;

@@ -64,7 +64,7 @@ fields_in_columns port takes value h k l =
       wide = line-wide port takes value h k l;
       port_is = first_field a (blanks 4) c (blanks 14) e la refl lc refl le;
       blank_first = second-field a (blanks 4) c (blanks 14) e la refl lc refl le;
-      takes-are = third-field a (blanks 4) c (blanks 14) e la refl lc refl le;
+      takes_are = third-field a (blanks 4) c (blanks 14) e la refl lc refl le;
       blank_next = fourth-field a (blanks 4) c (blanks 14) e la refl lc refl le;
       value_is = fifth-field a (blanks 4) c (blanks 14) e la refl lc refl le;
     }
@@ -241,8 +241,8 @@ pages_stand r s =
     let found = line_at_lem lines (lines_are r s) in
     record {
       header_is = found 0 (omega (arith, lines-many r));
-      ports-are = λ (port : ℕ) (low : port < 32). found (suc port) (omega (arith, lines-many r)) ∙ between_at header (line_of r) 32 footer port low;
-      fields-are = λ (port : ℕ) (low : port < 32).
+      ports_are = λ (port : ℕ) (low : port < 32). found (suc port) (omega (arith, lines-many r)) ∙ between_at header (line_of r) 32 footer port low;
+      fields_are = λ (port : ℕ) (low : port < 32).
           rw (found (suc port) (omega (arith, lines-many r)) ∙ between_at header (line_of r) 32 footer port low)
           (fields_in_columns port (takes_of r port) (value_shown r port) low (takes-fit r s port low) (value-fits r s port low));
       footer_is = found 33 (omega (arith, lines-many r)) ∙ between_last header (line_of r) 32 footer;
@@ -299,14 +299,14 @@ module _ (r : ShiftRecord) (s : StoredRecord r) (port : ℕ) (low : port < 32) w
   takes_back : number_in 7 16 (line_at (suc port) (page r)) ≡ takes_of r port
   takes_back =
       let fit = takes-fit r s port low in
-      ap (number_in 7 16) ((pages_stand r s).ports-are port low)
-      ∙ ap (number_from 0) (fields_in_columns port (takes_of r port) (value_shown r port) low fit (value-fits r s port low)).takes-are
+      ap (number_in 7 16) ((pages_stand r s).ports_are port low)
+      ∙ ap (number_from 0) (fields_in_columns port (takes_of r port) (value_shown r port) low fit (value-fits r s port low)).takes_are
       ∙ number_padded 10 (takes_of r port) (omega (arith, fit))
 
   value_back : number_in 31 40 (line_at (suc port) (page r)) ≡ value_shown r port
   value_back =
       let fits = value-fits r s port low in
-      ap (number_in 31 40) ((pages_stand r s).ports-are port low)
+      ap (number_in 31 40) ((pages_stand r s).ports_are port low)
       ∙ ap (number_from 0) (fields_in_columns port (takes_of r port) (value_shown r port) low (takes-fit r s port low) fits).value_is
       ∙ number_padded 10 (value_shown r port) (omega (arith, fits))
 

@@ -74,10 +74,10 @@ records_one_port r s port value = record {
       ap (λ (l : List ℕ). get_or l port 0) (update-set one_more r.takes port 0)
       ∙ get_or-set_same r.takes port (one_more (takes_of r port)) 0 (omega (arith, low, s.ports));
   last = λ low. get_or-set_same r.values port value 0 (omega (arith, low, s.ports_too));
-  other-takes = λ other apart.
+  other_takes = λ other apart.
       ap (λ (l : List ℕ). get_or l other 0) (update-set one_more r.takes port 0)
       ∙ get_or-set_other r.takes port other (one_more (takes_of r port)) 0 apart;
-  other-values = λ other apart. get_or-set_other r.values port other value 0 apart;
+  other_values = λ other apart. get_or-set_other r.values port other value 0 apart;
   outside = recorded-outside r port value s.ports s.ports_too;
   stored = λ small. record {
     ports = length-updateAt one_more port r.takes ∙ s.ports;

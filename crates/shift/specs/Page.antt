@@ -102,7 +102,7 @@ pub record InColumns (port takes value : ℕ) (line : List ℕ) : Type 0 where
   pub wide : length line ≡ 40
   pub port_is : columns 1 2 line ≡ pad_left 2 (decimal port)
   pub blank_first : columns 3 6 line ≡ blanks 4
-  pub takes-are : columns 7 16 line ≡ pad_left 10 (decimal takes)
+  pub takes_are : columns 7 16 line ≡ pad_left 10 (decimal takes)
   pub blank_next : columns 17 30 line ≡ blanks 14
   pub value_is : columns 31 40 line ≡ pad_left 10 (decimal value)
 
@@ -123,8 +123,8 @@ behind_line i text = take 1 (drop (41 * i + 40) text)
 -- Each line stands in its place of the page, each field of a port in its columns, and a line feed behind each line.
 pub record LinesStand (r : ShiftRecord) : Type 0 where
   pub header_is : line_at 0 (page r) ≡ header
-  pub ports-are : (port : ℕ) → port < 32 → line_at (suc port) (page r) ≡ port_line port (takes_of r port) (value_shown r port)
-  pub fields-are : (port : ℕ) → port < 32 → InColumns port (takes_of r port) (value_shown r port) (line_at (suc port) (page r))
+  pub ports_are : (port : ℕ) → port < 32 → line_at (suc port) (page r) ≡ port_line port (takes_of r port) (value_shown r port)
+  pub fields_are : (port : ℕ) → port < 32 → InColumns port (takes_of r port) (value_shown r port) (line_at (suc port) (page r))
   pub footer_is : line_at 33 (page r) ≡ footer
   pub feeds : (i : ℕ) → i < 34 → behind_line i (page r) ≡ bytes "\n"
 

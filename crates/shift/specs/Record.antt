@@ -44,8 +44,8 @@ pub record StoredRecord (r : ShiftRecord) : Type 0 where
 pub record OnePort (r : ShiftRecord) (port value : ℕ) : Type 0 where
   pub takes : port < 32 → takes_of (recorded port value r) port ≡ one_more (takes_of r port)
   pub last : port < 32 → last_value_of (recorded port value r) port ≡ value
-  pub other-takes : (other : ℕ) → (other ≡ port → ⊥) → takes_of (recorded port value r) other ≡ takes_of r other
-  pub other-values : (other : ℕ) → (other ≡ port → ⊥) → last_value_of (recorded port value r) other ≡ last_value_of r other
+  pub other_takes : (other : ℕ) → (other ≡ port → ⊥) → takes_of (recorded port value r) other ≡ takes_of r other
+  pub other_values : (other : ℕ) → (other ≡ port → ⊥) → last_value_of (recorded port value r) other ≡ last_value_of r other
   pub outside : 32 ≤ port → recorded port value r ≡ r
   pub stored : value < 2 ^ 32 → StoredRecord (recorded port value r)
 

@@ -201,10 +201,10 @@ rising-checked stores low i seen (p ∷ ps) e =
 pub record Checking (rule : ℕ → ℕ → ℕ → Bool) (seen : List Bool) (l : List Pair) (i low : ℕ) (marks : List Bool) : Type 0 where
   pub is : check_pairs rule 0 0 seen l ≡ check_pairs rule low i marks (drop i l)
   pub seen_are : seeing l seen ≡ seeing (drop i l) marks
-  pub long-marks : length marks ≡ length seen
+  pub long_marks : length marks ≡ length seen
 
 pub checking_none : {rule : ℕ → ℕ → ℕ → Bool} {seen : List Bool} {l : List Pair} → Checking rule seen l 0 0 seen
-checking_none = record { is = refl; seen_are = refl; long-marks = refl }
+checking_none = record { is = refl; seen_are = refl; long_marks = refl }
 
 module _ {rule : ℕ → ℕ → ℕ → Bool} {seen : List Bool} {l : List Pair} {i low : ℕ} {marks : List Bool} (w : Checking rule seen l i low marks) where
   module _ (h : i < length l) {p : Pair} (is : get_or l i blank_pair ≡ p) where
@@ -221,7 +221,7 @@ module _ {rule : ℕ → ℕ → ℕ → Bool} {seen : List Bool} {l : List Pair
     checking-more e = record {
       is = w.is ∙ rw (here, e, add-one);
       seen_are = w.seen_are ∙ rw (here, add-one);
-      long-marks = length-set marks p.port true ∙ w.long-marks;
+      long_marks = length-set marks p.port true ∙ w.long_marks;
     }
 
   pub checking-end : length l ≤ i → (0 ≡ number (check_pairs rule 0 0 seen l)) × (marks ≡ seeing l seen)
@@ -323,4 +323,4 @@ rule_small true stores places loads low i offset w e =
       view-length places loads,
       w.few,
     )
-rule_small false stores places loads low i offset w e = omega (arith, leb-true offset stores (and_right (leb low offset) _ e), w.few-stores)
+rule_small false stores places loads low i offset w e = omega (arith, leb-true offset stores (and_right (leb low offset) _ e), w.few_stores)

@@ -152,14 +152,14 @@ agree_at j ls (s ∷ ss) a (suc i) h = agree_at (suc j) ls ss a.1 i (le_of_suc-l
 
 -- what a group that is passed is
 pub record GroupRight (g : GroupPairs) : Type 0 where
-  pub few-loads : length g.loads ≤ 16
-  pub few-stores : length g.stores ≤ 16
-  pub load-offset : (i : ℕ) → i < length g.loads → (get_or g.loads i blank_pair).offset ≤ 16
-  pub store-offset : (i : ℕ) → i < length g.stores → (get_or g.stores i blank_pair).offset ≤ 16
-  pub load-port : (i : ℕ) → i < length g.loads → (get_or g.loads i blank_pair).port ≤ 31
-  pub store-port : (i : ℕ) → i < length g.stores → (get_or g.stores i blank_pair).port ≤ 31
-  pub loads-are : counted_pairs is_load 0 0 (order g) ≡ g.loads
-  pub stores-are : counted_pairs is_store 0 0 (order g) ≡ g.stores
+  pub few_loads : length g.loads ≤ 16
+  pub few_stores : length g.stores ≤ 16
+  pub load_offset : (i : ℕ) → i < length g.loads → (get_or g.loads i blank_pair).offset ≤ 16
+  pub store_offset : (i : ℕ) → i < length g.stores → (get_or g.stores i blank_pair).offset ≤ 16
+  pub load_port : (i : ℕ) → i < length g.loads → (get_or g.loads i blank_pair).port ≤ 31
+  pub store_port : (i : ℕ) → i < length g.stores → (get_or g.stores i blank_pair).port ≤ 31
+  pub loads_are : counted_pairs is_load 0 0 (order g) ≡ g.loads
+  pub stores_are : counted_pairs is_store 0 0 (order g) ≡ g.stores
 
 right_group : (seen : Seen) (g : GroupPairs) → check_group seen g ≡ passed → GroupRight g
 right_group seen g e =
@@ -168,14 +168,14 @@ right_group seen g e =
     let agree : Agree 0 0 g.loads g.stores = stores-checked g.loads 0 0 seen.stores g.stores ss in
     let e : offsets_counted 0 0 (order g) ≡ order g = order-counted 0 0 g.loads g.stores (rw (zero-add (length g.stores)) between) agree in
     record {
-      few-loads = few;
-      few-stores = fewer;
-      load-offset = λ i h. le_trans (between_at 0 (length g.stores) g.loads between i h) fewer;
-      store-offset = λ i h. le_trans (agree_at 0 g.loads g.stores agree i h) few;
-      load-port = ports-checked (load_rule (length g.stores)) 0 0 seen.loads g.loads ls;
-      store-port = ports-checked (store_rule g.loads) 0 0 seen.stores g.stores ss;
-      loads-are = ap (pairs_where is_load) e ∙ (order-pairs g).0;
-      stores-are = ap (pairs_where is_store) e ∙ (order-pairs g).1;
+      few_loads = few;
+      few_stores = fewer;
+      load_offset = λ i h. le_trans (between_at 0 (length g.stores) g.loads between i h) fewer;
+      store_offset = λ i h. le_trans (agree_at 0 g.loads g.stores agree i h) few;
+      load_port = ports-checked (load_rule (length g.stores)) 0 0 seen.loads g.loads ls;
+      store_port = ports-checked (store_rule g.loads) 0 0 seen.stores g.stores ss;
+      loads_are = ap (pairs_where is_load) e ∙ (order-pairs g).0;
+      stores_are = ap (pairs_where is_store) e ∙ (order-pairs g).1;
     }
 
 groups_right : (seen : Seen) (gs : List GroupPairs) → check_groups seen gs ≡ passed → (i : ℕ) (d : GroupPairs) → i < length gs
@@ -193,4 +193,4 @@ table_group_right gs e = groups_right none_seen gs (table-passed gs e).2
 
 -- the offsets of a right table say just what its program order says
 pub offsets_count_order : OffsetsCountOrder
-offsets_count_order gs e i d h = let r = table_group_right gs e i d h in (r.loads-are, r.stores-are)
+offsets_count_order gs e i d h = let r = table_group_right gs e i d h in (r.loads_are, r.stores_are)

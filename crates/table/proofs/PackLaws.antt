@@ -61,31 +61,31 @@ pairs-marked rule low i seen (p ∷ ps) h e =
 
 -- how many ports of each kind have been seen
 pub record Marks (seen : Seen) (loads stores : ℕ) : Type 0 where
-  pub loads-long : length seen.loads ≡ 32
-  pub stores-long : length seen.stores ≡ 32
-  pub loads-many : marked seen.loads ≡ loads
-  pub stores-many : marked seen.stores ≡ stores
+  pub loads_long : length seen.loads ≡ 32
+  pub stores_long : length seen.stores ≡ 32
+  pub loads_many : marked seen.loads ≡ loads
+  pub stores_many : marked seen.stores ≡ stores
 
 pub marks_none : Marks none_seen 0 0
-marks_none = record { loads-long = refl; stores-long = refl; loads-many = refl; stores-many = refl }
+marks_none = record { loads_long = refl; stores_long = refl; loads_many = refl; stores_many = refl }
 
 module _ {seen : Seen} {loads stores : ℕ} (w : Marks seen loads stores) where
   pub marks-room : (loads ≤ 32) × (stores ≤ 32)
   marks-room = (
-    omega (arith, count_most (λ (b : Bool). b) seen.loads, w.loads-long, w.loads-many),
-    omega (arith, count_most (λ (b : Bool). b) seen.stores, w.stores-long, w.stores-many),
+    omega (arith, count_most (λ (b : Bool). b) seen.loads, w.loads_long, w.loads_many),
+    omega (arith, count_most (λ (b : Bool). b) seen.stores, w.stores_long, w.stores_many),
   )
 
   pub marks-more : (g : GroupPairs) → check_group seen g ≡ passed → Marks (seen_after g seen) (loads + length g.loads) (stores + length g.stores)
   marks-more g e =
       let (few, fewer, ls, ss) = group-passed seen g e in
-      let l = pairs-marked _ _ _ seen.loads g.loads w.loads-long ls in
-      let s = pairs-marked _ _ _ seen.stores g.stores w.stores-long ss in
+      let l = pairs-marked _ _ _ seen.loads g.loads w.loads_long ls in
+      let s = pairs-marked _ _ _ seen.stores g.stores w.stores_long ss in
       record {
-        loads-long = l.long ∙ w.loads-long;
-        stores-long = s.long ∙ w.stores-long;
-        loads-many = l.many ∙ rw w.loads-many;
-        stores-many = s.many ∙ rw w.stores-many;
+        loads_long = l.long ∙ w.loads_long;
+        stores_long = s.long ∙ w.stores_long;
+        loads_many = l.many ∙ rw w.loads_many;
+        stores_many = s.many ∙ rw w.stores_many;
       }
 
 marks-groups : (seen : Seen) (gs : List GroupPairs) {loads stores : ℕ} → Marks seen loads stores → check_groups seen gs ≡ passed
@@ -234,11 +234,11 @@ table_made n groups loads stores = record { count = n; groups = groups; loads = 
 -- the record of these groups, by its numbers
 pub record Packed (t : Table) (loads stores : ℕ) (done : List GroupPairs) : Type 0 where
   pub table : t ≡ pack done
-  pub loads-are : loads ≡ length (loads_in done)
-  pub stores-are : stores ≡ length (stores_in done)
+  pub loads_are : loads ≡ length (loads_in done)
+  pub stores_are : stores ≡ length (stores_in done)
 
 pub packed_none : {t : Table} → t ≡ pack [] → Packed t 0 0 []
-packed_none e = record { table = e; loads-are = refl; stores-are = refl }
+packed_none e = record { table = e; loads_are = refl; stores_are = refl }
 
 pub packed_more : {t : Table} {loads stores : ℕ} {done : List GroupPairs} {x : NewGroup} {r : Table} → Packed t loads stores done → (g : GroupPairs)
     → x ≡ pack_group g → length done < 16 → Grown t loads stores x r
@@ -247,13 +247,13 @@ packed_more {t} {loads} {stores} {done} {x} {r} w g e h v =
     let ls = flat_snoc (λ (y : GroupPairs). y.loads) done g in
     let ss = flat_snoc (λ (y : GroupPairs). y.stores) done g in
     let n : r.count ≡ length (done ++ g ∷ []) = v.count ∙ rw (w.table, length-append) in
-    let a : r.groups ≡ (pack (done ++ g ∷ [])).groups = v.groups ∙ rw (w.table, w.loads-are, w.stores-are, e) (spans_more done g h) in
-    let b : r.loads ≡ filled (loads_in (done ++ g ∷ [])) = v.loads-are ∙ rw (w.table, w.loads-are, e, ls) (filled_more (loads_in done) g.loads) in
+    let a : r.groups ≡ (pack (done ++ g ∷ [])).groups = v.groups ∙ rw (w.table, w.loads_are, w.stores_are, e) (spans_more done g h) in
+    let b : r.loads ≡ filled (loads_in (done ++ g ∷ [])) = v.loads_are ∙ rw (w.table, w.loads_are, e, ls) (filled_more (loads_in done) g.loads) in
     let c : r.stores ≡ filled (stores_in (done ++ g ∷ [])) =
-    v.stores-are ∙ rw (w.table, w.stores-are, e, ss) (filled_more (stores_in done) g.stores) in
+    v.stores_are ∙ rw (w.table, w.stores_are, e, ss) (filled_more (stores_in done) g.stores) in
     record {
       table = ap₂ (λ (n : ℕ) (a : List ℕ). table_made n a r.loads r.stores) n a
           ∙ ap₂ (table_made (length (done ++ g ∷ [])) (pack (done ++ g ∷ [])).groups) b c;
-      loads-are = rw (w.loads-are, e, ls, length-append);
-      stores-are = rw (w.stores-are, e, ss, length-append);
+      loads_are = rw (w.loads_are, e, ls, length-append);
+      stores_are = rw (w.stores_are, e, ss, length-append);
     }

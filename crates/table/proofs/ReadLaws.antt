@@ -104,7 +104,7 @@ pub record PairsReading (rule : ℕ → ℕ → ℕ → Bool) (n : ℕ) (seen : 
   pub packs : map packed_pair (map pair_in (take i places)) ≡ take i places
   pub blank : drop i places ≡ replicate (32 - i) 0
   pub long : length places ≡ 32
-  pub marks-are : marks ≡ seeing (map pair_in (take i places)) seen
+  pub marks_are : marks ≡ seeing (map pair_in (take i places)) seen
   pub inside : place ≤ length s
 
 pub reading_none : {rule : ℕ → ℕ → ℕ → Bool} {n : ℕ} {seen : List Bool} {s : List ℕ} {start : ℕ} {places : List ℕ} → start ≤ length s
@@ -115,7 +115,7 @@ reading_none {rule} {n} {seen} {s} {start} h e = record {
   packs = refl;
   blank = e;
   long = rw e;
-  marks-are = refl;
+  marks_are = refl;
   inside = h;
 }
 
@@ -157,7 +157,7 @@ module _ {rule : ℕ → ℕ → ℕ → Bool} {n : ℕ} {seen : List Bool} {s :
             packs = rw (u, t) (map-append packed_pair (map pair_in (take i places)) (p ∷ []) ∙ rw (w.packs, is-packed));
             blank = rw (drop-set-lt (i + 1) places i number (omega arith), add-one) (blank-after places i w.blank (omega arith));
             long = length-set places i number ∙ w.long;
-            marks-are = rw (u, seeing_snoc, ← w.marks-are);
+            marks_are = rw (u, seeing_snoc, ← w.marks_are);
             inside = g.inside;
           }
         where

@@ -185,25 +185,25 @@ right_counts a b h = rw (le-leb a 16 h.0, le-leb b 16 h.1)
 record Shape (g : GroupPairs) : Type 0 where
   pub counts : CountsWithin g
   pub never_fall : LoadsNeverFall g
-  pub load-offsets : LoadsWithin g
-  pub store-offsets : StoresAgree g
+  pub load_offsets : LoadsWithin g
+  pub store_offsets : StoresAgree g
 
 record Done (seen : Seen) (loads stores : List ℕ) : Type 0 where
-  pub loads-marked : Marked seen.loads loads
-  pub stores-marked : Marked seen.stores stores
+  pub loads_marked : Marked seen.loads loads
+  pub stores_marked : Marked seen.stores stores
 
 module _ (seen : Seen) (g : GroupPairs) {loads stores : List ℕ} (w : Done seen loads stores) where
   group-right : check_group seen g ≡ passed → Shape g × Fresh loads (map port_of g.loads) × Fresh stores (map port_of g.stores)
   group-right e =
       let (few, fewer, ls, ss) = group-passed seen g e in
-      let l = pairs-fresh (load_rule (length g.stores)) 0 0 seen.loads loads g.loads w.loads-marked ls in
-      let s = pairs-fresh (store_rule g.loads) 0 0 seen.stores stores g.stores w.stores-marked ss in
+      let l = pairs-fresh (load_rule (length g.stores)) 0 0 seen.loads loads g.loads w.loads_marked ls in
+      let s = pairs-fresh (store_rule g.loads) 0 0 seen.stores stores g.stores w.stores_marked ss in
       let (above, fall, below) = loads_rise (length g.stores) 0 0 g.loads l.0 in (
         record {
           counts = (few, fewer);
           never_fall = fall;
-          load-offsets = below;
-          store-offsets = λ j h. rw zero-add at (stores-count g.loads 0 0 g.stores s.0 j h);
+          load_offsets = below;
+          store_offsets = λ j h. rw zero-add at (stores-count g.loads 0 0 g.stores s.0 j h);
         },
         l.1,
         s.1,
@@ -212,17 +212,17 @@ module _ (seen : Seen) (g : GroupPairs) {loads stores : List ℕ} (w : Done seen
   right_group : Shape g → Fresh loads (map port_of g.loads) → Fresh stores (map port_of g.stores) → check_group seen g ≡ passed
   right_group r l s =
       let c = right_counts (length g.loads) (length g.stores) r.counts in
-      let o = loads-agree (length g.stores) 0 0 g.loads (each-above (map offset_of g.loads)) r.never_fall r.load-offsets in
-      let p = stores-agree g.loads 0 0 g.stores (λ j h. rw zero-add (r.store-offsets j h)) in
-      let a = pairs-right (load_rule (length g.stores)) 0 0 seen.loads loads g.loads w.loads-marked o l in
-      let b = pairs-right (store_rule g.loads) 0 0 seen.stores stores g.stores w.stores-marked p s in
+      let o = loads-agree (length g.stores) 0 0 g.loads (each-above (map offset_of g.loads)) r.never_fall r.load_offsets in
+      let p = stores-agree g.loads 0 0 g.stores (λ j h. rw zero-add (r.store_offsets j h)) in
+      let a = pairs-right (load_rule (length g.stores)) 0 0 seen.loads loads g.loads w.loads_marked o l in
+      let b = pairs-right (store_rule g.loads) 0 0 seen.stores stores g.stores w.stores_marked p s in
       group_pass seen g c a b
 
   done-after : Fresh loads (map port_of g.loads) → Fresh stores (map port_of g.stores) →
       Done (seen_after g seen) (done_after loads (map port_of g.loads)) (done_after stores (map port_of g.stores))
   done-after l s = record {
-    loads-marked = marked-after seen.loads loads g.loads w.loads-marked l;
-    stores-marked = marked-after seen.stores stores g.stores w.stores-marked s;
+    loads_marked = marked-after seen.loads loads g.loads w.loads_marked l;
+    stores_marked = marked-after seen.stores stores g.stores w.stores_marked s;
   }
 
 -- ---- groups
@@ -256,7 +256,7 @@ right_groups seen (g ∷ gs) {loads} {stores} w r l s =
 
 -- ---- tables
 none_done_yet : Done none_seen [] []
-none_done_yet = record { loads-marked = unmarked; stores-marked = unmarked }
+none_done_yet = record { loads_marked = unmarked; stores_marked = unmarked }
   where
     unmarked : Marked none_seen.loads []
     unmarked = record { long = refl; are = λ n h. get_or-replicate 32 n false false (omega arith) }
@@ -271,26 +271,26 @@ right_tables gs = (to, from)
         let loads = fresh-apart [] (map port_of (loads_in gs)) l in
         let stores = fresh-apart [] (map port_of (stores_in gs)) s in
         record {
-          group-count = (some, few);
+          group_count = (some, few);
           counts = each_map gs (λ g r. r.counts) shapes;
           never_fall = each_map gs (λ g r. r.never_fall) shapes;
-          load-offsets = each_map gs (λ g r. r.load-offsets) shapes;
-          store-offsets = each_map gs (λ g r. r.store-offsets) shapes;
-          load-ports = loads.small;
-          store-ports = stores.small;
+          load_offsets = each_map gs (λ g r. r.load_offsets) shapes;
+          store_offsets = each_map gs (λ g r. r.store_offsets) shapes;
+          load_ports = loads.small;
+          store_ports = stores.small;
           loads_once = loads.once;
-          stores-once = stores.once;
+          stores_once = stores.once;
         }
 
     shaped : (l : List GroupPairs) → Each CountsWithin l → Each LoadsNeverFall l → Each LoadsWithin l → Each StoresAgree l → Each Shape l
     shaped [] a b c d = tt
     shaped (g ∷ l) a b c d =
-        (record { counts = a.0; never_fall = b.0; load-offsets = c.0; store-offsets = d.0 }, shaped l a.1 b.1 c.1 d.1)
+        (record { counts = a.0; never_fall = b.0; load_offsets = c.0; store_offsets = d.0 }, shaped l a.1 b.1 c.1 d.1)
 
     from : RightTable gs → check_table gs ≡ passed
     from r =
-        let shapes = shaped gs r.counts r.never_fall r.load-offsets r.store-offsets in
-        let l = once-fresh (map port_of (loads_in gs)) r.load-ports r.loads_once in
-        let s = once-fresh (map port_of (stores_in gs)) r.store-ports r.stores-once in
+        let shapes = shaped gs r.counts r.never_fall r.load_offsets r.store_offsets in
+        let l = once-fresh (map port_of (loads_in gs)) r.load_ports r.loads_once in
+        let s = once-fresh (map port_of (stores_in gs)) r.store_ports r.stores_once in
         let g = right_groups none_seen gs none_done_yet shapes l s in
-        table_pass gs (rw (le-leb 1 (length gs) r.group-count.0, le-leb (length gs) 16 r.group-count.1)) g
+        table_pass gs (rw (le-leb 1 (length gs) r.group_count.0, le-leb (length gs) 16 r.group_count.1)) g

@@ -32,4 +32,4 @@ groups_within_places t groups loads stores right i k =
     let e : get_or (take 16 t.groups) i 0 ≡ get_or t.groups i 0 = get_or-take 16 t.groups i 0 (omega arith) in
     let g : GroupPairs = pairs_of t.loads t.stores (group_meant h) in
     let here : GroupRight g = subst GroupRight (rw e at (groups-at t few i k g)) (table_group_right (groups_of t) right i g (rw (groups-size t) k)) in
-    rw (span_within_lem h.loads t.loads here.few-loads, span_within_lem h.stores t.stores here.few-stores)
+    rw (span_within_lem h.loads t.loads here.few_loads, span_within_lem h.stores t.stores here.few_stores)

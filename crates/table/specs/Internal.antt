@@ -34,7 +34,7 @@ Rising low (p ∷ ps) = (low ≤ p.offset) × Rising p.offset ps
 pub record RuleRight (storing : Bool) (stores : ℕ) (places : List ℕ) (loads : Span) : Type 0 where
   pub inside : Inside loads
   pub few : loads.count ≤ 16
-  pub few-stores : stores ≤ 16
+  pub few_stores : stores ≤ 16
   pub rising : storing ≡ true → Rising 0 (list_of places loads)
 
 -- what checking pairs gives: their first fault and, where there is none, the marks after them
@@ -147,8 +147,8 @@ behind loads stores g = record { loads = record { first = loads; count = g.loads
 pub record Grown (t : Table) (loads stores : ℕ) (g : NewGroup) (r : Table) : Type 0 where
   pub count : r.count ≡ t.count + 1
   pub groups : r.groups ≡ set t.groups t.count (packed_group (behind loads stores g))
-  pub loads-are : r.loads ≡ put_in t.loads loads g.loads
-  pub stores-are : r.stores ≡ put_in t.stores stores g.stores
+  pub loads_are : r.loads ≡ put_in t.loads loads g.loads
+  pub stores_are : r.stores ≡ put_in t.stores stores g.stores
 
 -- ---- a group of a table
 

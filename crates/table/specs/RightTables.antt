@@ -51,22 +51,22 @@ PortsWithin ps = Each (λ (port : ℕ). port ≤ 31) (map port_of ps)
 
 pub record RightTable (gs : List GroupPairs) : Type 0 where
   -- "number of groups (1 to 16)"
-  pub group-count : (1 ≤ length gs) × (length gs ≤ 16)
+  pub group_count : (1 ≤ length gs) × (length gs ≤ 16)
   -- "its number of loads, its number of stores (each 0 to 16 ..)"; with S-2 both may be 0
   pub counts : Each CountsWithin gs
   -- "Load offsets never fall."
   pub never_fall : Each LoadsNeverFall gs
   -- "A load's offset counts the group's stores before it": no more than the group has.
-  pub load-offsets : Each LoadsWithin gs
+  pub load_offsets : Each LoadsWithin gs
   -- "A store's counts the loads before it. .. Load i is before store j (both from 0) when its offset is at most j, and each
   -- store's offset must agree."
-  pub store-offsets : Each StoresAgree gs
+  pub store_offsets : Each StoresAgree gs
   -- "Load ports are 0 to 31, store ports 0 to 31, two separate series;"
-  pub load-ports : PortsWithin (loads_in gs)
-  pub store-ports : PortsWithin (stores_in gs)
+  pub load_ports : PortsWithin (loads_in gs)
+  pub store_ports : PortsWithin (stores_in gs)
   -- "a port stands once in a table."
   pub loads_once : Distinct (map port_of (loads_in gs))
-  pub stores-once : Distinct (map port_of (stores_in gs))
+  pub stores_once : Distinct (map port_of (stores_in gs))
 
 -- Checking finds no fault in the right tables, and in no others.
 abbrev pub RightTables : Type 0

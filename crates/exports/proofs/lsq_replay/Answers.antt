@@ -8,7 +8,6 @@ use Rattle.table.specs.TableBytes.{read_table}
 use Rattle.table.proofs.RoundTrip.{table-refused, table_given}
 use Rattle.exports.specs.Replay.{Lent, lent}
 use Rattle.exports.proofs.ReplayLaws.{lent-table, lent-short, answered-refused, answered-lent}
-use borrow.Author.Rules.{rules}
 use Rattle.exports.proofs.lsq_replay.Goals as goal
 
 pub returns-then-read-ne0 : goal.returns-then-read-ne0
@@ -28,7 +27,7 @@ returns-then-counts-lt2 c =
     let lent_at : Lent = let a = c.args in
     lent a.memory.now a.counts.now a.answers.now a.given.now a.values.now in
     let table-right : read_table bytes_at ≡ accept (groups_of c.read_table-read.result.table) =
-            table_given bytes_at c.read_table-read.result c.read_table-read.ensures c.if-read-ne0.false in
+    table_given bytes_at c.read_table-read.result c.read_table-read.ensures c.if-read-ne0.false in
     let l = lent_at in
     answered-refused l (lent-short bytes_at traceAt l table-right c.if-counts-lt2.true)
 
@@ -39,6 +38,6 @@ returns c =
     let lent_at : Lent = let a = c.args in
     lent a.memory.now a.counts.now a.answers.now a.given.now a.values.now in
     let table-right : read_table bytes_at ≡ accept (groups_of c.read_table-read.result.table) =
-            table_given bytes_at c.read_table-read.result c.read_table-read.ensures c.if-read-ne0.false in
+    table_given bytes_at c.read_table-read.result c.read_table-read.ensures c.if-read-ne0.false in
     let l = lent_at in
     answered-lent bytes_at traceAt l table-right c.if-counts-lt2.false c.replay-done.result c.replay-done.ensures

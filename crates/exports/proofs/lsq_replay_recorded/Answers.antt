@@ -1,7 +1,6 @@
 -- The replay by its own contract; the record from the buffers that it filled.
 use Rattle.exports.specs.Replay.{Lent, lent}
-use Rattle.exports.proofs.RecordLaws.{lent-kept-refused, lent-kept-accepted}
-use borrow.Author.Rules.{rules}
+use Rattle.exports.proofs.RecordLaws.{lent-kept-accepted}
 use Rattle.exports.proofs.lsq_replay_recorded.Goals as goal
 
 pub returns : goal.returns

@@ -1,7 +1,6 @@
 -- The table is refused, or read; then the trace is made ready on the groups that were read.
-use Rattle.table.proofs.RoundTrip.{table-refused, table_given}
-use Rattle.exports.proofs.PreparedLaws.{tells-table, tells-trace}
-use borrow.Author.Rules.{rules}
+use Rattle.table.proofs.RoundTrip.{table_given}
+use Rattle.exports.proofs.PreparedLaws.{tells-trace}
 use Rattle.exports.proofs.make_ready.Goals as goal
 
 pub returns : goal.returns

@@ -11,7 +11,7 @@ use Rattle.grouping.proofs.count_offsets.Goals as goal
 pub with_access-group-requires : goal.with_access-group-requires
 with_access-group-requires c =
     let room : (length c.args.order.accesses ≡ 32) × (c.args.order.count ≤ 32) =
-            (search rules, order-count c.args.order c.args.accesses c.requires) in
+    (search rules, order-count c.args.order c.args.accesses c.requires) in
     let short : length (in_order c.args.accesses (take c.loop-i.i c.args.order.accesses)) < 32 = let (size, few) = room in
     let e = fewer c.args.accesses c.args.order.accesses c.loop-i.i (omega arith) in
     omega arith in
@@ -20,7 +20,7 @@ with_access-group-requires c =
 pub loop-i-preserved : goal.loop-i-preserved
 loop-i-preserved c =
     let room : (length c.args.order.accesses ≡ 32) × (c.args.order.count ≤ 32) =
-            (search rules, order-count c.args.order c.args.accesses c.requires) in
+    (search rules, order-count c.args.order c.args.accesses c.requires) in
     let short : length (in_order c.args.accesses (take c.loop-i.i c.args.order.accesses)) < 32 = let (size, few) = room in
     let e = fewer c.args.accesses c.args.order.accesses c.loop-i.i (omega arith) in
     omega arith in

@@ -9,7 +9,6 @@ use Rattle.queue.specs.Open.{open_queue, fresh_frame}
 use Rattle.queue.specs.Parts.{OpensFrame}
 use Rattle.table.proofs.RoundTrip.{table-refused, table_given}
 use Rattle.live.proofs.CallLaws.{no_table_no_frame}
-use borrow.Author.Rules.{rules}
 use Rattle.live.proofs.calls.lsq_open_in.Goals as goal
 
 -- a refused table is the table of no groups, on which opening gives the frame of no table

@@ -3,7 +3,6 @@ use Rattle.queue.specs.Contents.{contents_of}
 use Rattle.queue.specs.Serve.{serve}
 use Rattle.queue.specs.Parts.{queue_of, counted_of, on_parts}
 use Rattle.live.proofs.CallLaws.{serves-tell}
-use borrow.Author.Rules.{rules}
 use Rattle.live.proofs.calls.lsq_serve_in.Goals as goal
 
 pub returns : goal.returns

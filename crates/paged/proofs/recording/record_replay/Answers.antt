@@ -1,26 +1,16 @@
 -- A trace that cannot be read has no events here, and leaves the record.
 use Prim.Native.Nat.{ℕ}
 use mathlib.Core.Path.{◌≡◌, refl, sym, ap, ◌∙◌}
-use mathlib.Core.List.{List, [], ◌∷◌}
-use native.Mathlib.Omega.{arith}
-use borrow.Author.Rules.{rules}
-use types.Run.{OneOf}
-use denote.Enum.Declared.{tag_of}
-use Rattle.number.specs.Number.{read_in}
+use mathlib.Core.List.{List, []}
 use Rattle.trace.specs.declared.Event.{Event}
-use Rattle.trace.specs.declared.HeaderRead.{HeaderRead}
-use Rattle.trace.specs.declared.HeaderRead.TheVariants.{Leading, NoHeader}
-use Rattle.trace.specs.contracts.HeaderRead.{the_type}
 use Rattle.trace.specs.Event.{read_header, header_reply}
 use Rattle.replay.specs.declared.EventCount.{EventCount}
 use Rattle.replay.specs.declared.EventCount.TheVariants.{Events, BadEvent}
-use Rattle.replay.specs.contracts.EventCount.{the_type as count-type}
 use Rattle.replay.specs.Events.{events_from, count_reply, counted_events}
 use Rattle.replay.specs.Replay.{events_behind}
-use Rattle.replay.proofs.EventLaws.{all_read, not_read}
-use Rattle.paged.specs.Recorded.{record_buffered, events_read, trace_events}
-use Rattle.paged.specs.Internal.{AllReadable}
-use Rattle.paged.proofs.BufferLaws.{events-behind, no_header}
+use Rattle.replay.proofs.EventLaws.{not_read}
+use Rattle.paged.specs.Recorded.{record_buffered, events_read}
+use Rattle.paged.proofs.BufferLaws.{events-behind}
 use Rattle.paged.proofs.recording.record_replay.Goals as goal
 
 -- one of them cannot be read
@@ -33,7 +23,7 @@ pub returns-in_default-count : goal.returns-in_default-count
 returns-in_default-count c =
     let lent : List ℕ = c.args.trace.now in
     let behind : events_behind (read_header lent) ≡ events_from lent c.in-Leading.at =
-            events-behind lent (sym (ap header_reply c.in-Leading.is) ∙ c.read_header-read.ensures) in
+    events-behind lent (sym (ap header_reply c.in-Leading.is) ∙ c.read_header-read.ensures) in
     let a = c.args in
     ap (λ (es : List Event). record_buffered a.kept es a.given.now a.values.now)
     (sym (ap events_read behind
@@ -43,6 +33,6 @@ pub returns : goal.returns
 returns c =
     let lent : List ℕ = c.args.trace.now in
     let behind : events_behind (read_header lent) ≡ events_from lent c.in-Leading.at =
-            events-behind lent (sym (ap header_reply c.in-Leading.is) ∙ c.read_header-read.ensures) in
+    events-behind lent (sym (ap header_reply c.in-Leading.is) ∙ c.read_header-read.ensures) in
     let a = c.args in
     c.record_events.ensures ∙ ap (λ (es : List Event). record_buffered a.kept es a.given.now a.values.now) (sym (ap events_read behind))

@@ -2,8 +2,7 @@
 use Rattle.table.specs.Table.{groups_of}
 use Rattle.replay.specs.Replay.{Buffers}
 use Rattle.replay.proofs.ReplayLaws.{buffers}
-use borrow.Author.Rules.{rules}
-use Rattle.paged.proofs.BufferLaws.{kept-refused, kept-accepted}
+use Rattle.paged.proofs.BufferLaws.{kept-accepted}
 use Rattle.paged.proofs.recording.replay_recorded.Goals as goal
 
 pub returns : goal.returns

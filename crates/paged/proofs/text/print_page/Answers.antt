@@ -2,7 +2,6 @@ use mathlib.Core.Path.{refl, ap}
 use Rattle.number.specs.Reply.{accept}
 use Rattle.printed.proofs.TextLaws.{puts-front}
 use Rattle.paged.proofs.TextLaws.{printed-short, printed-fits}
-use borrow.Author.Rules.{rules}
 use Rattle.paged.proofs.text.print_page.Goals as goal
 
 pub returns-then-out-lt-PAGE_BYTES : goal.returns-then-out-lt-PAGE_BYTES

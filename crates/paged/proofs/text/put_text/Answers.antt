@@ -27,7 +27,7 @@ returns-in-TableFault c =
     let memoryLeft : List ℕ = c.play_files-played.new.memory in
     let left : Buffers = let l = c.play_files-played.new in buffers l.answers l.given l.values in
     let told : (r : FilesPlayed) → c.play_files-played.result ≡ r → HasPlayed (played_on memoryLent lent filesAt) r memoryLeft left =
-            λ r e. let m : length memoryLent ≡ 4096 = search rules in
+    λ r e. let m : length memoryLent ≡ 4096 = search rules in
     let a : length lent.answers ≡ 16384 = search rules in
     let g : length lent.given ≡ 16384 = search rules in
     let w : length lent.values ≡ 16384 = search rules in
@@ -46,7 +46,7 @@ returns-in-TraceFault c =
     let memoryLeft : List ℕ = c.play_files-played.new.memory in
     let left : Buffers = let l = c.play_files-played.new in buffers l.answers l.given l.values in
     let told : (r : FilesPlayed) → c.play_files-played.result ≡ r → HasPlayed (played_on memoryLent lent filesAt) r memoryLeft left =
-            λ r e. let m : length memoryLent ≡ 4096 = search rules in
+    λ r e. let m : length memoryLent ≡ 4096 = search rules in
     let a : length lent.answers ≡ 16384 = search rules in
     let g : length lent.given ≡ 16384 = search rules in
     let w : length lent.values ≡ 16384 = search rules in
@@ -65,7 +65,7 @@ returns-in-Run c =
     let memoryLeft : List ℕ = c.play_files-played.new.memory in
     let left : Buffers = let l = c.play_files-played.new in buffers l.answers l.given l.values in
     let told : (r : FilesPlayed) → c.play_files-played.result ≡ r → HasPlayed (played_on memoryLent lent filesAt) r memoryLeft left =
-            λ r e. let m : length memoryLent ≡ 4096 = search rules in
+    λ r e. let m : length memoryLent ≡ 4096 = search rules in
     let a : length lent.answers ≡ 16384 = search rules in
     let g : length lent.given ≡ 16384 = search rules in
     let w : length lent.values ≡ 16384 = search rules in
@@ -73,7 +73,7 @@ returns-in-Run c =
     (enough memoryLent lent (omega (arith, m)) (omega (arith, a)) (omega (arith, g)) (omega (arith, w))) e c.play_files-played.ensures in
     let a = c.args in
     let ran = run-told _ _ filesAt (told _ c.in-Run.is) in
-    puts_as (ap page (run_record a.table.now a.trace.now ran.is lent left ran.buffers-are) ∙ sym (ap files_page ran.is))
+    puts_as (ap page (run_record a.table.now a.trace.now ran.is lent left ran.buffers_are) ∙ sym (ap files_page ran.is))
     c.put_page.ensures
 
 -- what is lent has room
@@ -85,7 +85,7 @@ returns-in-NoRoom c =
     let memoryLeft : List ℕ = c.play_files-played.new.memory in
     let left : Buffers = let l = c.play_files-played.new in buffers l.answers l.given l.values in
     let told : (r : FilesPlayed) → c.play_files-played.result ≡ r → HasPlayed (played_on memoryLent lent filesAt) r memoryLeft left =
-            λ r e. let m : length memoryLent ≡ 4096 = search rules in
+    λ r e. let m : length memoryLent ≡ 4096 = search rules in
     let a : length lent.answers ≡ 16384 = search rules in
     let g : length lent.given ≡ 16384 = search rules in
     let w : length lent.values ≡ 16384 = search rules in

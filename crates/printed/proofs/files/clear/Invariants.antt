@@ -1,9 +1,7 @@
 -- Each turn makes one word more 0.
 use Prim.Native.Nat.{◌-◌}
-use native.Mathlib.Omega.{arith}
 use lib.ListN.{length}
-use borrow.Author.Rules.{rules}
-use Rattle.printed.proofs.FilesLaws.{ClearedTo, cleared_none, cleared-long, cleared_more, cleared-end}
+use Rattle.printed.proofs.FilesLaws.{ClearedTo}
 use Rattle.printed.proofs.files.clear.Given as goal
 
 abbrev pub invariant-loop-i : goal.invariant-loop-i

@@ -1,13 +1,11 @@
 use mathlib.Core.Path.{◌≡◌, sym, ◌∙◌}
 use mathlib.Core.Bool.{true}
-use borrow.Author.Tests.{not-true, not-false}
 use Rattle.replay.specs.Replay.{Buffers}
 use Rattle.replay.proofs.ReplayLaws.{buffers}
 use Rattle.table.proofs.RoundTrip.{table-refused, table_given}
 use Rattle.printed.specs.Files.{Files, files}
 use Rattle.printed.specs.Played.{has_room}
-use Rattle.printed.proofs.FilesLaws.{has_room_lem, table-long, table-fault, table-right, told-as, told-table, told-short, told_in}
-use borrow.Author.Rules.{rules}
+use Rattle.printed.proofs.FilesLaws.{table-long, table-fault, table-right, told-as, told-table, told-short, told_in}
 use Rattle.printed.proofs.files.play_files.Goals as goal
 
 pub returns-then-not-have_room : goal.returns-then-not-have_room

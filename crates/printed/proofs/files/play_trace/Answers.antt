@@ -10,9 +10,8 @@ use Rattle.replay.specs.Replay.{Buffers, start_of}
 use Rattle.replay.proofs.EventLaws.{all_read, not_read}
 use Rattle.replay.proofs.ReplayLaws.{buffers}
 use Rattle.replay.proofs.PrepareLaws.{prepare-refused, trace-opened, prepare-opened}
-use Rattle.printed.specs.Files.{Files, start_files, trace_files}
+use Rattle.printed.specs.Files.{start_files, trace_files}
 use Rattle.printed.proofs.FilesLaws.{opened-words, cleared, trace-long, trace-short, told-as, told-trace, told-cleared}
-use borrow.Author.Rules.{rules}
 use Rattle.printed.proofs.files.play_trace.Goals as goal
 
 pub returns-then-trace-gt-MOST_BYTES : goal.returns-then-trace-gt-MOST_BYTES
@@ -36,7 +35,7 @@ play_events-requires c =
     record {
       cleared = cleared c.args.memory.now lent c.requires c.clear.ensures;
       short = c.if-trace-gt-MOST_BYTES.false;
-      memory-few = opened-words gs (read_header c.args.trace.now) is;
+      memory_few = opened-words gs (read_header c.args.trace.now) is;
     }
 
 -- all events are read: they are played on the memory, which is cleared by then
@@ -45,27 +44,27 @@ returns-in-Events c =
     let lent : Buffers = buffers c.args.answers.now c.args.given.now c.args.values.now in
     let eventsAt : Reply (List Event) = events_from c.args.trace.now c.open_trace-opened.result.at in
     let opened : let a = c.args in trace_files (groups_of a.table) a.trace.now ≡
-            (start_files (start_of (contents_of c.open_trace-opened.result.queue) eventsAt)) = let gs = groups_of c.args.table in
+    (start_files (start_of (contents_of c.open_trace-opened.result.queue) eventsAt)) = let gs = groups_of c.args.table in
     let trace = c.args.trace.now in
     trace-short gs trace c.if-trace-gt-MOST_BYTES.false
     ∙ ap start_files (prepare-opened gs trace c.open_trace-opened.result c.open_trace-opened.ensures c.if-opened-ne0.false) in
     let read = all_read c.args.trace.now c.open_trace-opened.result.at
-            (sym (ap count_reply c.in-Events.is) ∙ c.count_events-count.ensures) in
+    (sym (ap count_reply c.in-Events.is) ∙ c.count_events-count.ensures) in
     told-as c.args.memory.now lent opened
     (told-cleared c.args.memory.now lent (ap
-            ((λ (g : Reply (List Event)). start_files (start_of (contents_of c.open_trace-opened.result.queue) g))) read.is)
-            c.clear.ensures c.play_events.ensures)
+    ((λ (g : Reply (List Event)). start_files (start_of (contents_of c.open_trace-opened.result.queue) g))) read.is)
+    c.clear.ensures c.play_events.ensures)
 
 pub returns-in-BadEvent : goal.returns-in-BadEvent
 returns-in-BadEvent c =
     let lent : Buffers = buffers c.args.answers.now c.args.given.now c.args.values.now in
     let eventsAt : Reply (List Event) = events_from c.args.trace.now c.open_trace-opened.result.at in
     let opened : let a = c.args in trace_files (groups_of a.table) a.trace.now ≡
-            (start_files (start_of (contents_of c.open_trace-opened.result.queue) eventsAt)) = let gs = groups_of c.args.table in
+    (start_files (start_of (contents_of c.open_trace-opened.result.queue) eventsAt)) = let gs = groups_of c.args.table in
     let trace = c.args.trace.now in
     trace-short gs trace c.if-trace-gt-MOST_BYTES.false
     ∙ ap start_files (prepare-opened gs trace c.open_trace-opened.result c.open_trace-opened.ensures c.if-opened-ne0.false) in
     let fault = not_read c.args.trace.now c.open_trace-opened.result.at
-            (sym (ap count_reply c.in-BadEvent.is) ∙ c.count_events-count.ensures) in
+    (sym (ap count_reply c.in-BadEvent.is) ∙ c.count_events-count.ensures) in
     told-trace c.args.memory.now lent (opened ∙ ap
-            ((λ (g : Reply (List Event)). start_files (start_of (contents_of c.open_trace-opened.result.queue) g))) fault)
+    ((λ (g : Reply (List Event)). start_files (start_of (contents_of c.open_trace-opened.result.queue) g))) fault)

@@ -1,10 +1,8 @@
 use native.Mathlib.Omega.{arith}
 use lib.ListN.{length-append}
-use Rattle.counts.specs.Counts.{share}
 use Rattle.printed.specs.Internal.{item}
 use Rattle.number.proofs.PutLaws.{puts_as, puts-length, both, both_end, both_long}
 use Rattle.printed.proofs.LineLaws.{item-few, loads_space, forwarded_space, share_space, counts-line}
-use borrow.Author.Rules.{rules}
 use Rattle.printed.proofs.lines.put_counts.Goals as goal
 
 pub put_item-place-requires-2 : goal.put_item-place-requires-2

@@ -1,7 +1,6 @@
 use Prim.Native.Nat.{◌+◌, ◌≤◌}
 use mathlib.Core.List.{[]}
 use native.Mathlib.Omega.{arith}
-use borrow.Author.Rules.{rules}
 use lib.ListN.{length, length-append}
 use Rattle.printed.specs.Internal.{item}
 use Rattle.number.proofs.SpliceLaws.{put-at}
@@ -18,7 +17,7 @@ put_item-place-requires-2 c =
 pub put_item-requires : goal.put_item-requires
 put_item-requires c =
     let fits : c.args.at + length (item [] c.args.number 32) + length (item [] c.args.answer 32) + 21 ≤ length c.args.out.now =
-            omega (arith, c.requires, item-few [] c.args.number 32, item-few [] c.args.answer 32) in
+    omega (arith, c.requires, item-few [] c.args.number 32, item-few [] c.args.answer 32) in
     let w = c.put_item-place.ensures in
     let v = c.put_item-place-2.ensures in
     let s = c.args in
@@ -28,7 +27,7 @@ put_item-requires c =
 pub returns-then-given-eq1 : goal.returns-then-given-eq1
 returns-then-given-eq1 c =
     let fits : c.args.at + length (item [] c.args.number 32) + length (item [] c.args.answer 32) + 21 ≤ length c.args.out.now =
-            omega (arith, c.requires, item-few [] c.args.number 32, item-few [] c.args.answer 32) in
+    omega (arith, c.requires, item-few [] c.args.number 32, item-few [] c.args.answer 32) in
     let w = c.put_item-place.ensures in
     let v = c.put_item-place-2.ensures in
     let s = c.args in
@@ -40,7 +39,7 @@ returns-then-given-eq1 c =
 pub returns : goal.returns
 returns c =
     let fits : c.args.at + length (item [] c.args.number 32) + length (item [] c.args.answer 32) + 21 ≤ length c.args.out.now =
-            omega (arith, c.requires, item-few [] c.args.number 32, item-few [] c.args.answer 32) in
+    omega (arith, c.requires, item-few [] c.args.number 32, item-few [] c.args.answer 32) in
     let w = c.put_item-place.ensures in
     let v = c.put_item-place-2.ensures in
     let s = c.args in

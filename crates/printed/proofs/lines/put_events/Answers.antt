@@ -1,13 +1,6 @@
-use Prim.Native.Nat.{◌-◌, ◌≤◌}
-use mathlib.Core.Path.{◌≡◌}
 use native.Mathlib.Omega.{arith}
-use lib.ListN.{take}
-use Rattle.printed.specs.Text.{event_lines}
-use Rattle.number.specs.Number.{Puts}
-use Rattle.printed.specs.Internal.{rows}
-use Rattle.number.proofs.PutLaws.{puts_none, puts_as, puts-length, puts-puts}
+use Rattle.number.proofs.PutLaws.{puts_as, puts-length, puts-puts}
 use Rattle.printed.proofs.LineLaws.{rows-text-few, rows_next}
-use borrow.Author.Rules.{rules}
 use Rattle.printed.proofs.lines.put_events.Goals as goal
 
 pub put_event-place-requires : goal.put_event-place-requires

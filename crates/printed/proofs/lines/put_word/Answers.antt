@@ -1,8 +1,6 @@
-use mathlib.Core.Path.{sym}
 use native.Mathlib.Omega.{arith}
-use Rattle.number.proofs.PutLaws.{puts_none, puts_as, puts-length, puts-puts}
-use Rattle.printed.proofs.LineLaws.{item-few, word_space, word-zero, word_some}
-use borrow.Author.Rules.{rules}
+use Rattle.number.proofs.PutLaws.{puts_as, puts-length, puts-puts}
+use Rattle.printed.proofs.LineLaws.{item-few, word_space, word_some}
 use Rattle.printed.proofs.lines.put_word.Goals as goal
 
 pub put_item-requires : goal.put_item-requires

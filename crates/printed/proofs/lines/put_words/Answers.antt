@@ -1,13 +1,6 @@
-use Prim.Native.Nat.{◌-◌, ◌≤◌}
 use native.Mathlib.Omega.{arith}
-use lib.ListN.{length, take}
-use lib.Seq.{take_all}
-use Rattle.printed.specs.Text.{word_lines}
-use Rattle.number.specs.Number.{Puts}
-use Rattle.number.proofs.PutLaws.{puts_none, puts_as, puts-length, puts-puts}
+use Rattle.number.proofs.PutLaws.{puts_as, puts-length, puts-puts}
 use Rattle.printed.proofs.LineLaws.{words-text-few, words-next}
-use mathlib.Core.Path.{ap}
-use borrow.Author.Rules.{rules}
 use Rattle.printed.proofs.lines.put_words.Goals as goal
 
 pub put_word-place-requires : goal.put_word-place-requires

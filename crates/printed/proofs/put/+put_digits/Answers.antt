@@ -1,5 +1,5 @@
 -- A number's digits are those of its tenth, and one more: the function calls itself with a tenth of the number.
-use Rattle.std.proofs.Common.{◌+◌, ◌-◌, ◌/◌, ◌<◌, ℕ, length, sym, ap, arith}
+use Rattle.std.proofs.Common.{◌+◌, ◌-◌, ◌/◌, ◌<◌, length, sym, ap, arith}
 use Rattle.number.specs.Texts.{digits_up_to}
 use Rattle.number.proofs.PutLaws.{puts_none, puts_as, puts-length, put_byte, digits_zero, digits-one, digits_more, digits-room}
 use Rattle.printed.proofs.put.+put_digits.Goals as goal
@@ -31,12 +31,12 @@ put_digits-place-requires t c =
 pub bounds-out-place : goal.bounds-out-place
 bounds-out-place t c =
     let room : c.args.at + length (digits_up_to (c.args.more - 1) (c.args.n / 10)) < length c.args.out.now =
-        omega (arith, c.requires, digits-room c.args.more c.args.n c.if-more-eq0.false c.if-n-lt10.false) in
+    omega (arith, c.requires, digits-room c.args.more c.args.n c.if-more-eq0.false c.if-n-lt10.false) in
     let w = c.put_digits-place.ensures in
     omega (arith, room, w.ends, puts-length w (omega (arith, room)))
 
 pub returns : goal.returns
 returns t c =
     let room : c.args.at + length (digits_up_to (c.args.more - 1) (c.args.n / 10)) < length c.args.out.now =
-        omega (arith, c.requires, digits-room c.args.more c.args.n c.if-more-eq0.false c.if-n-lt10.false) in
+    omega (arith, c.requires, digits-room c.args.more c.args.n c.if-more-eq0.false c.if-n-lt10.false) in
     puts_as (sym (digits_more c.args.more c.args.n c.if-more-eq0.false c.if-n-lt10.false)) (put_byte _ c.put_digits-place.ensures room)

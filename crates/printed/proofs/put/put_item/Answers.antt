@@ -1,6 +1,5 @@
 use native.Mathlib.Omega.{arith}
-use borrow.Author.Rules.{rules}
-use lib.ListN.{length-set, length-append}
+use lib.ListN.{length-append}
 use Rattle.number.specs.Texts.{decimal}
 use Rattle.number.proofs.SpliceLaws.{put-at}
 use Rattle.number.proofs.PutLaws.{puts-length, put_byte, decimal-few, both, both_end, both_long}

@@ -1,7 +1,6 @@
 use mathlib.Core.Path.{refl, ap}
 use Rattle.number.specs.Reply.{accept}
 use Rattle.printed.proofs.TextLaws.{printed-short, printed-fits, puts-front}
-use borrow.Author.Rules.{rules}
 use Rattle.printed.proofs.text.print.Goals as goal
 
 pub returns-then-out-lt-MOST_TEXT : goal.returns-then-out-lt-MOST_TEXT

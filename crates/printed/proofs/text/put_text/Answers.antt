@@ -27,7 +27,7 @@ slice_bounds-memory-end c =
     let memoryLeft : List ℕ = c.play_files-played.new.memory in
     let left : Buffers = let l = c.play_files-played.new in buffers l.answers l.given l.values in
     let told : (r : FilesPlayed) → c.play_files-played.result ≡ r → HasPlayed (played_on memoryLent lent filesAt) r memoryLeft left =
-            λ r e. let m : length memoryLent ≡ 4096 = search rules in
+    λ r e. let m : length memoryLent ≡ 4096 = search rules in
     let a : length lent.answers ≡ 16384 = search rules in
     let g : length lent.given ≡ 16384 = search rules in
     let w : length lent.values ≡ 16384 = search rules in
@@ -43,7 +43,7 @@ slice_bounds-put_run-end-in-Run-3 c =
     let memoryLeft : List ℕ = c.play_files-played.new.memory in
     let left : Buffers = let l = c.play_files-played.new in buffers l.answers l.given l.values in
     let told : (r : FilesPlayed) → c.play_files-played.result ≡ r → HasPlayed (played_on memoryLent lent filesAt) r memoryLeft left =
-            λ r e. let m : length memoryLent ≡ 4096 = search rules in
+    λ r e. let m : length memoryLent ≡ 4096 = search rules in
     let a : length lent.answers ≡ 16384 = search rules in
     let g : length lent.given ≡ 16384 = search rules in
     let w : length lent.values ≡ 16384 = search rules in
@@ -59,7 +59,7 @@ put_run-requires c =
     let memoryLeft : List ℕ = c.play_files-played.new.memory in
     let left : Buffers = let l = c.play_files-played.new in buffers l.answers l.given l.values in
     let told : (r : FilesPlayed) → c.play_files-played.result ≡ r → HasPlayed (played_on memoryLent lent filesAt) r memoryLeft left =
-            λ r e. let m : length memoryLent ≡ 4096 = search rules in
+    λ r e. let m : length memoryLent ≡ 4096 = search rules in
     let a : length lent.answers ≡ 16384 = search rules in
     let g : length lent.given ≡ 16384 = search rules in
     let w : length lent.values ≡ 16384 = search rules in
@@ -74,7 +74,7 @@ put_run-requires c =
       given_hold = w.given;
       values_hold = w.values;
       few = omega (arith, w.answers, a);
-      memory-few = omega (arith, words, w.words-few, m);
+      memory_few = omega (arith, words, w.words-few, m);
       room = c.requires;
     }
 
@@ -86,7 +86,7 @@ returns-in-TableFault c =
     let memoryLeft : List ℕ = c.play_files-played.new.memory in
     let left : Buffers = let l = c.play_files-played.new in buffers l.answers l.given l.values in
     let told : (r : FilesPlayed) → c.play_files-played.result ≡ r → HasPlayed (played_on memoryLent lent filesAt) r memoryLeft left =
-            λ r e. let m : length memoryLent ≡ 4096 = search rules in
+    λ r e. let m : length memoryLent ≡ 4096 = search rules in
     let a : length lent.answers ≡ 16384 = search rules in
     let g : length lent.given ≡ 16384 = search rules in
     let w : length lent.values ≡ 16384 = search rules in
@@ -103,7 +103,7 @@ returns-in-TraceFault c =
     let memoryLeft : List ℕ = c.play_files-played.new.memory in
     let left : Buffers = let l = c.play_files-played.new in buffers l.answers l.given l.values in
     let told : (r : FilesPlayed) → c.play_files-played.result ≡ r → HasPlayed (played_on memoryLent lent filesAt) r memoryLeft left =
-            λ r e. let m : length memoryLent ≡ 4096 = search rules in
+    λ r e. let m : length memoryLent ≡ 4096 = search rules in
     let a : length lent.answers ≡ 16384 = search rules in
     let g : length lent.given ≡ 16384 = search rules in
     let w : length lent.values ≡ 16384 = search rules in
@@ -120,7 +120,7 @@ returns-in-Run c =
     let memoryLeft : List ℕ = c.play_files-played.new.memory in
     let left : Buffers = let l = c.play_files-played.new in buffers l.answers l.given l.values in
     let told : (r : FilesPlayed) → c.play_files-played.result ≡ r → HasPlayed (played_on memoryLent lent filesAt) r memoryLeft left =
-            λ r e. let m : length memoryLent ≡ 4096 = search rules in
+    λ r e. let m : length memoryLent ≡ 4096 = search rules in
     let a : length lent.answers ≡ 16384 = search rules in
     let g : length lent.given ≡ 16384 = search rules in
     let w : length lent.values ≡ 16384 = search rules in
@@ -137,7 +137,7 @@ returns-in-NoRoom c =
     let memoryLeft : List ℕ = c.play_files-played.new.memory in
     let left : Buffers = let l = c.play_files-played.new in buffers l.answers l.given l.values in
     let told : (r : FilesPlayed) → c.play_files-played.result ≡ r → HasPlayed (played_on memoryLent lent filesAt) r memoryLeft left =
-            λ r e. let m : length memoryLent ≡ 4096 = search rules in
+    λ r e. let m : length memoryLent ≡ 4096 = search rules in
     let a : length lent.answers ≡ 16384 = search rules in
     let g : length lent.given ≡ 16384 = search rules in
     let w : length lent.values ≡ 16384 = search rules in

@@ -6,5 +6,5 @@ use Rattle.queue.proofs.Queue.sound.Goals as goal
 pub returns : goal.returns
 returns c =
     let own : whole c.args.self.load_entries c.args.self.store_entries ≡ true =
-            both-whole c.args.self.load_entries c.args.self.store_entries (search rules) (search rules) in
+    both-whole c.args.self.load_entries c.args.self.store_entries (search rules) (search rules) in
     rw (own, c.outline_of-outline.ensures) at c.sound_in.ensures

@@ -1,13 +1,12 @@
 -- Each test that is left behind is a step of the rule; the test that fails is its refusal.
-use Rattle.std.proofs.Common.{◌≡◌, ◌<◌, true, sym, refl, ap, ◌∙◌, rules}
+use Rattle.std.proofs.Common.{◌≡◌, ◌<◌, true, sym, refl, ap, ◌∙◌}
 use Rattle.queue.specs.declared.Kind.TheVariants as Kind
 use Rattle.queue.specs.Contents.{contents_of}
 use Rattle.queue.specs.Activate.{room, with_group, activate}
-use Rattle.queue.specs.Outcome.{Handed, handed}
+use Rattle.queue.specs.Outcome.{handed}
 use Rattle.queue.specs.Parts.{frame_of, queue_of, outcome_of}
 use Rattle.queue.specs.Internal.{PairsFit}
 use Rattle.queue.proofs.PartsLaws.{PartsFit, fit, unfit}
-use borrow.Author.Tests.{not-true, not-false}
 use Rattle.table.specs.Group.{GroupPairs, pairs_of}
 use Rattle.table.proofs.CheckLaws.{group-inside}
 use Rattle.table.proofs.OrderOffsets.{GroupRight}
@@ -30,7 +29,7 @@ returns-then-not-sound_in c =
     let q = queueIn in
     rw (unfit q (activate (contents_of q) c.args.group) c.sound_in.ensures (ap not c.if-not-sound_in.true)
     (activate-unsound (contents_of q) c.args.group))
-            (ap ((λ (t : Step). handed (outcome_of frame t c.args.load_entries.now c.args.store_entries.now))) c.refused.ensures)
+    (ap ((λ (t : Step). handed (outcome_of frame t c.args.load_entries.now c.args.store_entries.now))) c.refused.ensures)
 
 pub returns-then-outline-group : goal.returns-then-outline-group
 returns-then-outline-group c =
@@ -39,8 +38,8 @@ returns-then-outline-group c =
     let queue : Queue = queueIn in
     let good : PartsFit queue = fit queue c.sound_in.ensures (ap not c.if-not-sound_in.false) in
     rw (good.full, activate-no-group queueIn c.args.group good.right c.if-outline-group.true)
-            (ap ((λ (t : Step). handed (outcome_of frame t c.args.load_entries.now c.args.store_entries.now)))
-            c.refused-then-outline-group.ensures)
+    (ap ((λ (t : Step). handed (outcome_of frame t c.args.load_entries.now c.args.store_entries.now)))
+    c.refused-then-outline-group.ensures)
 
 pub returns-then-not-has_room : goal.returns-then-not-has_room
 returns-then-not-has_room c =
@@ -51,13 +50,13 @@ returns-then-not-has_room c =
     let meant : GroupPairs = pairs_of frame.table.loads frame.table.stores c.group_at-chosen.result in
     let below : c.args.group < frame.table.count = c.if-outline-group.false in
     let rule : activate (contents_of queueIn) c.args.group ≡ need (room (contents_of queueIn) meant) no_place
-            (accept (with_group (contents_of queueIn) meant))
-            = activate-group queueIn c.args.group good.right below c.group_at-chosen.ensures in
+    (accept (with_group (contents_of queueIn) meant))
+    = activate-group queueIn c.args.group good.right below c.group_at-chosen.ensures in
     let has-place : room (contents_of queueIn) meant ≡ c.has_room.result =
-            room-record queueIn c.group_at-chosen.result ∙ sym c.has_room.ensures in
+    room-record queueIn c.group_at-chosen.result ∙ sym c.has_room.ensures in
     rw (good.full, rule, has-place ∙ c.if-not-has_room.true)
-            (ap ((λ (t : Step). handed (outcome_of frame t c.args.load_entries.now c.args.store_entries.now)))
-            c.refused-then-not-has_room.ensures)
+    (ap ((λ (t : Step). handed (outcome_of frame t c.args.load_entries.now c.args.store_entries.now)))
+    c.refused-then-not-has_room.ensures)
 
 pub append-requires : goal.append-requires
 append-requires c =
@@ -70,12 +69,12 @@ append-requires c =
     let good-group : GroupRight meant = let t = table-right queueIn good.right in
     group-right frame.table (groups-few frame.table t) c.args.group below c.group_at-chosen.ensures t in
     let has-place : room (contents_of queueIn) meant ≡ c.has_room.result =
-            room-record queueIn c.group_at-chosen.result ∙ sym c.has_room.ensures in
+    room-record queueIn c.group_at-chosen.result ∙ sym c.has_room.ensures in
     let place : room (contents_of queueIn) meant ≡ true = has-place ∙ c.if-not-has_room.false in
     let fits : PairsFit frame.loads.count frame.table.loads c.group_at-chosen.result.loads
-            × PairsFit frame.stores.count frame.table.stores c.group_at-chosen.result.stores = group-fits queueIn c.group_at-chosen.result
-            (group-inside _ _ c.group_at-chosen.ensures) good.right good-group place in
-    (fits.0, count_most queueIn good.right Kind.Store, good.loads-whole)
+    × PairsFit frame.stores.count frame.table.stores c.group_at-chosen.result.stores = group-fits queueIn c.group_at-chosen.result
+    (group-inside _ _ c.group_at-chosen.ensures) good.right good-group place in
+    (fits.0, count_most queueIn good.right Kind.Store, good.loads_whole)
 
 pub append-requires-2 : goal.append-requires-2
 append-requires-2 c =
@@ -88,12 +87,12 @@ append-requires-2 c =
     let good-group : GroupRight meant = let t = table-right queueIn good.right in
     group-right frame.table (groups-few frame.table t) c.args.group below c.group_at-chosen.ensures t in
     let has-place : room (contents_of queueIn) meant ≡ c.has_room.result =
-            room-record queueIn c.group_at-chosen.result ∙ sym c.has_room.ensures in
+    room-record queueIn c.group_at-chosen.result ∙ sym c.has_room.ensures in
     let place : room (contents_of queueIn) meant ≡ true = has-place ∙ c.if-not-has_room.false in
     let fits : PairsFit frame.loads.count frame.table.loads c.group_at-chosen.result.loads
-            × PairsFit frame.stores.count frame.table.stores c.group_at-chosen.result.stores = group-fits queueIn c.group_at-chosen.result
-            (group-inside _ _ c.group_at-chosen.ensures) good.right good-group place in
-    (fits.1, count_most queueIn good.right Kind.Load, good.stores-whole)
+    × PairsFit frame.stores.count frame.table.stores c.group_at-chosen.result.stores = group-fits queueIn c.group_at-chosen.result
+    (group-inside _ _ c.group_at-chosen.ensures) good.right good-group place in
+    (fits.1, count_most queueIn good.right Kind.Load, good.stores_whole)
 
 pub longer-more_loads-requires : goal.longer-more_loads-requires
 longer-more_loads-requires c =
@@ -106,11 +105,11 @@ longer-more_loads-requires c =
     let good-group : GroupRight meant = let t = table-right queueIn good.right in
     group-right frame.table (groups-few frame.table t) c.args.group below c.group_at-chosen.ensures t in
     let has-place : room (contents_of queueIn) meant ≡ c.has_room.result =
-            room-record queueIn c.group_at-chosen.result ∙ sym c.has_room.ensures in
+    room-record queueIn c.group_at-chosen.result ∙ sym c.has_room.ensures in
     let place : room (contents_of queueIn) meant ≡ true = has-place ∙ c.if-not-has_room.false in
     let fits : PairsFit frame.loads.count frame.table.loads c.group_at-chosen.result.loads
-            × PairsFit frame.stores.count frame.table.stores c.group_at-chosen.result.stores = group-fits queueIn c.group_at-chosen.result
-            (group-inside _ _ c.group_at-chosen.ensures) good.right good-group place in
+    × PairsFit frame.stores.count frame.table.stores c.group_at-chosen.result.stores = group-fits queueIn c.group_at-chosen.result
+    (group-inside _ _ c.group_at-chosen.ensures) good.right good-group place in
     fits.0.room
 
 pub longer-more_stores-requires : goal.longer-more_stores-requires
@@ -124,11 +123,11 @@ longer-more_stores-requires c =
     let good-group : GroupRight meant = let t = table-right queueIn good.right in
     group-right frame.table (groups-few frame.table t) c.args.group below c.group_at-chosen.ensures t in
     let has-place : room (contents_of queueIn) meant ≡ c.has_room.result =
-            room-record queueIn c.group_at-chosen.result ∙ sym c.has_room.ensures in
+    room-record queueIn c.group_at-chosen.result ∙ sym c.has_room.ensures in
     let place : room (contents_of queueIn) meant ≡ true = has-place ∙ c.if-not-has_room.false in
     let fits : PairsFit frame.loads.count frame.table.loads c.group_at-chosen.result.loads
-            × PairsFit frame.stores.count frame.table.stores c.group_at-chosen.result.stores = group-fits queueIn c.group_at-chosen.result
-            (group-inside _ _ c.group_at-chosen.ensures) good.right good-group place in
+    × PairsFit frame.stores.count frame.table.stores c.group_at-chosen.result.stores = group-fits queueIn c.group_at-chosen.result
+    (group-inside _ _ c.group_at-chosen.ensures) good.right good-group place in
     fits.1.room
 
 pub returns : goal.returns
@@ -142,10 +141,10 @@ returns c =
     let good-group : GroupRight meant = let t = table-right queueIn good.right in
     group-right frame.table (groups-few frame.table t) c.args.group below c.group_at-chosen.ensures t in
     let rule : activate (contents_of queueIn) c.args.group ≡ need (room (contents_of queueIn) meant) no_place
-            (accept (with_group (contents_of queueIn) meant))
-            = activate-group queueIn c.args.group good.right below c.group_at-chosen.ensures in
+    (accept (with_group (contents_of queueIn) meant))
+    = activate-group queueIn c.args.group good.right below c.group_at-chosen.ensures in
     let has-place : room (contents_of queueIn) meant ≡ c.has_room.result =
-            room-record queueIn c.group_at-chosen.result ∙ sym c.has_room.ensures in
+    room-record queueIn c.group_at-chosen.result ∙ sym c.has_room.ensures in
     let place : room (contents_of queueIn) meant ≡ true = has-place ∙ c.if-not-has_room.false in
     rw (good.full, rule, place, c.accepted.ensures)
     (record {

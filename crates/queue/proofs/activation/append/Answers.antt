@@ -1,12 +1,11 @@
 -- The entries are those held, and behind them the group's first j.
-use Rattle.std.proofs.Common.{◌≡◌, ℕ, ◌+◌, ◌-◌, ◌<◌, ◌≤◌, List, length, get_or, take, sym, refl, ap, ◌∙◌, arith, length-set, take_all, rules}
+use Rattle.std.proofs.Common.{◌≡◌, ℕ, ◌<◌, ◌≤◌, List, length, get_or, take, sym, ◌∙◌, arith, length-set, take_all}
 use Rattle.table.specs.declared.Pair.{Pair}
 use Rattle.table.specs.Group.{blank_pair, list_of}
 use Rattle.table.proofs.CheckLaws.{view-length, view-at}
-use Rattle.queue.specs.Entry.{entry_of, entry_in, number_of}
-use Rattle.queue.specs.Internal.{entry_after, struct_after}
-use Rattle.queue.proofs.EntryLaws.{entry_number}
-use Rattle.queue.proofs.AppendLaws.{Pasted, pasted-none, pasted-more, mapped_appended, number_after, after_number}
+use Rattle.queue.specs.Entry.{entry_in}
+use Rattle.queue.specs.Internal.{entry_after}
+use Rattle.queue.proofs.AppendLaws.{pasted-more, mapped_appended, number_after, after_number}
 use Rattle.queue.proofs.activation.append.Goals as goal
 
 pub overflow_add-entry : goal.overflow_add-entry
@@ -36,8 +35,8 @@ returns c =
     let listed : List Pair = list_of c.args.places.now c.args.pairs in
     let left : c.args.pairs.count ≤ length listed = omega (arith, view-length c.args.places.now c.args.pairs) in
     let fits : (i : ℕ) → i < c.args.pairs.count → let p = get_or listed i blank_pair in entry_in (number_after c.args.others p)
-            ≡ entry_after c.args.others p = λ i k. after_number c.args.others _ c.requires.1 (c.requires.0.ports i k)
-            (c.requires.0.offsets i k) in
+    ≡ entry_after c.args.others p = λ i k. after_number c.args.others _ c.requires.1 (c.requires.0.ports i k)
+    (c.requires.0.offsets i k) in
     let i = c.loop-j.invariant in
     let n = c.args.pairs.count in
     let all : take n listed ≡ listed = take_all n listed (omega (arith, view-length c.args.places.now c.args.pairs)) in

@@ -1,6 +1,5 @@
 -- Each test that is left behind is a step of the rule; the test that fails is its refusal.
-use Rattle.std.proofs.Common.{◌≡◌, ◌≤◌, Bool, true, ◌&&◌, length, sym, ap, ◌∙◌, subst, rules}
-use borrow.Author.Tests.{not-true, not-false}
+use Rattle.std.proofs.Common.{◌≡◌, ◌≤◌, true, ◌&&◌, length, sym, ap, ◌∙◌, subst}
 use Rattle.number.specs.Basics.{any_of}
 use Rattle.table.specs.Table.{groups_of}
 use Rattle.queue.specs.declared.Kind.{Kind}
@@ -23,10 +22,10 @@ returns-then-not-sound_of c =
     let frame : Frame = let a = c.args in frame_of a.outline a.groups.now a.load_places.now a.store_places.now in
     let queue : Queue = queue_of_kind (kind_of c.args.argument) frame c.args.own_entries.now c.args.other_entries.now in
     let checked : c.sound_of.result ≡ (let q = queue_of_kind
-            (kind_of c.args.argument) frame c.args.own_entries.now c.args.other_entries.now in whole q.load_entries q.store_entries &&
-            sound (contents_of q)) = c.sound_of.ensures ∙ ap
-            ((λ (kind : Kind). let q = queue_of_kind kind frame c.args.own_entries.now c.args.other_entries.now in whole q.load_entries
-            q.store_entries && sound (contents_of q))) c.kind_of-kind.ensures in
+    (kind_of c.args.argument) frame c.args.own_entries.now c.args.other_entries.now in whole q.load_entries q.store_entries &&
+    sound (contents_of q)) = c.sound_of.ensures ∙ ap
+    ((λ (kind : Kind). let q = queue_of_kind kind frame c.args.own_entries.now c.args.other_entries.now in whole q.load_entries
+    q.store_entries && sound (contents_of q))) c.kind_of-kind.ensures in
     let a = c.args in
     rw (unfit queue (give a.argument (contents_of queue) a.port a.number) checked (ap not c.if-not-sound_of.true)
     (λ e. rw (give_record a.argument queue a.port a.number, e)))
@@ -36,10 +35,10 @@ has_port-requires c =
     let frame : Frame = let a = c.args in frame_of a.outline a.groups.now a.load_places.now a.store_places.now in
     let queue : Queue = queue_of_kind (kind_of c.args.argument) frame c.args.own_entries.now c.args.other_entries.now in
     let checked : c.sound_of.result ≡ (let q = queue_of_kind
-            (kind_of c.args.argument) frame c.args.own_entries.now c.args.other_entries.now in whole q.load_entries q.store_entries &&
-            sound (contents_of q)) = c.sound_of.ensures ∙ ap
-            ((λ (kind : Kind). let q = queue_of_kind kind frame c.args.own_entries.now c.args.other_entries.now in whole q.load_entries
-            q.store_entries && sound (contents_of q))) c.kind_of-kind.ensures in
+    (kind_of c.args.argument) frame c.args.own_entries.now c.args.other_entries.now in whole q.load_entries q.store_entries &&
+    sound (contents_of q)) = c.sound_of.ensures ∙ ap
+    ((λ (kind : Kind). let q = queue_of_kind kind frame c.args.own_entries.now c.args.other_entries.now in whole q.load_entries
+    q.store_entries && sound (contents_of q))) c.kind_of-kind.ensures in
     let good : PartsFit queue = fit queue checked (ap not c.if-not-sound_of.false) in
     groups-few frame.table (table-right queue good.right)
 
@@ -48,14 +47,14 @@ returns-then-not-has_port c =
     let frame : Frame = let a = c.args in frame_of a.outline a.groups.now a.load_places.now a.store_places.now in
     let queue : Queue = queue_of_kind (kind_of c.args.argument) frame c.args.own_entries.now c.args.other_entries.now in
     let checked : c.sound_of.result ≡ (let q = queue_of_kind
-            (kind_of c.args.argument) frame c.args.own_entries.now c.args.other_entries.now in whole q.load_entries q.store_entries &&
-            sound (contents_of q)) = c.sound_of.ensures ∙ ap
-            ((λ (kind : Kind). let q = queue_of_kind kind frame c.args.own_entries.now c.args.other_entries.now in whole q.load_entries
-            q.store_entries && sound (contents_of q))) c.kind_of-kind.ensures in
+    (kind_of c.args.argument) frame c.args.own_entries.now c.args.other_entries.now in whole q.load_entries q.store_entries &&
+    sound (contents_of q)) = c.sound_of.ensures ∙ ap
+    ((λ (kind : Kind). let q = queue_of_kind kind frame c.args.own_entries.now c.args.other_entries.now in whole q.load_entries
+    q.store_entries && sound (contents_of q))) c.kind_of-kind.ensures in
     let good : PartsFit queue = fit queue checked (ap not c.if-not-sound_of.false) in
     let looked : c.has_port.result ≡ (any_of (names_port (kind_of c.args.argument) c.args.port) (groups_of frame.table))
-            = c.has_port.ensures ∙ ap ((λ (kind : Kind). any_of (names_port kind c.args.port) (groups_of frame.table)))
-            c.kind_of-kind.ensures in
+    = c.has_port.ensures ∙ ap ((λ (kind : Kind). any_of (names_port kind c.args.port) (groups_of frame.table)))
+    c.kind_of-kind.ensures in
     let a = c.args in
     let rule = give_record a.argument queue a.port a.number in
     rw (good.full, rule, good.right, sym looked ∙ c.if-not-has_port.true)
@@ -65,16 +64,16 @@ returns-then-not-in_range c =
     let frame : Frame = let a = c.args in frame_of a.outline a.groups.now a.load_places.now a.store_places.now in
     let queue : Queue = queue_of_kind (kind_of c.args.argument) frame c.args.own_entries.now c.args.other_entries.now in
     let checked : c.sound_of.result ≡ (let q = queue_of_kind
-            (kind_of c.args.argument) frame c.args.own_entries.now c.args.other_entries.now in whole q.load_entries q.store_entries &&
-            sound (contents_of q)) = c.sound_of.ensures ∙ ap
-            ((λ (kind : Kind). let q = queue_of_kind kind frame c.args.own_entries.now c.args.other_entries.now in whole q.load_entries
-            q.store_entries && sound (contents_of q))) c.kind_of-kind.ensures in
+    (kind_of c.args.argument) frame c.args.own_entries.now c.args.other_entries.now in whole q.load_entries q.store_entries &&
+    sound (contents_of q)) = c.sound_of.ensures ∙ ap
+    ((λ (kind : Kind). let q = queue_of_kind kind frame c.args.own_entries.now c.args.other_entries.now in whole q.load_entries
+    q.store_entries && sound (contents_of q))) c.kind_of-kind.ensures in
     let good : PartsFit queue = fit queue checked (ap not c.if-not-sound_of.false) in
     let looked : c.has_port.result ≡ (any_of (names_port (kind_of c.args.argument) c.args.port) (groups_of frame.table))
-            = c.has_port.ensures ∙ ap ((λ (kind : Kind). any_of (names_port kind c.args.port) (groups_of frame.table)))
-            c.kind_of-kind.ensures in
+    = c.has_port.ensures ∙ ap ((λ (kind : Kind). any_of (names_port kind c.args.port) (groups_of frame.table)))
+    c.kind_of-kind.ensures in
     let port : (any_of (names_port (kind_of c.args.argument) c.args.port) (groups_of frame.table)) ≡ true =
-            sym looked ∙ c.if-not-has_port.false in
+    sym looked ∙ c.if-not-has_port.false in
     let a = c.args in
     let rule = give_record a.argument queue a.port a.number in
     rw (good.full, rule, good.right, port, sym c.in_range.ensures ∙ c.if-not-in_range.true)
@@ -84,19 +83,19 @@ give_oldest-requires c =
     let frame : Frame = let a = c.args in frame_of a.outline a.groups.now a.load_places.now a.store_places.now in
     let queue : Queue = queue_of_kind (kind_of c.args.argument) frame c.args.own_entries.now c.args.other_entries.now in
     let checked : c.sound_of.result ≡ (let q = queue_of_kind
-            (kind_of c.args.argument) frame c.args.own_entries.now c.args.other_entries.now in whole q.load_entries q.store_entries &&
-            sound (contents_of q)) = c.sound_of.ensures ∙ ap
-            ((λ (kind : Kind). let q = queue_of_kind kind frame c.args.own_entries.now c.args.other_entries.now in whole q.load_entries
-            q.store_entries && sound (contents_of q))) c.kind_of-kind.ensures in
+    (kind_of c.args.argument) frame c.args.own_entries.now c.args.other_entries.now in whole q.load_entries q.store_entries &&
+    sound (contents_of q)) = c.sound_of.ensures ∙ ap
+    ((λ (kind : Kind). let q = queue_of_kind kind frame c.args.own_entries.now c.args.other_entries.now in whole q.load_entries
+    q.store_entries && sound (contents_of q))) c.kind_of-kind.ensures in
     let good : PartsFit queue = fit queue checked (ap not c.if-not-sound_of.false) in
     let ranged : let a = c.args in in_range a.argument a.outline.memory_length a.number ≡ true = sym c.in_range.ensures
-            ∙ c.if-not-in_range.false in
+    ∙ c.if-not-in_range.false in
     let fits-entry : let a = c.args in in_range a.argument 65536 a.number ≡ true = let a = c.args in
     in_range_most a.argument a.outline.memory_length a.number (words-most queue good.right) ranged in
     let side : c.side_of-side.result ≡ (of_kind (kind_of c.args.argument) frame.loads frame.stores) =
-            c.side_of-side.ensures ∙ ap ((λ (kind : Kind). of_kind kind frame.loads frame.stores)) c.kind_of-kind.ensures in
+    c.side_of-side.ensures ∙ ap ((λ (kind : Kind). of_kind kind frame.loads frame.stores)) c.kind_of-kind.ensures in
     let room : ((of_kind (kind_of c.args.argument) frame.loads frame.stores)).count ≤ length c.args.own_entries.now =
-            let a = c.args in own_room a.argument frame a.own_entries.now a.other_entries.now good in
+    let a = c.args in own_room a.argument frame a.own_entries.now a.other_entries.now good in
     (subst (λ (x : SideStruct). x.count ≤ length c.args.own_entries.now) (sym side) room, fits-entry)
 
 pub returns : goal.returns
@@ -104,22 +103,22 @@ returns c =
     let frame : Frame = let a = c.args in frame_of a.outline a.groups.now a.load_places.now a.store_places.now in
     let queue : Queue = queue_of_kind (kind_of c.args.argument) frame c.args.own_entries.now c.args.other_entries.now in
     let checked : c.sound_of.result ≡ (let q = queue_of_kind
-            (kind_of c.args.argument) frame c.args.own_entries.now c.args.other_entries.now in whole q.load_entries q.store_entries &&
-            sound (contents_of q)) = c.sound_of.ensures ∙ ap
-            ((λ (kind : Kind). let q = queue_of_kind kind frame c.args.own_entries.now c.args.other_entries.now in whole q.load_entries
-            q.store_entries && sound (contents_of q))) c.kind_of-kind.ensures in
+    (kind_of c.args.argument) frame c.args.own_entries.now c.args.other_entries.now in whole q.load_entries q.store_entries &&
+    sound (contents_of q)) = c.sound_of.ensures ∙ ap
+    ((λ (kind : Kind). let q = queue_of_kind kind frame c.args.own_entries.now c.args.other_entries.now in whole q.load_entries
+    q.store_entries && sound (contents_of q))) c.kind_of-kind.ensures in
     let good : PartsFit queue = fit queue checked (ap not c.if-not-sound_of.false) in
     let looked : c.has_port.result ≡ (any_of (names_port (kind_of c.args.argument) c.args.port) (groups_of frame.table))
-            = c.has_port.ensures ∙ ap ((λ (kind : Kind). any_of (names_port kind c.args.port) (groups_of frame.table)))
-            c.kind_of-kind.ensures in
+    = c.has_port.ensures ∙ ap ((λ (kind : Kind). any_of (names_port kind c.args.port) (groups_of frame.table)))
+    c.kind_of-kind.ensures in
     let port : (any_of (names_port (kind_of c.args.argument) c.args.port) (groups_of frame.table)) ≡ true =
-            sym looked ∙ c.if-not-has_port.false in
+    sym looked ∙ c.if-not-has_port.false in
     let ranged : let a = c.args in in_range a.argument a.outline.memory_length a.number ≡ true = sym c.in_range.ensures
-            ∙ c.if-not-in_range.false in
+    ∙ c.if-not-in_range.false in
     let side : c.side_of-side.result ≡ (of_kind (kind_of c.args.argument) frame.loads frame.stores) =
-            c.side_of-side.ensures ∙ ap ((λ (kind : Kind). of_kind kind frame.loads frame.stores)) c.kind_of-kind.ensures in
+    c.side_of-side.ensures ∙ ap ((λ (kind : Kind). of_kind kind frame.loads frame.stores)) c.kind_of-kind.ensures in
     let room : ((of_kind (kind_of c.args.argument) frame.loads frame.stores)).count ≤ length c.args.own_entries.now =
-            let a = c.args in own_room a.argument frame a.own_entries.now a.other_entries.now good in
+    let a = c.args in own_room a.argument frame a.own_entries.now a.other_entries.now good in
     let a = c.args in
     rw (good.full, give_record a.argument queue a.port a.number, good.right, port, ranged)
     (gives a.argument frame a.own_entries.now a.other_entries.now

@@ -1,26 +1,23 @@
-use Rattle.std.proofs.Common.{◌≡◌, ◌+◌, ◌-◌, ◌≤◌, ◌∷◌, drop, sym, ◌∙◌, arith, rules}
+use Rattle.std.proofs.Common.{◌≡◌, ◌+◌, ◌∷◌, drop, sym, ◌∙◌, arith}
 use Rattle.queue.specs.Entry.{entry_in, entry_of}
 use Rattle.queue.specs.Contents.{entries_held}
-use Rattle.queue.specs.Arguments.{lacks}
-use Rattle.queue.specs.Internal.{lacks_mark}
-use Rattle.queue.proofs.ContentsLaws.{mapped-here, mapped_end}
-use Rattle.queue.proofs.WalkLaws.{Seeking, seeking_none, seeking-on, seeking-stop, seeking-end}
+use Rattle.queue.proofs.ContentsLaws.{mapped-here}
+use Rattle.queue.proofs.WalkLaws.{seeking-on, seeking-stop}
 use Rattle.queue.proofs.entries.oldest_without.Goals as goal
 
 pub returns-then-lacks : goal.returns-then-lacks
 returns-then-lacks c =
     let here : drop c.loop-i.i (entries_held c.args.held c.args.entries.now) ≡ entry_of c.unpack-entry.result ∷ drop (c.loop-i.i + 1)
-            (entries_held c.args.held c.args.entries.now) = rw c.unpack-entry.ensures
-            (mapped-here entry_in 0 c.args.held c.args.entries.now c.loop-i.i c.loop-i-test.true) in
+    (entries_held c.args.held c.args.entries.now) = rw c.unpack-entry.ensures
+    (mapped-here entry_in 0 c.args.held c.args.entries.now c.loop-i.i c.loop-i-test.true) in
     seeking-stop c.loop-i.invariant.1 here (sym c.lacks.ensures ∙ c.if-lacks.true)
 
 pub loop-i-preserved : goal.loop-i-preserved
 loop-i-preserved c =
     let here : drop c.loop-i.i (entries_held c.args.held c.args.entries.now) ≡ entry_of c.unpack-entry.result ∷ drop (c.loop-i.i + 1)
-            (entries_held c.args.held c.args.entries.now) = rw c.unpack-entry.ensures
-            (mapped-here entry_in 0 c.args.held c.args.entries.now c.loop-i.i c.loop-i-test.true) in
-    (
-  omega arith,
-  seeking-on c.loop-i.invariant.1 here (sym c.lacks.ensures
-      ∙ c.if-lacks.false),
-)
+    (entries_held c.args.held c.args.entries.now) = rw c.unpack-entry.ensures
+    (mapped-here entry_in 0 c.args.held c.args.entries.now c.loop-i.i c.loop-i-test.true) in (
+      omega arith,
+      seeking-on c.loop-i.invariant.1 here (sym c.lacks.ensures
+          ∙ c.if-lacks.false),
+    )

@@ -1,10 +1,7 @@
-use Rattle.std.proofs.Common.{◌≡◌, ◌+◌, ◌-◌, ◌≤◌, ◌∷◌, drop, sym, ◌∙◌, arith, rules}
-use Rattle.queue.specs.Entry.{entry_in, entry_of}
+use Rattle.std.proofs.Common.{◌-◌, ◌≤◌}
 use Rattle.queue.specs.Contents.{entries_held}
-use Rattle.queue.specs.Arguments.{lacks}
 use Rattle.queue.specs.Internal.{lacks_mark}
-use Rattle.queue.proofs.ContentsLaws.{mapped-here, mapped_end}
-use Rattle.queue.proofs.WalkLaws.{Seeking, seeking_none, seeking-on, seeking-stop, seeking-end}
+use Rattle.queue.proofs.WalkLaws.{Seeking}
 use Rattle.queue.proofs.entries.oldest_without.Given as goal
 
 abbrev pub invariant-loop-i : goal.invariant-loop-i

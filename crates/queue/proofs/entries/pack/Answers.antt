@@ -1,6 +1,4 @@
-use Rattle.std.proofs.Common.{◌<◌, arith, rules}
-use Rattle.queue.specs.Entry.{number_of, bit}
-use Rattle.queue.proofs.EntryLaws.{bit-small}
+use Rattle.queue.specs.Entry.{number_of}
 use Rattle.queue.proofs.entries.pack.Goals as goal
 
 pub returns : goal.returns

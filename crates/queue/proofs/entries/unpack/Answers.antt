@@ -1,4 +1,4 @@
-use Rattle.std.proofs.Common.{refl, rules}
+use Rattle.std.proofs.Common.{refl}
 use Rattle.queue.specs.Entry.{unpacked}
 use Rattle.queue.proofs.entries.unpack.Goals as goal
 

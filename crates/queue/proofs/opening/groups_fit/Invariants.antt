@@ -1,11 +1,7 @@
-use Rattle.std.proofs.Common.{◌≡◌, ◌+◌, ◌-◌, ◌≤◌, ◌∷◌, drop, sym, ◌∙◌, arith, rules}
-use borrow.Author.Tests.{not-true, not-false}
-use Rattle.table.specs.declared.Table.{Table}
-use Rattle.table.specs.Group.{GroupPairs, pairs_of}
+use Rattle.std.proofs.Common.{◌-◌, ◌≤◌}
 use Rattle.table.specs.Table.{groups_of}
 use Rattle.queue.specs.Open.{group_fits}
-use Rattle.queue.proofs.GroupLaws.{fits_record, groups-here, groups_end}
-use Rattle.queue.proofs.WalkLaws.{AllYet, all_none, all-on, all-stop, all_end}
+use Rattle.queue.proofs.WalkLaws.{AllYet}
 use Rattle.queue.proofs.opening.groups_fit.Given as goal
 
 abbrev pub invariant-loop-i : goal.invariant-loop-i

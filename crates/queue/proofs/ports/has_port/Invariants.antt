@@ -1,11 +1,7 @@
-use Rattle.std.proofs.Common.{◌≡◌, ◌+◌, ◌-◌, ◌≤◌, ◌∷◌, drop, sym, ◌∙◌, arith, rules}
-use Rattle.table.specs.declared.Table.{Table}
-use Rattle.table.specs.Group.{GroupPairs, pairs_of}
-use Rattle.table.specs.Table.{groups_in, groups_of}
-use Rattle.table.proofs.CheckLaws.{group-inside}
+use Rattle.std.proofs.Common.{◌-◌, ◌≤◌}
+use Rattle.table.specs.Table.{groups_in}
 use Rattle.queue.specs.Arguments.{names_port}
-use Rattle.queue.proofs.GroupLaws.{groups-here, groups_end}
-use Rattle.queue.proofs.WalkLaws.{NoneYet, none_none, none-on, none-stop, none_end}
+use Rattle.queue.proofs.WalkLaws.{NoneYet}
 use Rattle.queue.proofs.ports.has_port.Given as goal
 
 abbrev pub invariant-loop-i : goal.invariant-loop-i

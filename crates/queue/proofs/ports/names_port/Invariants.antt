@@ -1,8 +1,7 @@
-use Rattle.std.proofs.Common.{◌≡◌, ◌+◌, ◌-◌, ◌≤◌, ◌∷◌, drop, arith, rules, eq-eqb, ne_eqb}
+use Rattle.std.proofs.Common.{◌-◌, ◌≤◌}
 use Rattle.table.specs.Group.{list_of}
 use Rattle.queue.specs.Arguments.{is_port}
-use Rattle.queue.proofs.GroupLaws.{pairs_here, pairs_end}
-use Rattle.queue.proofs.WalkLaws.{NoneYet, none_none, none-on, none-stop, none_end}
+use Rattle.queue.proofs.WalkLaws.{NoneYet}
 use Rattle.queue.proofs.ports.names_port.Given as goal
 
 abbrev pub invariant-loop-i : goal.invariant-loop-i

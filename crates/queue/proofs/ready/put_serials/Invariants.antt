@@ -1,6 +1,5 @@
-use Rattle.std.proofs.Common.{◌≡◌, ◌-◌, ◌≤◌, length, arith, rules}
-use Rattle.table.proofs.CheckLaws.{long}
-use Rattle.queue.proofs.ReadyLaws.{Copied, copied_none, copied_more, copied-length, copied-whole}
+use Rattle.std.proofs.Common.{◌-◌, ◌≤◌}
+use Rattle.queue.proofs.ReadyLaws.{Copied}
 use Rattle.queue.proofs.ready.put_serials.Given as goal
 
 abbrev pub invariant-loop-i : goal.invariant-loop-i

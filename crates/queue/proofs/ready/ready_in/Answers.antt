@@ -1,4 +1,4 @@
-use Rattle.std.proofs.Common.{refl, rules}
+use Rattle.std.proofs.Common.{refl}
 use Rattle.queue.specs.declared.Queue.{Queue}
 use Rattle.queue.specs.Contents.{contents_of}
 use Rattle.queue.specs.Ready.{ready}
@@ -17,7 +17,7 @@ returns-then-not-sound_in c =
     let kind = c.args.kind in
     let run = c.args.out.now in
     rw (unfit q (ready kind (contents_of q) run) c.sound_in.ensures (ap not c.if-not-sound_in.true)
-            (ready-unsound kind (contents_of q) run))
+    (ready-unsound kind (contents_of q) run))
     (record { outcome = refl; run_is = refl })
 
 pub ready_serials-found-requires : goal.ready_serials-found-requires
@@ -25,7 +25,7 @@ ready_serials-found-requires c =
     let queue : Queue = let a = c.args in
     queue_of (frame_of a.outline a.groups.now a.load_places.now a.store_places.now) a.load_entries.now a.store_entries.now in
     let good : PartsFit queue = fit queue c.sound_in.ensures (ap not c.if-not-sound_in.false) in
-    record { table = queue.frame.table; right = good.right; loads-whole = good.loads-whole; stores-whole = good.stores-whole }
+    record { table = queue.frame.table; right = good.right; loads_whole = good.loads_whole; stores_whole = good.stores_whole }
 
 pub returns : goal.returns
 returns c =

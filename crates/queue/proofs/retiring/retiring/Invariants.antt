@@ -1,11 +1,6 @@
-use Rattle.std.proofs.Common.{◌≡◌, ◌+◌, ◌-◌, ◌≤◌, ◌∷◌, get_or, drop, sym, ap, ◌∙◌, arith, rules}
-use borrow.Author.Tests.{not-true, not-false}
-use Rattle.queue.specs.declared.Entry.{Entry as EntryStruct}
-use Rattle.queue.specs.Entry.{entry_in}
+use Rattle.std.proofs.Common.{◌-◌, ◌≤◌}
 use Rattle.queue.specs.Contents.{entries_held}
-use Rattle.queue.specs.Retire.{finished}
-use Rattle.queue.proofs.ContentsLaws.{mapped-here, mapped_end}
-use Rattle.queue.proofs.WalkLaws.{Retiring, retiring_none, retiring-on, retiring-stop, retiring-end}
+use Rattle.queue.proofs.WalkLaws.{Retiring}
 use Rattle.queue.proofs.retiring.retiring.Given as goal
 
 abbrev pub invariant-loop-i : goal.invariant-loop-i

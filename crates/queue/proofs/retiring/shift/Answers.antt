@@ -1,17 +1,20 @@
 -- The first i places hold the entries from the `gone`th on, which remember the fewer of the other kind; the rest is as it was.
-use Rattle.std.proofs.Common.{◌≡◌, ℕ, ◌+◌, ◌-◌, ◌≤◌, length, get_or, sym, refl, ap, ◌∙◌, arith, length-set, rules}
+use Rattle.std.proofs.Common.{◌≡◌, ℕ, ◌+◌, ◌-◌, get_or, sym, ap, ◌∙◌, arith, length-set}
 use Rattle.queue.specs.Entry.{entry_in}
 use Rattle.queue.specs.Contents.{entries_held}
 use Rattle.queue.specs.Retire.{after_retiring}
-use Rattle.queue.proofs.RetireLaws.{lowered_in, Moved, moved_none, moved_more, moved-side, lowered_number}
+use Rattle.queue.proofs.RetireLaws.{lowered_in, moved_more, moved-side, lowered_number}
 use Rattle.queue.proofs.retiring.shift.Goals as goal
 
 pub loop-i-preserved : goal.loop-i-preserved
 loop-i-preserved c =
     let put : c.pack.result ≡ lowered_in c.args.others (get_or c.loop-i.entries (c.loop-i.i + c.args.gone) 0) =
-            c.pack.ensures ∙ rw (c.less.ensures, c.unpack-entry.ensures) in
-    (omega arith, moved_more c.loop-i.invariant.1 0 put
-            (omega (arith, c.requires, c.loop-i-test.true)), simp length-set c.loop-i.invariant.2)
+    c.pack.ensures ∙ rw (c.less.ensures, c.unpack-entry.ensures) in (
+      omega arith,
+      moved_more c.loop-i.invariant.1 0 put
+          (omega (arith, c.requires, c.loop-i-test.true)),
+      simp length-set c.loop-i.invariant.2,
+    )
 
 pub returns : goal.returns
 returns c =
@@ -21,6 +24,6 @@ returns c =
     record {
       holds = ap (λ (m : ℕ). entries_held m c.loop-i.entries) (sym left)
           ∙ moved-side i.1 entry_in 0 (after_retiring c.args.others) (lowered_number c.args.others) n
-                  (omega (arith, i.0, c.loop-i-test.false))
+          (omega (arith, i.0, c.loop-i-test.false))
           (omega arith) (omega (arith, c.requires));
     }

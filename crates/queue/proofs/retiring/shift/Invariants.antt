@@ -1,9 +1,6 @@
 -- The first i places hold the entries from the `gone`th on, which remember the fewer of the other kind; the rest is as it was.
-use Rattle.std.proofs.Common.{◌≡◌, ℕ, ◌+◌, ◌-◌, ◌≤◌, length, get_or, sym, refl, ap, ◌∙◌, arith, length-set, rules}
-use Rattle.queue.specs.Entry.{entry_in}
-use Rattle.queue.specs.Contents.{entries_held}
-use Rattle.queue.specs.Retire.{after_retiring}
-use Rattle.queue.proofs.RetireLaws.{lowered_in, Moved, moved_none, moved_more, moved-side, lowered_number}
+use Rattle.std.proofs.Common.{◌≡◌, ◌-◌, ◌≤◌, length}
+use Rattle.queue.proofs.RetireLaws.{lowered_in, Moved}
 use Rattle.queue.proofs.retiring.shift.Given as goal
 
 abbrev pub invariant-loop-i : goal.invariant-loop-i

@@ -1,4 +1,4 @@
-use Rattle.std.proofs.Common.{◌≡◌, ◌<◌, ◌≤◌, true, List, length, sym, ap, ◌∙◌, subst, le_trans, arith, rules}
+use Rattle.std.proofs.Common.{◌≡◌, ◌<◌, ◌≤◌, true, List, length, sym, ap, ◌∙◌, subst, le_trans, arith}
 use borrow.Author.Tests.{not-true, not-false}
 use Rattle.table.specs.declared.Table.{Table}
 use Rattle.queue.specs.declared.Kind.TheVariants as Kind
@@ -9,7 +9,7 @@ use Rattle.queue.specs.declared.serving.Source as coded
 use Rattle.number.specs.Reply.{Reply, accept, and_then}
 use Rattle.queue.specs.Entry.{Entry, entry_of}
 use Rattle.queue.specs.Contents.{contents_of, entries_held}
-use Rattle.queue.specs.Serve.{Served, Loaded, loaded_from, may_serve, served_with, serve_at}
+use Rattle.queue.specs.Serve.{Loaded, loaded_from, may_serve, served_with, serve_at}
 use Rattle.queue.specs.Outcome.{handed_counts}
 use Rattle.queue.specs.Parts.{queue_of, counted_of}
 use Rattle.queue.specs.Internal.{frame_with, source_in}
@@ -20,15 +20,15 @@ use Rattle.queue.proofs.serving.serve_at.Goals as goal
 pub returns-then-loads-place : goal.returns-then-loads-place
 returns-then-loads-place c t =
     rw (serve-none ((queue_of (frame_with t c.args.outline) c.args.load_entries.now c.args.store_entries.now)) c.args.memory.now
-            c.args.place c.if-loads-place.true)
+    c.args.place c.if-loads-place.true)
     (ap (λ (r : Service). handed_counts (counted_of r
-            ((queue_of (frame_with t c.args.outline) c.args.load_entries.now c.args.store_entries.now)))) c.serve_refused.ensures)
+    ((queue_of (frame_with t c.args.outline) c.args.load_entries.now c.args.store_entries.now)))) c.serve_refused.ensures)
 
 pub bounds-load_entries-at : goal.bounds-load_entries-at
 bounds-load_entries-at c =
     let queueIn : Queue = (queue_of (frame_with c.requires.0.table c.args.outline) c.args.load_entries.now c.args.store_entries.now) in
     let few : c.args.outline.loads.count ≤ 64 = count_most queueIn c.requires.0.right Kind.Load in
-    let room : c.args.outline.loads.count ≤ length c.args.load_entries.now = omega (arith, few, c.requires.0.loads-whole) in
+    let room : c.args.outline.loads.count ≤ length c.args.load_entries.now = omega (arith, few, c.requires.0.loads_whole) in
     le_trans c.if-loads-place.false room
 
 pub returns-then-load : goal.returns-then-load
@@ -36,55 +36,55 @@ returns-then-load c t =
     let queueIn : Queue = (queue_of (frame_with c.requires.0.table c.args.outline) c.args.load_entries.now c.args.store_entries.now) in
     let before : List Entry = entries_held c.unpack-load.result.before c.args.store_entries.now in
     let may : (t : Table) → serve_at (contents_of
-            ((queue_of (frame_with t c.args.outline) c.args.load_entries.now c.args.store_entries.now))) c.args.memory.now c.args.place ≡
-            (and_then (may_serve c.args.memory.now before (entry_of c.unpack-load.result)) λ v. accept
-            (served_with (contents_of ((queue_of (frame_with t c.args.outline) c.args.load_entries.now c.args.store_entries.now)))
-            c.args.place v)) = λ t. serve-held
-            ((queue_of (frame_with t c.args.outline) c.args.load_entries.now c.args.store_entries.now)) c.args.memory.now c.args.place
-            c.if-loads-place.false
+    ((queue_of (frame_with t c.args.outline) c.args.load_entries.now c.args.store_entries.now))) c.args.memory.now c.args.place ≡
+    (and_then (may_serve c.args.memory.now before (entry_of c.unpack-load.result)) λ v. accept
+    (served_with (contents_of ((queue_of (frame_with t c.args.outline) c.args.load_entries.now c.args.store_entries.now)))
+    c.args.place v)) = λ t. serve-held
+    ((queue_of (frame_with t c.args.outline) c.args.load_entries.now c.args.store_entries.now)) c.args.memory.now c.args.place
+    c.if-loads-place.false
     (before-held queueIn c.requires.0.right Kind.Load c.args.place c.if-loads-place.false)
     ∙ ap (λ (e : EntryStruct). (and_then (may_serve c.args.memory.now (entries_held e.before c.args.store_entries.now) (entry_of e)) λ v.
-            accept (served_with (contents_of ((queue_of (frame_with t c.args.outline) c.args.load_entries.now c.args.store_entries.now)))
-            c.args.place v)))
+    accept (served_with (contents_of ((queue_of (frame_with t c.args.outline) c.args.load_entries.now c.args.store_entries.now)))
+    c.args.place v)))
     (sym c.unpack-load.ensures) in
     rw (may t, may-again c.args.memory.now before c.unpack-load.result c.if-load.true)
     (ap (λ (r : Service). handed_counts (counted_of r
-            ((queue_of (frame_with t c.args.outline) c.args.load_entries.now c.args.store_entries.now)))) c.serve_refused-then-load.ensures)
+    ((queue_of (frame_with t c.args.outline) c.args.load_entries.now c.args.store_entries.now)))) c.serve_refused-then-load.ensures)
 
 pub returns-then-not-load : goal.returns-then-not-load
 returns-then-not-load c t =
     let queueIn : Queue = (queue_of (frame_with c.requires.0.table c.args.outline) c.args.load_entries.now c.args.store_entries.now) in
     let before : List Entry = entries_held c.unpack-load.result.before c.args.store_entries.now in
     let may : (t : Table) → serve_at (contents_of
-            ((queue_of (frame_with t c.args.outline) c.args.load_entries.now c.args.store_entries.now))) c.args.memory.now c.args.place ≡
-            (and_then (may_serve c.args.memory.now before (entry_of c.unpack-load.result)) λ v. accept
-            (served_with (contents_of ((queue_of (frame_with t c.args.outline) c.args.load_entries.now c.args.store_entries.now)))
-            c.args.place v)) = λ t. serve-held
-            ((queue_of (frame_with t c.args.outline) c.args.load_entries.now c.args.store_entries.now)) c.args.memory.now c.args.place
-            c.if-loads-place.false
+    ((queue_of (frame_with t c.args.outline) c.args.load_entries.now c.args.store_entries.now))) c.args.memory.now c.args.place ≡
+    (and_then (may_serve c.args.memory.now before (entry_of c.unpack-load.result)) λ v. accept
+    (served_with (contents_of ((queue_of (frame_with t c.args.outline) c.args.load_entries.now c.args.store_entries.now)))
+    c.args.place v)) = λ t. serve-held
+    ((queue_of (frame_with t c.args.outline) c.args.load_entries.now c.args.store_entries.now)) c.args.memory.now c.args.place
+    c.if-loads-place.false
     (before-held queueIn c.requires.0.right Kind.Load c.args.place c.if-loads-place.false)
     ∙ ap (λ (e : EntryStruct). (and_then (may_serve c.args.memory.now (entries_held e.before c.args.store_entries.now) (entry_of e)) λ v.
-            accept (served_with (contents_of ((queue_of (frame_with t c.args.outline) c.args.load_entries.now c.args.store_entries.now)))
-            c.args.place v)))
+    accept (served_with (contents_of ((queue_of (frame_with t c.args.outline) c.args.load_entries.now c.args.store_entries.now)))
+    c.args.place v)))
     (sym c.unpack-load.ensures) in
     rw (may t, may-no-address c.args.memory.now before c.unpack-load.result c.if-load.false (not-true _ c.if-not-load.true))
     (ap (λ (r : Service). handed_counts (counted_of r
-            ((queue_of (frame_with t c.args.outline) c.args.load_entries.now c.args.store_entries.now))))
-            c.serve_refused-then-not-load.ensures)
+    ((queue_of (frame_with t c.args.outline) c.args.load_entries.now c.args.store_entries.now))))
+    c.serve_refused-then-not-load.ensures)
 
 pub source_of-requires : goal.source_of-requires
 source_of-requires c =
     let queueIn : Queue = (queue_of (frame_with c.requires.0.table c.args.outline) c.args.load_entries.now c.args.store_entries.now) in
     let before-few : c.unpack-load.result.before ≤ c.args.outline.stores.count =
-            subst (λ (e : EntryStruct). e.before ≤ c.args.outline.stores.count) (sym c.unpack-load.ensures)
+    subst (λ (e : EntryStruct). e.before ≤ c.args.outline.stores.count) (sym c.unpack-load.ensures)
     (before-held queueIn c.requires.0.right Kind.Load c.args.place c.if-loads-place.false) in
-    le_trans before-few (omega (arith, count_most queueIn c.requires.0.right Kind.Store, c.requires.0.stores-whole))
+    le_trans before-few (omega (arith, count_most queueIn c.requires.0.right Kind.Store, c.requires.0.stores_whole))
 
 pub served-requires : goal.served-requires
 served-requires c =
     let queueIn : Queue = (queue_of (frame_with c.requires.0.table c.args.outline) c.args.load_entries.now c.args.store_entries.now) in
     let few : c.args.outline.loads.count ≤ 64 = count_most queueIn c.requires.0.right Kind.Load in
-    let room : c.args.outline.loads.count ≤ length c.args.load_entries.now = omega (arith, few, c.requires.0.loads-whole) in
+    let room : c.args.outline.loads.count ≤ length c.args.load_entries.now = omega (arith, few, c.requires.0.loads_whole) in
     le_trans c.if-loads-place.false room
 
 pub bounds-memory-load : goal.bounds-memory-load
@@ -99,7 +99,7 @@ pub served-requires-in-Memory : goal.served-requires-in-Memory
 served-requires-in-Memory c =
     let queueIn : Queue = (queue_of (frame_with c.requires.0.table c.args.outline) c.args.load_entries.now c.args.store_entries.now) in
     let few : c.args.outline.loads.count ≤ 64 = count_most queueIn c.requires.0.right Kind.Load in
-    let room : c.args.outline.loads.count ≤ length c.args.load_entries.now = omega (arith, few, c.requires.0.loads-whole) in
+    let room : c.args.outline.loads.count ≤ length c.args.load_entries.now = omega (arith, few, c.requires.0.loads_whole) in
     le_trans c.if-loads-place.false room
 
 pub returns-in-Unknown : goal.returns-in-Unknown
@@ -107,60 +107,60 @@ returns-in-Unknown c t =
     let queueIn : Queue = (queue_of (frame_with c.requires.0.table c.args.outline) c.args.load_entries.now c.args.store_entries.now) in
     let before : List Entry = entries_held c.unpack-load.result.before c.args.store_entries.now in
     let may : (t : Table) → serve_at (contents_of
-            ((queue_of (frame_with t c.args.outline) c.args.load_entries.now c.args.store_entries.now))) c.args.memory.now c.args.place ≡
-            (and_then (may_serve c.args.memory.now before (entry_of c.unpack-load.result)) λ v. accept
-            (served_with (contents_of ((queue_of (frame_with t c.args.outline) c.args.load_entries.now c.args.store_entries.now)))
-            c.args.place v)) = λ t. serve-held
-            ((queue_of (frame_with t c.args.outline) c.args.load_entries.now c.args.store_entries.now)) c.args.memory.now c.args.place
-            c.if-loads-place.false
+    ((queue_of (frame_with t c.args.outline) c.args.load_entries.now c.args.store_entries.now))) c.args.memory.now c.args.place ≡
+    (and_then (may_serve c.args.memory.now before (entry_of c.unpack-load.result)) λ v. accept
+    (served_with (contents_of ((queue_of (frame_with t c.args.outline) c.args.load_entries.now c.args.store_entries.now)))
+    c.args.place v)) = λ t. serve-held
+    ((queue_of (frame_with t c.args.outline) c.args.load_entries.now c.args.store_entries.now)) c.args.memory.now c.args.place
+    c.if-loads-place.false
     (before-held queueIn c.requires.0.right Kind.Load c.args.place c.if-loads-place.false)
     ∙ ap (λ (e : EntryStruct). (and_then (may_serve c.args.memory.now (entries_held e.before c.args.store_entries.now) (entry_of e)) λ v.
-            accept (served_with (contents_of ((queue_of (frame_with t c.args.outline) c.args.load_entries.now c.args.store_entries.now)))
-            c.args.place v)))
+    accept (served_with (contents_of ((queue_of (frame_with t c.args.outline) c.args.load_entries.now c.args.store_entries.now)))
+    c.args.place v)))
     (sym c.unpack-load.ensures) in
     let sourced : (t : Table) → (x : coded.Source) → c.source_of.result ≡ x → serve_at
-            (contents_of ((queue_of (frame_with t c.args.outline) c.args.load_entries.now c.args.store_entries.now))) c.args.memory.now
-            c.args.place ≡ (and_then (loaded_from c.args.memory.now c.unpack-load.result.address (source_in x)) λ v. accept
-            (served_with (contents_of ((queue_of (frame_with t c.args.outline) c.args.load_entries.now c.args.store_entries.now)))
-            c.args.place v)) = λ t x is. may t
+    (contents_of ((queue_of (frame_with t c.args.outline) c.args.load_entries.now c.args.store_entries.now))) c.args.memory.now
+    c.args.place ≡ (and_then (loaded_from c.args.memory.now c.unpack-load.result.address (source_in x)) λ v. accept
+    (served_with (contents_of ((queue_of (frame_with t c.args.outline) c.args.load_entries.now c.args.store_entries.now)))
+    c.args.place v)) = λ t x is. may t
     ∙ ap ((λ (x : Reply Loaded). and_then x λ v. accept
-            (served_with (contents_of ((queue_of (frame_with t c.args.outline) c.args.load_entries.now c.args.store_entries.now)))
-            c.args.place v)))
+    (served_with (contents_of ((queue_of (frame_with t c.args.outline) c.args.load_entries.now c.args.store_entries.now)))
+    c.args.place v)))
     (may_load c.args.memory.now before c.unpack-load.result c.if-load.false (not-false c.unpack-load.result.addressed c.if-not-load.false)
     (ap source_in (sym is) ∙ c.source_of.ensures)) in
     rw (sourced t _ c.in-Unknown.is) (ap (λ (r : Service). handed_counts
-            (counted_of r ((queue_of (frame_with t c.args.outline) c.args.load_entries.now c.args.store_entries.now))))
-            c.serve_refused-in-Unknown.ensures)
+    (counted_of r ((queue_of (frame_with t c.args.outline) c.args.load_entries.now c.args.store_entries.now))))
+    c.serve_refused-in-Unknown.ensures)
 
 pub returns-in-NoData : goal.returns-in-NoData
 returns-in-NoData c t =
     let queueIn : Queue = (queue_of (frame_with c.requires.0.table c.args.outline) c.args.load_entries.now c.args.store_entries.now) in
     let before : List Entry = entries_held c.unpack-load.result.before c.args.store_entries.now in
     let may : (t : Table) → serve_at (contents_of
-            ((queue_of (frame_with t c.args.outline) c.args.load_entries.now c.args.store_entries.now))) c.args.memory.now c.args.place ≡
-            (and_then (may_serve c.args.memory.now before (entry_of c.unpack-load.result)) λ v. accept
-            (served_with (contents_of ((queue_of (frame_with t c.args.outline) c.args.load_entries.now c.args.store_entries.now)))
-            c.args.place v)) = λ t. serve-held
-            ((queue_of (frame_with t c.args.outline) c.args.load_entries.now c.args.store_entries.now)) c.args.memory.now c.args.place
-            c.if-loads-place.false
+    ((queue_of (frame_with t c.args.outline) c.args.load_entries.now c.args.store_entries.now))) c.args.memory.now c.args.place ≡
+    (and_then (may_serve c.args.memory.now before (entry_of c.unpack-load.result)) λ v. accept
+    (served_with (contents_of ((queue_of (frame_with t c.args.outline) c.args.load_entries.now c.args.store_entries.now)))
+    c.args.place v)) = λ t. serve-held
+    ((queue_of (frame_with t c.args.outline) c.args.load_entries.now c.args.store_entries.now)) c.args.memory.now c.args.place
+    c.if-loads-place.false
     (before-held queueIn c.requires.0.right Kind.Load c.args.place c.if-loads-place.false)
     ∙ ap (λ (e : EntryStruct). (and_then (may_serve c.args.memory.now (entries_held e.before c.args.store_entries.now) (entry_of e)) λ v.
-            accept (served_with (contents_of ((queue_of (frame_with t c.args.outline) c.args.load_entries.now c.args.store_entries.now)))
-            c.args.place v)))
+    accept (served_with (contents_of ((queue_of (frame_with t c.args.outline) c.args.load_entries.now c.args.store_entries.now)))
+    c.args.place v)))
     (sym c.unpack-load.ensures) in
     let sourced : (t : Table) → (x : coded.Source) → c.source_of.result ≡ x → serve_at
-            (contents_of ((queue_of (frame_with t c.args.outline) c.args.load_entries.now c.args.store_entries.now))) c.args.memory.now
-            c.args.place ≡ (and_then (loaded_from c.args.memory.now c.unpack-load.result.address (source_in x)) λ v. accept
-            (served_with (contents_of ((queue_of (frame_with t c.args.outline) c.args.load_entries.now c.args.store_entries.now)))
-            c.args.place v)) = λ t x is. may t
+    (contents_of ((queue_of (frame_with t c.args.outline) c.args.load_entries.now c.args.store_entries.now))) c.args.memory.now
+    c.args.place ≡ (and_then (loaded_from c.args.memory.now c.unpack-load.result.address (source_in x)) λ v. accept
+    (served_with (contents_of ((queue_of (frame_with t c.args.outline) c.args.load_entries.now c.args.store_entries.now)))
+    c.args.place v)) = λ t x is. may t
     ∙ ap ((λ (x : Reply Loaded). and_then x λ v. accept
-            (served_with (contents_of ((queue_of (frame_with t c.args.outline) c.args.load_entries.now c.args.store_entries.now)))
-            c.args.place v)))
+    (served_with (contents_of ((queue_of (frame_with t c.args.outline) c.args.load_entries.now c.args.store_entries.now)))
+    c.args.place v)))
     (may_load c.args.memory.now before c.unpack-load.result c.if-load.false (not-false c.unpack-load.result.addressed c.if-not-load.false)
     (ap source_in (sym is) ∙ c.source_of.ensures)) in
     rw (sourced t _ c.in-NoData.is) (ap (λ (r : Service). handed_counts
-            (counted_of r ((queue_of (frame_with t c.args.outline) c.args.load_entries.now c.args.store_entries.now))))
-            c.serve_refused-in-NoData.ensures)
+    (counted_of r ((queue_of (frame_with t c.args.outline) c.args.load_entries.now c.args.store_entries.now))))
+    c.serve_refused-in-NoData.ensures)
 
 pub returns-in-Forwarded : goal.returns-in-Forwarded
 returns-in-Forwarded c t =
@@ -168,30 +168,30 @@ returns-in-Forwarded c t =
     let few : c.args.outline.loads.count ≤ 64 = count_most queueIn c.requires.0.right Kind.Load in
     let before : List Entry = entries_held c.unpack-load.result.before c.args.store_entries.now in
     let may : (t : Table) → serve_at (contents_of
-            ((queue_of (frame_with t c.args.outline) c.args.load_entries.now c.args.store_entries.now))) c.args.memory.now c.args.place ≡
-            (and_then (may_serve c.args.memory.now before (entry_of c.unpack-load.result)) λ v. accept
-            (served_with (contents_of ((queue_of (frame_with t c.args.outline) c.args.load_entries.now c.args.store_entries.now)))
-            c.args.place v)) = λ t. serve-held
-            ((queue_of (frame_with t c.args.outline) c.args.load_entries.now c.args.store_entries.now)) c.args.memory.now c.args.place
-            c.if-loads-place.false
+    ((queue_of (frame_with t c.args.outline) c.args.load_entries.now c.args.store_entries.now))) c.args.memory.now c.args.place ≡
+    (and_then (may_serve c.args.memory.now before (entry_of c.unpack-load.result)) λ v. accept
+    (served_with (contents_of ((queue_of (frame_with t c.args.outline) c.args.load_entries.now c.args.store_entries.now)))
+    c.args.place v)) = λ t. serve-held
+    ((queue_of (frame_with t c.args.outline) c.args.load_entries.now c.args.store_entries.now)) c.args.memory.now c.args.place
+    c.if-loads-place.false
     (before-held queueIn c.requires.0.right Kind.Load c.args.place c.if-loads-place.false)
     ∙ ap (λ (e : EntryStruct). (and_then (may_serve c.args.memory.now (entries_held e.before c.args.store_entries.now) (entry_of e)) λ v.
-            accept (served_with (contents_of ((queue_of (frame_with t c.args.outline) c.args.load_entries.now c.args.store_entries.now)))
-            c.args.place v)))
+    accept (served_with (contents_of ((queue_of (frame_with t c.args.outline) c.args.load_entries.now c.args.store_entries.now)))
+    c.args.place v)))
     (sym c.unpack-load.ensures) in
     let sourced : (t : Table) → (x : coded.Source) → c.source_of.result ≡ x → serve_at
-            (contents_of ((queue_of (frame_with t c.args.outline) c.args.load_entries.now c.args.store_entries.now))) c.args.memory.now
-            c.args.place ≡ (and_then (loaded_from c.args.memory.now c.unpack-load.result.address (source_in x)) λ v. accept
-            (served_with (contents_of ((queue_of (frame_with t c.args.outline) c.args.load_entries.now c.args.store_entries.now)))
-            c.args.place v)) = λ t x is. may t
+    (contents_of ((queue_of (frame_with t c.args.outline) c.args.load_entries.now c.args.store_entries.now))) c.args.memory.now
+    c.args.place ≡ (and_then (loaded_from c.args.memory.now c.unpack-load.result.address (source_in x)) λ v. accept
+    (served_with (contents_of ((queue_of (frame_with t c.args.outline) c.args.load_entries.now c.args.store_entries.now)))
+    c.args.place v)) = λ t x is. may t
     ∙ ap ((λ (x : Reply Loaded). and_then x λ v. accept
-            (served_with (contents_of ((queue_of (frame_with t c.args.outline) c.args.load_entries.now c.args.store_entries.now)))
-            c.args.place v)))
+    (served_with (contents_of ((queue_of (frame_with t c.args.outline) c.args.load_entries.now c.args.store_entries.now)))
+    c.args.place v)))
     (may_load c.args.memory.now before c.unpack-load.result c.if-load.false (not-false c.unpack-load.result.addressed c.if-not-load.false)
     (ap source_in (sym is) ∙ c.source_of.ensures)) in
     rw (sourced t _ c.in-Forwarded.is)
     (served-well ((queue_of (frame_with t c.args.outline) c.args.load_entries.now c.args.store_entries.now)) c.args.counts c.args.place _ _
-            c.requires.0.loads-whole few c.if-loads-place.false c.served.ensures.0
+    c.requires.0.loads_whole few c.if-loads-place.false c.served.ensures.0
     c.served.ensures.1)
 
 pub returns-in-Memory : goal.returns-in-Memory
@@ -200,28 +200,28 @@ returns-in-Memory c t =
     let few : c.args.outline.loads.count ≤ 64 = count_most queueIn c.requires.0.right Kind.Load in
     let before : List Entry = entries_held c.unpack-load.result.before c.args.store_entries.now in
     let may : (t : Table) → serve_at (contents_of
-            ((queue_of (frame_with t c.args.outline) c.args.load_entries.now c.args.store_entries.now))) c.args.memory.now c.args.place ≡
-            (and_then (may_serve c.args.memory.now before (entry_of c.unpack-load.result)) λ v. accept
-            (served_with (contents_of ((queue_of (frame_with t c.args.outline) c.args.load_entries.now c.args.store_entries.now)))
-            c.args.place v)) = λ t. serve-held
-            ((queue_of (frame_with t c.args.outline) c.args.load_entries.now c.args.store_entries.now)) c.args.memory.now c.args.place
-            c.if-loads-place.false
+    ((queue_of (frame_with t c.args.outline) c.args.load_entries.now c.args.store_entries.now))) c.args.memory.now c.args.place ≡
+    (and_then (may_serve c.args.memory.now before (entry_of c.unpack-load.result)) λ v. accept
+    (served_with (contents_of ((queue_of (frame_with t c.args.outline) c.args.load_entries.now c.args.store_entries.now)))
+    c.args.place v)) = λ t. serve-held
+    ((queue_of (frame_with t c.args.outline) c.args.load_entries.now c.args.store_entries.now)) c.args.memory.now c.args.place
+    c.if-loads-place.false
     (before-held queueIn c.requires.0.right Kind.Load c.args.place c.if-loads-place.false)
     ∙ ap (λ (e : EntryStruct). (and_then (may_serve c.args.memory.now (entries_held e.before c.args.store_entries.now) (entry_of e)) λ v.
-            accept (served_with (contents_of ((queue_of (frame_with t c.args.outline) c.args.load_entries.now c.args.store_entries.now)))
-            c.args.place v)))
+    accept (served_with (contents_of ((queue_of (frame_with t c.args.outline) c.args.load_entries.now c.args.store_entries.now)))
+    c.args.place v)))
     (sym c.unpack-load.ensures) in
     let sourced : (t : Table) → (x : coded.Source) → c.source_of.result ≡ x → serve_at
-            (contents_of ((queue_of (frame_with t c.args.outline) c.args.load_entries.now c.args.store_entries.now))) c.args.memory.now
-            c.args.place ≡ (and_then (loaded_from c.args.memory.now c.unpack-load.result.address (source_in x)) λ v. accept
-            (served_with (contents_of ((queue_of (frame_with t c.args.outline) c.args.load_entries.now c.args.store_entries.now)))
-            c.args.place v)) = λ t x is. may t
+    (contents_of ((queue_of (frame_with t c.args.outline) c.args.load_entries.now c.args.store_entries.now))) c.args.memory.now
+    c.args.place ≡ (and_then (loaded_from c.args.memory.now c.unpack-load.result.address (source_in x)) λ v. accept
+    (served_with (contents_of ((queue_of (frame_with t c.args.outline) c.args.load_entries.now c.args.store_entries.now)))
+    c.args.place v)) = λ t x is. may t
     ∙ ap ((λ (x : Reply Loaded). and_then x λ v. accept
-            (served_with (contents_of ((queue_of (frame_with t c.args.outline) c.args.load_entries.now c.args.store_entries.now)))
-            c.args.place v)))
+    (served_with (contents_of ((queue_of (frame_with t c.args.outline) c.args.load_entries.now c.args.store_entries.now)))
+    c.args.place v)))
     (may_load c.args.memory.now before c.unpack-load.result c.if-load.false (not-false c.unpack-load.result.addressed c.if-not-load.false)
     (ap source_in (sym is) ∙ c.source_of.ensures)) in
     rw (sourced t _ c.in-Memory.is)
     (served-well ((queue_of (frame_with t c.args.outline) c.args.load_entries.now c.args.store_entries.now)) c.args.counts c.args.place _ _
-            c.requires.0.loads-whole few c.if-loads-place.false c.served-in-Memory.ensures.0
+    c.requires.0.loads_whole few c.if-loads-place.false c.served-in-Memory.ensures.0
     c.served-in-Memory.ensures.1)

@@ -1,4 +1,4 @@
-use Rattle.std.proofs.Common.{ap, rules}
+use Rattle.std.proofs.Common.{ap}
 use Rattle.queue.specs.Contents.{contents_of}
 use Rattle.queue.specs.Serve.{serve}
 use Rattle.queue.specs.Outcome.{handed_counts}
@@ -34,14 +34,13 @@ serve_at-requires c =
     let frame : Frame = let a = c.args in frame_of a.outline a.groups.now a.load_places.now a.store_places.now in
     let queueIn : Queue = queue_of frame c.args.load_entries.now c.args.store_entries.now in
     let queue : Queue = queueIn in
-    let good : PartsFit queue = fit queue c.sound_in.ensures (ap not c.if-not-sound_in.false) in
-    (
+    let good : PartsFit queue = fit queue c.sound_in.ensures (ap not c.if-not-sound_in.false) in (
       record {
         table = frame.table;
         right = good.right;
-        loads-whole = good.loads-whole;
-        stores-whole =
-            good.stores-whole;
+        loads_whole = good.loads_whole;
+        stores_whole =
+            good.stores_whole;
       },
       c.if-memory-outline.false,
     )

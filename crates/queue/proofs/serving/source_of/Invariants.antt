@@ -1,6 +1,6 @@
 -- The stores from the ith on are passed: those before it decide.
-use Rattle.std.proofs.Common.{◌≤◌, arith, rules}
-use Rattle.queue.proofs.SourceLaws.{WalkedBack, back_none, back-unknown, back-matched, back-passed, back_end}
+use Rattle.std.proofs.Common.{◌≤◌}
+use Rattle.queue.proofs.SourceLaws.{WalkedBack}
 use Rattle.queue.proofs.serving.source_of.Given as goal
 
 abbrev pub invariant-loop-i : goal.invariant-loop-i

@@ -1,5 +1,5 @@
 -- Each test that is left behind is a step of the rule; the test that fails is its refusal.
-use Rattle.std.proofs.Common.{◌≡◌, ◌<◌, true, length, get_or, sym, refl, ap, ◌∙◌, le_trans, length-set, rules}
+use Rattle.std.proofs.Common.{◌≡◌, ◌<◌, true, length, get_or, sym, refl, ap, ◌∙◌, le_trans, length-set}
 use borrow.Author.Tests.{not-true, not-false}
 use Rattle.number.specs.Basics.{any_of}
 use Rattle.table.specs.Table.{groups_of}
@@ -64,9 +64,9 @@ returns-then-loads-at c =
     queue_of (frame_of a.outline a.groups.now a.load_places.now a.store_places.now) a.load_entries.now a.store_entries.now in
     let good : PartsFit queue = fit queue c.sound_in.ensures (ap not c.if-not-sound_in.false) in
     let port : any_of (names_port load c.args.port) (groups_of queue.frame.table) ≡ true =
-            sym c.has_port-named.ensures ∙ c.if-not-named.false in
+    sym c.has_port-named.ensures ∙ c.if-not-named.false in
     let place : c.oldest_without-at.result ≡ first_place (untaken c.args.port) (entries_held queue.frame.loads.count queue.load_entries) =
-            c.oldest_without-at.ensures in
+    c.oldest_without-at.ensures in
     rw (
       good.full,
       take_none queue c.args.port good.right port c.oldest_without-at.result place
@@ -88,9 +88,9 @@ returns-then-not-load c =
     queue_of (frame_of a.outline a.groups.now a.load_places.now a.store_places.now) a.load_entries.now a.store_entries.now in
     let good : PartsFit queue = fit queue c.sound_in.ensures (ap not c.if-not-sound_in.false) in
     let port : any_of (names_port load c.args.port) (groups_of queue.frame.table) ≡ true =
-            sym c.has_port-named.ensures ∙ c.if-not-named.false in
+    sym c.has_port-named.ensures ∙ c.if-not-named.false in
     let place : c.oldest_without-at.result ≡ first_place (untaken c.args.port) (entries_held queue.frame.loads.count queue.load_entries) =
-            c.oldest_without-at.ensures in
+    c.oldest_without-at.ensures in
     rw (
       good.full,
       take-unserved queue c.args.port good.right port c.oldest_without-at.result place c.if-loads-at.false
@@ -119,13 +119,13 @@ returns c =
     queue_of (frame_of a.outline a.groups.now a.load_places.now a.store_places.now) a.load_entries.now a.store_entries.now in
     let good : PartsFit queue = fit queue c.sound_in.ensures (ap not c.if-not-sound_in.false) in
     let port : any_of (names_port load c.args.port) (groups_of queue.frame.table) ≡ true =
-            sym c.has_port-named.ensures ∙ c.if-not-named.false in
+    sym c.has_port-named.ensures ∙ c.if-not-named.false in
     let place : c.oldest_without-at.result ≡ first_place (untaken c.args.port) (entries_held queue.frame.loads.count queue.load_entries) =
-            c.oldest_without-at.ensures in
+    c.oldest_without-at.ensures in
     let taken : entry_in c.pack.result ≡ mark_finished (entry_in (get_or queue.load_entries c.oldest_without-at.result 0)) =
-            let l = queue.load_entries in
+    let l = queue.load_entries in
     finished_number (get_or l c.oldest_without-at.result 0)
-            (c.pack.ensures ∙ ap (λ (e : EntryStruct). number_of (set_finished e)) c.unpack-load.ensures) in
+    (c.pack.ensures ∙ ap (λ (e : EntryStruct). number_of (set_finished e)) c.unpack-load.ensures) in
     let q = queue in
     rw (
       good.full,

@@ -1,5 +1,5 @@
 -- The store at the place: refused by the rule in its order, or its word is put in memory, it is marked finished, and finished entries leave.
-use Rattle.std.proofs.Common.{◌≡◌, ◌<◌, ◌≤◌, length, get_or, sym, refl, ap, ◌∙◌, le_trans, arith, length-set, rules}
+use Rattle.std.proofs.Common.{◌≡◌, ◌<◌, ◌≤◌, length, get_or, sym, refl, ap, ◌∙◌, le_trans, arith, length-set}
 use Rattle.table.specs.declared.Table.{Table}
 use Rattle.queue.specs.declared.Entry.{Entry as EntryStruct}
 use Rattle.queue.specs.declared.Queue.{Queue}
@@ -10,7 +10,7 @@ use Rattle.queue.specs.Entry.{unpacked, number_of, entry_of, entry_in, mark_fini
 use Rattle.queue.specs.Contents.{contents_of, entries_held}
 use Rattle.queue.specs.Write.{written_with, write_at}
 use Rattle.queue.specs.Retire.{retire}
-use Rattle.queue.specs.Outcome.{Handed, handed}
+use Rattle.queue.specs.Outcome.{handed}
 use Rattle.queue.specs.Parts.{queue_of, outcome_of}
 use Rattle.queue.specs.Internal.{frame_with, set_finished, may_write_at}
 use Rattle.number.specs.Reply.{accept, and_then}
@@ -23,22 +23,24 @@ use Rattle.queue.proofs.writing.write_at.Goals as goal
 pub returns-then-stores-place : goal.returns-then-stores-place
 returns-then-stores-place c table =
     rw (write-none ((queue_of (frame_with table c.args.outline) c.args.load_entries.now c.args.store_entries.now)) c.args.memory.now
-            c.args.place c.if-stores-place.true)
-    (record { outcome = ap ((λ (step : Step). handed
-            (outcome_of (frame_with table c.args.outline) step c.args.load_entries.now c.args.store_entries.now))) c.refused.ensures;
-            memory_is = refl })
+    c.args.place c.if-stores-place.true)
+    (record {
+      outcome = ap ((λ (step : Step). handed
+          (outcome_of (frame_with table c.args.outline) step c.args.load_entries.now c.args.store_entries.now))) c.refused.ensures;
+      memory_is = refl;
+    })
 
 pub write_fault-answer-requires : goal.write_fault-answer-requires
 write_fault-answer-requires c =
     let queue : Queue = (queue_of (frame_with c.requires.0.table c.args.outline) c.args.load_entries.now c.args.store_entries.now) in
     let store : EntryStruct = unpacked (get_or c.args.store_entries.now c.args.place 0) in
     let stores_room : c.args.outline.stores.count ≤ length c.args.store_entries.now =
-            omega (arith, count_most queue c.requires.0.right Kind.Store, c.requires.0.stores-whole) in
+    omega (arith, count_most queue c.requires.0.right Kind.Store, c.requires.0.stores_whole) in
     let before-few : store.before ≤ c.args.outline.loads.count =
-            before-held queue c.requires.0.right Kind.Store c.args.place c.if-stores-place.false in
+    before-held queue c.requires.0.right Kind.Store c.args.place c.if-stores-place.false in
     let placed : c.args.place < length c.args.store_entries.now = le_trans c.if-stores-place.false stores_room in
     let loads_room : c.args.outline.loads.count ≤ length c.args.load_entries.now =
-            omega (arith, count_most queue c.requires.0.right Kind.Load, c.requires.0.loads-whole) in
+    omega (arith, count_most queue c.requires.0.right Kind.Load, c.requires.0.loads_whole) in
     (placed, le_trans before-few loads_room)
 
 pub returns-then-answer-ne0 : goal.returns-then-answer-ne0
@@ -46,29 +48,32 @@ returns-then-answer-ne0 c table =
     let queue : Queue = (queue_of (frame_with c.requires.0.table c.args.outline) c.args.load_entries.now c.args.store_entries.now) in
     let store : EntryStruct = unpacked (get_or c.args.store_entries.now c.args.place 0) in
     let before-few : store.before ≤ c.args.outline.loads.count =
-            before-held queue c.requires.0.right Kind.Store c.args.place c.if-stores-place.false in
+    before-held queue c.requires.0.right Kind.Store c.args.place c.if-stores-place.false in
     let held : (t : Table) → write_at (contents_of
-            ((queue_of (frame_with t c.args.outline) c.args.load_entries.now c.args.store_entries.now))) c.args.memory.now c.args.place
-            ≡ and_then (may_write_at c.args.load_entries.now c.args.store_entries.now c.args.place) λ p. accept
-            (written_with (contents_of ((queue_of (frame_with t c.args.outline) c.args.load_entries.now c.args.store_entries.now)))
-            c.args.memory.now c.args.place p) = λ t. write-held
-            ((queue_of (frame_with t c.args.outline) c.args.load_entries.now c.args.store_entries.now)) c.args.memory.now c.args.place
-            c.if-stores-place.false before-few in
+    ((queue_of (frame_with t c.args.outline) c.args.load_entries.now c.args.store_entries.now))) c.args.memory.now c.args.place
+    ≡ and_then (may_write_at c.args.load_entries.now c.args.store_entries.now c.args.place) λ p. accept
+    (written_with (contents_of ((queue_of (frame_with t c.args.outline) c.args.load_entries.now c.args.store_entries.now)))
+    c.args.memory.now c.args.place p) = λ t. write-held
+    ((queue_of (frame_with t c.args.outline) c.args.load_entries.now c.args.store_entries.now)) c.args.memory.now c.args.place
+    c.if-stores-place.false before-few in
     rw (
       held table,
       refused_number (may_write_at c.args.load_entries.now c.args.store_entries.now c.args.place)
           (λ z. c.if-answer-ne0.true (c.write_fault-answer.ensures ∙ z)),
       ← c.write_fault-answer.ensures,
     )
-    (record { outcome = ap ((λ (step : Step). handed
-            (outcome_of (frame_with table c.args.outline) step c.args.load_entries.now c.args.store_entries.now)))
-            c.refused-then-answer-ne0.ensures; memory_is = refl })
+    (record {
+      outcome = ap ((λ (step : Step). handed
+          (outcome_of (frame_with table c.args.outline) step c.args.load_entries.now c.args.store_entries.now)))
+          c.refused-then-answer-ne0.ensures;
+      memory_is = refl;
+    })
 
 pub bounds-store_entries-at : goal.bounds-store_entries-at
 bounds-store_entries-at c =
     let queue : Queue = (queue_of (frame_with c.requires.0.table c.args.outline) c.args.load_entries.now c.args.store_entries.now) in
     let stores_room : c.args.outline.stores.count ≤ length c.args.store_entries.now =
-            omega (arith, count_most queue c.requires.0.right Kind.Store, c.requires.0.stores-whole) in
+    omega (arith, count_most queue c.requires.0.right Kind.Store, c.requires.0.stores_whole) in
     let placed : c.args.place < length c.args.store_entries.now = le_trans c.if-stores-place.false stores_room in
     placed
 
@@ -77,16 +82,16 @@ bounds-memory-store c =
     let queue : Queue = (queue_of (frame_with c.requires.0.table c.args.outline) c.args.load_entries.now c.args.store_entries.now) in
     let store : EntryStruct = unpacked (get_or c.args.store_entries.now c.args.place 0) in
     let puts : Puts (entries_held store.before c.args.load_entries.now) (entries_held c.args.place c.args.store_entries.now) store =
-            may-puts (entries_held store.before c.args.load_entries.now) (entries_held c.args.place c.args.store_entries.now) store
+    may-puts (entries_held store.before c.args.load_entries.now) (entries_held c.args.place c.args.store_entries.now) store
     (sym c.write_fault-answer.ensures ∙ c.if-answer-ne0.false) in
     rw (c.requires.1, c.unpack-store.ensures)
-            (address-low queue c.requires.0.right Kind.Store c.args.place c.if-stores-place.false puts.addressed)
+    (address-low queue c.requires.0.right Kind.Store c.args.place c.if-stores-place.false puts.addressed)
 
 pub bounds-store_entries-at-2 : goal.bounds-store_entries-at-2
 bounds-store_entries-at-2 c =
     let queue : Queue = (queue_of (frame_with c.requires.0.table c.args.outline) c.args.load_entries.now c.args.store_entries.now) in
     let stores_room : c.args.outline.stores.count ≤ length c.args.store_entries.now =
-            omega (arith, count_most queue c.requires.0.right Kind.Store, c.requires.0.stores-whole) in
+    omega (arith, count_most queue c.requires.0.right Kind.Store, c.requires.0.stores_whole) in
     let placed : c.args.place < length c.args.store_entries.now = le_trans c.if-stores-place.false stores_room in
     placed
 
@@ -94,9 +99,9 @@ pub retire-left-requires : goal.retire-left-requires
 retire-left-requires c =
     let queue : Queue = (queue_of (frame_with c.requires.0.table c.args.outline) c.args.load_entries.now c.args.store_entries.now) in
     let stores_room : c.args.outline.stores.count ≤ length c.args.store_entries.now =
-            omega (arith, count_most queue c.requires.0.right Kind.Store, c.requires.0.stores-whole) in
+    omega (arith, count_most queue c.requires.0.right Kind.Store, c.requires.0.stores_whole) in
     let loads_room : c.args.outline.loads.count ≤ length c.args.load_entries.now =
-            omega (arith, count_most queue c.requires.0.right Kind.Load, c.requires.0.loads-whole) in
+    omega (arith, count_most queue c.requires.0.right Kind.Load, c.requires.0.loads_whole) in
     (loads_room, rw (length-set c.args.store_entries.now c.args.place c.pack.result) stores_room)
 
 pub returns : goal.returns
@@ -104,18 +109,18 @@ returns c table =
     let queue : Queue = (queue_of (frame_with c.requires.0.table c.args.outline) c.args.load_entries.now c.args.store_entries.now) in
     let store : EntryStruct = unpacked (get_or c.args.store_entries.now c.args.place 0) in
     let stores_room : c.args.outline.stores.count ≤ length c.args.store_entries.now =
-            omega (arith, count_most queue c.requires.0.right Kind.Store, c.requires.0.stores-whole) in
+    omega (arith, count_most queue c.requires.0.right Kind.Store, c.requires.0.stores_whole) in
     let before-few : store.before ≤ c.args.outline.loads.count =
-            before-held queue c.requires.0.right Kind.Store c.args.place c.if-stores-place.false in
+    before-held queue c.requires.0.right Kind.Store c.args.place c.if-stores-place.false in
     let held : (t : Table) → write_at (contents_of
-            ((queue_of (frame_with t c.args.outline) c.args.load_entries.now c.args.store_entries.now))) c.args.memory.now c.args.place
-            ≡ and_then (may_write_at c.args.load_entries.now c.args.store_entries.now c.args.place) λ p. accept
-            (written_with (contents_of ((queue_of (frame_with t c.args.outline) c.args.load_entries.now c.args.store_entries.now)))
-            c.args.memory.now c.args.place p) = λ t. write-held
-            ((queue_of (frame_with t c.args.outline) c.args.load_entries.now c.args.store_entries.now)) c.args.memory.now c.args.place
-            c.if-stores-place.false before-few in
+    ((queue_of (frame_with t c.args.outline) c.args.load_entries.now c.args.store_entries.now))) c.args.memory.now c.args.place
+    ≡ and_then (may_write_at c.args.load_entries.now c.args.store_entries.now c.args.place) λ p. accept
+    (written_with (contents_of ((queue_of (frame_with t c.args.outline) c.args.load_entries.now c.args.store_entries.now)))
+    c.args.memory.now c.args.place p) = λ t. write-held
+    ((queue_of (frame_with t c.args.outline) c.args.load_entries.now c.args.store_entries.now)) c.args.memory.now c.args.place
+    c.if-stores-place.false before-few in
     let puts : Puts (entries_held store.before c.args.load_entries.now) (entries_held c.args.place c.args.store_entries.now) store =
-            may-puts (entries_held store.before c.args.load_entries.now) (entries_held c.args.place c.args.store_entries.now) store
+    may-puts (entries_held store.before c.args.load_entries.now) (entries_held c.args.place c.args.store_entries.now) store
     (sym c.write_fault-answer.ensures ∙ c.if-answer-ne0.false) in
     let put : entry_in c.pack.result ≡ mark_finished (entry_of store) = finished_number (get_or c.args.store_entries.now c.args.place 0)
     (c.pack.ensures ∙ ap (λ (e : EntryStruct). number_of (set_finished e)) c.unpack-store.ensures) in
@@ -126,8 +131,8 @@ returns c table =
         gives = refl {a = none};
         holds = c.retire-left.ensures table
             ∙ ap retire (side-anew Kind.Store ((queue_of
-                    (frame_with table c.args.outline) c.args.load_entries.now c.args.store_entries.now)) c.args.place stores_room
-                    c.if-stores-place.false
+            (frame_with table c.args.outline) c.args.load_entries.now c.args.store_entries.now)) c.args.place stores_room
+            c.if-stores-place.false
             (record { number = c.pack.result; holds = put; leaves = refl }));
       };
       memory_is = rw c.unpack-store.ensures;

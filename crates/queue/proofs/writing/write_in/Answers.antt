@@ -1,12 +1,11 @@
-use Rattle.std.proofs.Common.{refl, ap, rules}
+use Rattle.std.proofs.Common.{refl, ap}
 use Rattle.queue.specs.Contents.{contents_of}
 use Rattle.queue.specs.Write.{write}
-use Rattle.queue.specs.Outcome.{Handed, handed}
+use Rattle.queue.specs.Outcome.{handed}
 use Rattle.queue.specs.Parts.{frame_of, queue_of, outcome_of}
 use Rattle.queue.proofs.PartsLaws.{PartsFit, fit, unfit}
 use Rattle.queue.specs.declared.Frame.{Frame}
 use Rattle.queue.specs.declared.Queue.{Queue}
-use Rattle.queue.specs.declared.answering.Step.{Step}
 use Rattle.queue.proofs.WriteLaws.{write-unsound, write-memory, write-place}
 use mathlib.Core.Bool.{not}
 use Rattle.queue.proofs.writing.write_in.Goals as goal
@@ -18,8 +17,10 @@ returns-then-not-sound_in c =
     let q = queueIn in
     rw (unfit q (write (contents_of q) c.args.memory.now c.args.serial) c.sound_in.ensures (ap not c.if-not-sound_in.true)
     (write-unsound q c.args.memory.now c.args.serial))
-    (record { outcome = ap ((λ t. handed (outcome_of frame t c.args.load_entries.now c.args.store_entries.now))) c.refused.ensures;
-            memory_is = refl })
+    (record {
+      outcome = ap ((λ t. handed (outcome_of frame t c.args.load_entries.now c.args.store_entries.now))) c.refused.ensures;
+      memory_is = refl;
+    })
 
 pub returns-then-memory-outline : goal.returns-then-memory-outline
 returns-then-memory-outline c =
@@ -28,22 +29,24 @@ returns-then-memory-outline c =
     let queue : Queue = queueIn in
     let good : PartsFit queue = fit queue c.sound_in.ensures (ap not c.if-not-sound_in.false) in
     rw (good.full, write-memory queueIn c.args.memory.now c.args.serial good.right c.if-memory-outline.true)
-    (record { outcome = ap ((λ t. handed (outcome_of frame t c.args.load_entries.now c.args.store_entries.now)))
-            c.refused-then-memory-outline.ensures; memory_is = refl })
+    (record {
+      outcome = ap ((λ t. handed (outcome_of frame t c.args.load_entries.now c.args.store_entries.now)))
+          c.refused-then-memory-outline.ensures;
+      memory_is = refl;
+    })
 
 pub write_at-requires : goal.write_at-requires
 write_at-requires c =
     let frame : Frame = let a = c.args in frame_of a.outline a.groups.now a.load_places.now a.store_places.now in
     let queueIn : Queue = queue_of frame c.args.load_entries.now c.args.store_entries.now in
     let queue : Queue = queueIn in
-    let good : PartsFit queue = fit queue c.sound_in.ensures (ap not c.if-not-sound_in.false) in
-    (
+    let good : PartsFit queue = fit queue c.sound_in.ensures (ap not c.if-not-sound_in.false) in (
       record {
         table = frame.table;
         right = good.right;
-        loads-whole = good.loads-whole;
-        stores-whole =
-            good.stores-whole;
+        loads_whole = good.loads_whole;
+        stores_whole =
+            good.stores_whole;
       },
       c.if-memory-outline.false,
     )

@@ -1,11 +1,8 @@
-use Prim.Native.Nat.{◌-◌}
 use mathlib.Core.Path.{sym, ap, ◌∙◌}
 use native.Mathlib.Omega.{arith}
-use borrow.Author.Rules.{rules}
-use lib.ListN.{length}
 use Rattle.trace.specs.Event.{event_reply}
 use Rattle.trace.proofs.TraceSteps.{event_got, event_end, event_fault}
-use Rattle.replay.proofs.EventLaws.{Counting, counting_none, counting_more, counting-end, counting-fault}
+use Rattle.replay.proofs.EventLaws.{counting_more, counting-end, counting-fault}
 use Rattle.replay.proofs.counting.count_events.Goals as goal
 
 pub overflow_add-count : goal.overflow_add-count

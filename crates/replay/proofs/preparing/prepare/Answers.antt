@@ -1,5 +1,4 @@
 use mathlib.Core.Path.{sym, ap, ◌∙◌}
-use borrow.Author.Rules.{rules}
 use Rattle.table.specs.Table.{groups_of}
 use Rattle.replay.specs.Events.{count_reply}
 use Rattle.replay.proofs.EventLaws.{all_read, not_read}
@@ -11,7 +10,7 @@ pub returns-then-opened-ne0 : goal.returns-then-opened-ne0
 returns-then-opened-ne0 c =
     let a = c.args in
     rw (prepare-refused (groups_of a.table) a.trace.now c.open_trace-opened.result c.open_trace-opened.ensures c.if-opened-ne0.true)
-            c.unprepared.ensures
+    c.unprepared.ensures
 
 pub returns-in-Events : goal.returns-in-Events
 returns-in-Events c =

@@ -1,25 +1,17 @@
 -- The events up to a place are played and logged; each is read, played on the queue's parts, and put into the buffers.
-use Prim.Native.Nat.{ℕ, ◌-◌}
 use mathlib.Core.Path.{◌≡◌, refl, sym, ap, ◌∙◌}
-use mathlib.Core.List.{[], ◌∷◌}
-use mathlib.Core.Logic.{inl, inr}
+use mathlib.Core.List.{[]}
 use native.Mathlib.Omega.{arith}
 use borrow.Author.Rules.{rules}
 use lib.ListN.{length}
-use types.Run.{OneOf}
-use denote.Enum.Declared.{tag_of}
 use Rattle.trace.specs.declared.EventRead.{EventRead}
 use Rattle.trace.specs.declared.EventRead.TheVariants.{Found, End, NoEvent}
-use Rattle.trace.specs.contracts.EventRead.{the_type}
 use Rattle.trace.specs.Event.{event_reply}
 use Rattle.number.specs.Reply.{accept}
-use Rattle.queue.specs.Contents.{contents_of}
-use Rattle.queue.specs.Parts.{frame_of, queue_of}
 use Rattle.queue.proofs.PartsLaws.{both-whole}
 use Rattle.replay.specs.Events.{events_from}
-use Rattle.replay.specs.Playing.{playing}
 use Rattle.trace.proofs.TraceSteps.{EventGot, event_got, event_end, event_fault}
-use Rattle.replay.proofs.ReplayLaws.{buffers, Walk, walk_none, Room, walk-room, walk-lengths, walk_more, walk_end, walk_no_fault}
+use Rattle.replay.proofs.ReplayLaws.{walk_none, Room, walk-room, walk_more, walk_end, walk_no_fault}
 use Rattle.replay.proofs.replaying.play_all.Goals as goal
 use Rattle.replay.proofs.replaying.play_all.Goals.{After-played}
 
@@ -44,7 +36,7 @@ play_event-step-requires c = both-whole c.loop-event.loads c.loop-event.stores c
 pub put-requires : goal.put-requires
 put-requires c =
     let event : EventGot c.args.trace.now c.loop-event.place c.in-Found.event c.in-Found.next =
-            event_got _ _ (sym c.read_event-read.ensures ∙ ap event_reply c.in-Found.is) in
+    event_got _ _ (sym c.read_event-read.ensures ∙ ap event_reply c.in-Found.is) in
     let room : Room c.loop-event.invariant.0 = walk-room c.loop-event.invariant.0 event in
     let r =
     room in
@@ -53,14 +45,14 @@ put-requires c =
 pub loop-event-smaller : goal.loop-event-smaller
 loop-event-smaller c =
     let event : EventGot c.args.trace.now c.loop-event.place c.in-Found.event c.in-Found.next =
-            event_got _ _ (sym c.read_event-read.ensures ∙ ap event_reply c.in-Found.is) in
+    event_got _ _ (sym c.read_event-read.ensures ∙ ap event_reply c.in-Found.is) in
     let g = event in
     omega (arith, g.later, g.inside)
 
 pub loop-event-preserved : goal.loop-event-preserved
 loop-event-preserved c =
     let event : EventGot c.args.trace.now c.loop-event.place c.in-Found.event c.in-Found.next =
-            event_got _ _ (sym c.read_event-read.ensures ∙ ap event_reply c.in-Found.is) in
+    event_got _ _ (sym c.read_event-read.ensures ∙ ap event_reply c.in-Found.is) in
     let kept = c.play_event-step.auto in (
       walk_more _ c.loop-event.invariant.0 event c.play_event-step.ensures c.put.ensures,
       kept.memory ∙ c.loop-event.invariant.1,

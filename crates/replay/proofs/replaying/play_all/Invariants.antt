@@ -1,33 +1,19 @@
 -- The events up to a place are played and logged; each is read, played on the queue's parts, and put into the buffers.
-use Prim.Native.Nat.{ℕ, ◌-◌}
-use mathlib.Core.Path.{◌≡◌, refl, sym, ap, ◌∙◌}
-use mathlib.Core.List.{[], ◌∷◌}
-use mathlib.Core.Logic.{inl, inr}
-use native.Mathlib.Omega.{arith}
-use borrow.Author.Rules.{rules}
+use Prim.Native.Nat.{◌-◌}
+use mathlib.Core.Path.{◌≡◌}
 use lib.ListN.{length}
-use types.Run.{OneOf}
-use denote.Enum.Declared.{tag_of}
-use Rattle.trace.specs.declared.EventRead.{EventRead}
-use Rattle.trace.specs.declared.EventRead.TheVariants.{Found, End, NoEvent}
-use Rattle.trace.specs.contracts.EventRead.{the_type}
-use Rattle.trace.specs.Event.{event_reply}
-use Rattle.number.specs.Reply.{accept}
 use Rattle.queue.specs.Contents.{contents_of}
 use Rattle.queue.specs.Parts.{frame_of, queue_of}
-use Rattle.queue.proofs.PartsLaws.{both-whole}
-use Rattle.replay.specs.Events.{events_from}
 use Rattle.replay.specs.Playing.{playing}
-use Rattle.trace.proofs.TraceSteps.{EventGot, event_got, event_end, event_fault}
-use Rattle.replay.proofs.ReplayLaws.{buffers, Walk, walk_none, Room, walk-room, walk-lengths, walk_more, walk_end, walk_no_fault}
+use Rattle.replay.proofs.ReplayLaws.{buffers, Walk}
 use Rattle.replay.proofs.replaying.play_all.Given as goal
 
 abbrev pub invariant-loop-event : goal.invariant-loop-event
-invariant-loop-event l =     Walk l.trace l.from
+invariant-loop-event l = Walk l.trace l.from
     (playing (contents_of (queue_of l.frame l.initial.loads l.initial.stores)) l.initial.memory l.initial.counts)
     (buffers l.initial.answers l.initial.given l.initial.values) l.place l.i
     (playing (contents_of (queue_of (frame_of l.outline l.frame.table.groups l.frame.table.loads l.frame.table.stores) l.loads l.stores))
-            l.memory
+    l.memory
     l.counts) (buffers l.answers l.given l.values)
     × (length l.memory ≡ length l.initial.memory) × (length l.loads ≡ 64) × (length l.stores ≡ 64)
 

@@ -1,4 +1,3 @@
-use borrow.Author.Rules.{rules}
 use Rattle.table.specs.Table.{groups_of}
 use Rattle.replay.proofs.PrepareLaws.{prepare-refused, prepare-opened}
 use Rattle.replay.proofs.ReplayLaws.{buffers, unplayed, replay-opened}

@@ -1,12 +1,11 @@
 -- Each turn puts one port's line behind those before it.
-use Prim.Native.Nat.{◌+◌, ◌-◌, ◌*◌, ◌≤◌}
-use mathlib.Core.Path.{◌≡◌, refl, sym}
+use Prim.Native.Nat.{◌+◌, ◌*◌}
+use mathlib.Core.Path.{◌≡◌, sym}
 use native.Mathlib.Omega.{arith}
 use lib.ListN.{length}
 use Rattle.shift.specs.Record.{takes_of}
 use Rattle.shift.specs.Page.{port_line, with_line_feed, value_shown}
-use Rattle.number.proofs.PutLaws.{puts_none}
-use Rattle.shift.proofs.PageLaws.{PutsMany, many-ends, many-long, many-then, many-as, lines_to, lines_next}
+use Rattle.shift.proofs.PageLaws.{many-ends, many-then, many-as, lines_next}
 use Rattle.shift.proofs.page.put_ports.Goals as goal
 
 pub loop-port-preserved : goal.loop-port-preserved

@@ -1,16 +1,12 @@
 -- Each turn puts one port's line behind those before it.
-use Prim.Native.Nat.{◌+◌, ◌-◌, ◌*◌, ◌≤◌}
-use mathlib.Core.Path.{◌≡◌, refl, sym}
-use native.Mathlib.Omega.{arith}
-use lib.ListN.{length}
+use Prim.Native.Nat.{◌-◌, ◌*◌, ◌≤◌}
 use Rattle.shift.specs.Record.{takes_of}
-use Rattle.shift.specs.Page.{port_line, with_line_feed, value_shown}
-use Rattle.number.proofs.PutLaws.{puts_none}
-use Rattle.shift.proofs.PageLaws.{PutsMany, many-ends, many-long, many-then, many-as, lines_to, lines_next}
+use Rattle.shift.specs.Page.{value_shown}
+use Rattle.shift.proofs.PageLaws.{PutsMany, lines_to}
 use Rattle.shift.proofs.page.put_ports.Given as goal
 
 abbrev pub invariant-loop-port : goal.invariant-loop-port
-invariant-loop-port l =     (l.port ≤ 32) × PutsMany l.initial.out l.at (lines_to (takes_of l.kept) (value_shown l.kept) l.port)
+invariant-loop-port l = (l.port ≤ 32) × PutsMany l.initial.out l.at (lines_to (takes_of l.kept) (value_shown l.kept) l.port)
     (41 * l.port) l.place l.out
 
 abbrev pub decreases-loop-port : goal.decreases-loop-port

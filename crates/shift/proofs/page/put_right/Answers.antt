@@ -4,7 +4,7 @@ use mathlib.Core.Path.{◌≡◌, sym, ap, ◌∙◌}
 use native.Mathlib.Omega.{arith}
 use lib.ListN.{length, length-set}
 use borrow.Author.Rules.{rules}
-use Rattle.shift.proofs.DigitLaws.{Righting, righting-start, righting-next, righting-end, splice_over, right_wide}
+use Rattle.shift.proofs.DigitLaws.{righting-start, righting-next, righting-end, splice_over, right_wide}
 use Rattle.shift.proofs.page.put_right.Goals as goal
 
 pub loop-place-init : goal.loop-place-init

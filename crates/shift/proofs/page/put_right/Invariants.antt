@@ -1,10 +1,5 @@
 -- The number goes out from its last digit: what is still to be put, spliced before the writer's place, makes the buffer that is promised.
-use Prim.Native.Nat.{ℕ, ◌+◌, ◌-◌, ◌≤◌, ◌<◌, ◌^◌}
-use mathlib.Core.Path.{◌≡◌, sym, ap, ◌∙◌}
-use native.Mathlib.Omega.{arith}
-use lib.ListN.{length, length-set}
-use borrow.Author.Rules.{rules}
-use Rattle.shift.proofs.DigitLaws.{Righting, righting-start, righting-next, righting-end, splice_over, right_wide}
+use Rattle.shift.proofs.DigitLaws.{Righting}
 use Rattle.shift.proofs.page.put_right.Given as goal
 
 abbrev pub invariant-loop-place : goal.invariant-loop-place

@@ -1,6 +1,5 @@
 -- A port above 31 has no place in either array; else each array changes at one place.
-use mathlib.Core.Path.{◌≡◌, sym}
-use native.Mathlib.Omega.{arith}
+use mathlib.Core.Path.{sym}
 use borrow.Author.Rules.{rules}
 use Rattle.shift.proofs.RecordLaws.{recorded-outside, recorded-set}
 use Rattle.shift.proofs.recording.recorded.Goals as goal

@@ -39,7 +39,7 @@ check_pairs-requires c =
       record {
         inside = i.0;
         few = f.0;
-        few-stores = f.1;
+        few_stores = f.1;
         rising =
             λ e. rising-checked _ _ _ _ _ (pairs-zero _ _ _ _ _ (sym c.check_pairs-answer.ensures.answer ∙ c.if-answer-ne0.false));
       },

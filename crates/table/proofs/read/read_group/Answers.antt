@@ -54,7 +54,7 @@ read_pairs-second-requires c =
       record {
         inside = rw loads.found.pairs (omega (arith, loads-few));
         few = rw loads.found.pairs (loads-few);
-        few-stores = few.1;
+        few_stores = few.1;
         rising = λ z. rw loads.found.holds (rising-checked _ _ _ _ _ loads_right.right);
       },
     )

@@ -110,6 +110,6 @@ returns c =
       found = record {
         pairs = packed _ i places n e.2 e.1 w.packs;
         holds = held-pairs _ i places n e.2 (omega (arith, w.long, n, c.requires.0));
-        marks = w.marks-are;
+        marks = w.marks_are;
       };
     })

@@ -30,22 +30,22 @@ unfolding read_table
 returns-then-fields-ne2 c =
     let fields-got : NumberGot c.args.bytes.now 0 c.in-Number.fields c.in-Number.place =
     number_got _ _ (sym (ap number_reply c.in-Number.is) ∙ c.read_number-read.ensures) in
-    let fields-are : read_number c.args.bytes.now ≡ accept (got c.in-Number.fields (drop c.in-Number.place c.args.bytes.now)) =
+    let fields_are : read_number c.args.bytes.now ≡ accept (got c.in-Number.fields (drop c.in-Number.place c.args.bytes.now)) =
     fields-got.is in
-    rw (c.refused-then-fields-ne2.ensures, fields-are, ne_eqb _ _ c.if-fields-ne2.true)
+    rw (c.refused-then-fields-ne2.ensures, fields_are, ne_eqb _ _ c.if-fields-ne2.true)
 
 pub returns-in_default-read : goal.returns-in_default-read
 unfolding read_table
 returns-in_default-read c =
     let fields-got : NumberGot c.args.bytes.now 0 c.in-Number.fields c.in-Number.place =
     number_got _ _ (sym (ap number_reply c.in-Number.is) ∙ c.read_number-read.ensures) in
-    let fields-are : read_number c.args.bytes.now ≡ accept (got c.in-Number.fields (drop c.in-Number.place c.args.bytes.now)) =
+    let fields_are : read_number c.args.bytes.now ≡ accept (got c.in-Number.fields (drop c.in-Number.place c.args.bytes.now)) =
     fields-got.is in
     let s = c.args.bytes.now in
     rw (
       c.refused-in_default-read.ensures,
       c.number_refusal-in_default-read.ensures ∙ ap number_refusal c.in_default-read.is,
-      fields-are,
+      fields_are,
       eq-eqb _ _ c.if-fields-ne2.false,
       read_refused s (read_number (drop c.in-Number.place s)) (sym (ap number_reply c.in_default-read.is) ∙ c.read_number-read-2.ensures),
     )
@@ -55,24 +55,24 @@ unfolding read_table
 returns-then-count-lt1 c =
     let fields-got : NumberGot c.args.bytes.now 0 c.in-Number.fields c.in-Number.place =
     number_got _ _ (sym (ap number_reply c.in-Number.is) ∙ c.read_number-read.ensures) in
-    let fields-are : read_number c.args.bytes.now ≡ accept (got c.in-Number.fields (drop c.in-Number.place c.args.bytes.now)) =
+    let fields_are : read_number c.args.bytes.now ≡ accept (got c.in-Number.fields (drop c.in-Number.place c.args.bytes.now)) =
     fields-got.is in
     let count-got : NumberGot c.args.bytes.now c.in-Number.place c.in-Number-read.count c.in-Number-read.place =
     number_got _ _ (sym (ap number_reply c.in-Number-read.is) ∙ c.read_number-read-2.ensures) in
-    rw (c.refused-then-count-lt1.ensures, fields-are, eq-eqb _ _ c.if-fields-ne2.false, count-got.is, lt-leb _ _ c.if-count-lt1.true)
+    rw (c.refused-then-count-lt1.ensures, fields_are, eq-eqb _ _ c.if-fields-ne2.false, count-got.is, lt-leb _ _ c.if-count-lt1.true)
 
 pub returns-then-count-gt16 : goal.returns-then-count-gt16
 unfolding read_table
 returns-then-count-gt16 c =
     let fields-got : NumberGot c.args.bytes.now 0 c.in-Number.fields c.in-Number.place =
     number_got _ _ (sym (ap number_reply c.in-Number.is) ∙ c.read_number-read.ensures) in
-    let fields-are : read_number c.args.bytes.now ≡ accept (got c.in-Number.fields (drop c.in-Number.place c.args.bytes.now)) =
+    let fields_are : read_number c.args.bytes.now ≡ accept (got c.in-Number.fields (drop c.in-Number.place c.args.bytes.now)) =
     fields-got.is in
     let count-got : NumberGot c.args.bytes.now c.in-Number.place c.in-Number-read.count c.in-Number-read.place =
     number_got _ _ (sym (ap number_reply c.in-Number-read.is) ∙ c.read_number-read-2.ensures) in
     rw (
       c.refused-then-count-gt16.ensures,
-      fields-are,
+      fields_are,
       eq-eqb _ _ c.if-fields-ne2.false,
       count-got.is,
       le-leb _ _ c.if-count-lt1.false,
@@ -84,13 +84,13 @@ unfolding read_table
 returns-then-groups-ne0 c =
     let fields-got : NumberGot c.args.bytes.now 0 c.in-Number.fields c.in-Number.place =
     number_got _ _ (sym (ap number_reply c.in-Number.is) ∙ c.read_number-read.ensures) in
-    let fields-are : read_number c.args.bytes.now ≡ accept (got c.in-Number.fields (drop c.in-Number.place c.args.bytes.now)) =
+    let fields_are : read_number c.args.bytes.now ≡ accept (got c.in-Number.fields (drop c.in-Number.place c.args.bytes.now)) =
     fields-got.is in
     let count-got : NumberGot c.args.bytes.now c.in-Number.place c.in-Number-read.count c.in-Number-read.place =
     number_got _ _ (sym (ap number_reply c.in-Number-read.is) ∙ c.read_number-read-2.ensures) in
     rw (
       c.refused-then-groups-ne0.ensures,
-      fields-are,
+      fields_are,
       eq-eqb _ _ c.if-fields-ne2.false,
       count-got.is,
       le-leb _ _ c.if-count-lt1.false,
@@ -103,7 +103,7 @@ unfolding read_table
 returns-then-groups-bytes c =
     let fields-got : NumberGot c.args.bytes.now 0 c.in-Number.fields c.in-Number.place =
     number_got _ _ (sym (ap number_reply c.in-Number.is) ∙ c.read_number-read.ensures) in
-    let fields-are : read_number c.args.bytes.now ≡ accept (got c.in-Number.fields (drop c.in-Number.place c.args.bytes.now)) =
+    let fields_are : read_number c.args.bytes.now ≡ accept (got c.in-Number.fields (drop c.in-Number.place c.args.bytes.now)) =
     fields-got.is in
     let count-got : NumberGot c.args.bytes.now c.in-Number.place c.in-Number-read.count c.in-Number-read.place =
     number_got _ _ (sym (ap number_reply c.in-Number-read.is) ∙ c.read_number-read-2.ensures) in
@@ -114,7 +114,7 @@ returns-then-groups-bytes c =
     ≡ length c.args.bytes.now - c.read_groups-groups.result.next = length-drop c.read_groups-groups.result.next c.args.bytes.now in
     rw (
       c.refused-then-groups-bytes.ensures,
-      fields-are,
+      fields_are,
       eq-eqb _ _ c.if-fields-ne2.false,
       count-got.is,
       le-leb _ _ c.if-count-lt1.false,
@@ -129,7 +129,7 @@ unfolding read_table
 returns c =
     let fields-got : NumberGot c.args.bytes.now 0 c.in-Number.fields c.in-Number.place =
     number_got _ _ (sym (ap number_reply c.in-Number.is) ∙ c.read_number-read.ensures) in
-    let fields-are : read_number c.args.bytes.now ≡ accept (got c.in-Number.fields (drop c.in-Number.place c.args.bytes.now)) =
+    let fields_are : read_number c.args.bytes.now ≡ accept (got c.in-Number.fields (drop c.in-Number.place c.args.bytes.now)) =
     fields-got.is in
     let count-got : NumberGot c.args.bytes.now c.in-Number.place c.in-Number-read.count c.in-Number-read.place =
     number_got _ _ (sym (ap number_reply c.in-Number-read.is) ∙ c.read_number-read-2.ensures) in
@@ -139,7 +139,7 @@ returns c =
     let left_over : length (drop c.read_groups-groups.result.next c.args.bytes.now)
     ≡ length c.args.bytes.now - c.read_groups-groups.result.next = length-drop c.read_groups-groups.result.next c.args.bytes.now in
     rw (
-      fields-are,
+      fields_are,
       eq-eqb _ _ c.if-fields-ne2.false,
       count-got.is,
       le-leb _ _ c.if-count-lt1.false,

@@ -36,7 +36,7 @@ def files(root, ending):
 
 
 def is_walk(path):
-    return path.endswith("/Proof.antt")
+    return path.endswith(("/Proof.antt", "/Answers.antt", "/Invariants.antt")) and path.count("/") > 4
 
 
 def declared(text):
@@ -58,6 +58,11 @@ def declared(text):
         inner = re.match(r"  (?:pub )?(" + NAME + r")\s+:(?:\s|$)", line)
         if kind and inner:
             yield inner[1], "constructor" if kind == "data" else "field"
+            continue
+        # within a `module _` or a `where`, where dashes stay
+        nested = re.match(r" +" + HEAD + "(" + NAME + r")\s+:(?:\s|$)", line)
+        if nested and re.search("[a-z][A-Z]", nested[1]):
+            yield nested[1], "definition"
 
 
 def snake(word):

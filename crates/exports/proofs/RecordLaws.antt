@@ -11,7 +11,7 @@ use Rattle.table.specs.TableBytes.{read_table}
 use Rattle.replay.specs.Replay.{Replay}
 use Rattle.replay.proofs.ReplayLaws.{replay_proper}
 use Rattle.table.proofs.Among.{table_among}
-use Rattle.number.proofs.ReplyLaws.{need-accepts, andThen-accepts, refusesAmong, need-among, andThen-among, not_zero, refused_some}
+use Rattle.number.proofs.ReplyLaws.{need-accepts, and_then_accepts, refuses_among, need-among, and_then_among, not_zero, refused_some}
 use Rattle.shift.specs.declared.ShiftRecord.{ShiftRecord}
 use Rattle.paged.specs.Recorded.{record_buffered, trace_events, kept_after}
 use Rattle.paged.proofs.BufferLaws.{buffered_log, replay-events}
@@ -19,17 +19,17 @@ use Rattle.exports.specs.Replay.{Lent, counts_of, replay_lent, LentAfter, lent_a
 
 module _ (table trace : List ℕ) (l : Lent) where
   -- no refusal is 0
-  lent-proper : refusesAmong not_zero (replay_lent table trace l) ≡ true
+  lent-proper : refuses_among not_zero (replay_lent table trace l) ≡ true
   unfolding replay_lent
   lent-proper =
-      andThen-among not_zero (read_table table) _ (table_among not_zero refl table) λ gs.
+      and_then_among not_zero (read_table table) _ (table_among not_zero refl table) λ gs.
       need-among not_zero (leb 2 (length l.counts)) too_short _ refl (replay_proper gs trace l.memory (counts_of l.counts) l.buffers)
 
   -- as many answers as the trace has events
   lent-events : (p : Replay) → replay_lent table trace l ≡ accept p → length p.log ≡ length (trace_events trace)
   unfolding replay_lent
   lent-events p e₀ =
-      let (gs, d, e₁) = andThen-accepts (read_table table) _ e₀ in
+      let (gs, d, e₁) = and_then_accepts (read_table table) _ e₀ in
       let (room, e₂) = need-accepts (leb 2 (length l.counts)) too_short _ e₁ in
       replay-events gs trace l.memory (counts_of l.counts) l.buffers p e₂
 

@@ -12,7 +12,7 @@ use borrow.Author.Tests.{le-leb, lt-leb, eqb-true, eq-eqb, ltb-true, ltb-false, 
 use Rattle.number.specs.Basics.{pick, all_of, count_where, front_while, after_while}
 use Rattle.number.specs.Reply.{need, passed}
 use Rattle.number.specs.Refusal.{bad_counts, bad_port, port_seen}
-use Rattle.number.proofs.ReplyLaws.{refusesAmong, refused-among, need-among, andThen-among, refusal_not_zero}
+use Rattle.number.proofs.ReplyLaws.{refuses_among, refused-among, need-among, and_then_among, refusal_not_zero}
 use Rattle.number.specs.Number.{AreBytes}
 use Rattle.number.proofs.Both.{and_left, and_right}
 use Rattle.ordering.specs.Orders.{times}
@@ -70,12 +70,12 @@ abbrev counts_or_ports : ℕ → Bool
 counts_or_ports n = eqb n bad_counts || (eqb n bad_port || eqb n port_seen)
 
 pairs-agree : (rule : ℕ → ℕ → ℕ → Bool) (low i : ℕ) (seen : List Bool) (ps : List Pair) → Offsets rule low i ps
-    → refusesAmong counts_or_ports (check_pairs rule low i seen ps) ≡ true
+    → refuses_among counts_or_ports (check_pairs rule low i seen ps) ≡ true
 unfolding check_pairs
 pairs-agree rule low i seen [] h = refl
 pairs-agree rule low i seen (p ∷ ps) h =
     rw h.0
-    (andThen-among counts_or_ports (need (leb p.port 31) bad_port (need (not (get_or seen p.port false)) port_seen passed)) _
+    (and_then_among counts_or_ports (need (leb p.port 31) bad_port (need (not (get_or seen p.port false)) port_seen passed)) _
     (need-among counts_or_ports (leb p.port 31) bad_port _ refl (need-among counts_or_ports (not (get_or seen p.port false)) port_seen _ refl refl))
     λ t. pairs-agree rule p.offset (suc i) (set seen p.port true) ps h.1)
 
@@ -115,10 +115,10 @@ unfolding check_table check_groups check_group
 refused_for_counts_or_ports xs k h =
     which (eqb k bad_counts) refl (eqb k bad_port) refl (eqb k port_seen) refl (refused-among counts_or_ports (check_table (with_offsets xs ∷ [])) whole h)
   where
-    loads : refusesAmong counts_or_ports (check_pairs (load_rule (length (with_offsets xs).stores)) 0 0 none_seen.loads (with_offsets xs).loads) ≡ true
+    loads : refuses_among counts_or_ports (check_pairs (load_rule (length (with_offsets xs).stores)) 0 0 none_seen.loads (with_offsets xs).loads) ≡ true
     loads = pairs-agree _ 0 0 _ _ (loads_right xs)
 
-    stores : refusesAmong counts_or_ports (check_pairs (store_rule (with_offsets xs).loads) 0 0 none_seen.stores (with_offsets xs).stores) ≡ true
+    stores : refuses_among counts_or_ports (check_pairs (store_rule (with_offsets xs).loads) 0 0 none_seen.stores (with_offsets xs).stores) ≡ true
     stores = pairs-agree _ 0 0 _ _ (stores_right xs)
 
     which : (a : Bool) → eqb k bad_counts ≡ a → (b : Bool) → eqb k bad_port ≡ b → (c : Bool) → eqb k port_seen ≡ c → a || (b || c) ≡ true
@@ -128,12 +128,12 @@ refused_for_counts_or_ports xs k h =
     which false d false e true f t = inr (inr (eqb-true k port_seen f))
     which false d false e false f t = absurd (false≢true t)
 
-    whole : refusesAmong counts_or_ports (check_table (with_offsets xs ∷ [])) ≡ true
+    whole : refuses_among counts_or_ports (check_table (with_offsets xs ∷ [])) ≡ true
     whole =
         let g = with_offsets xs in
-        andThen-among counts_or_ports (check_group none_seen g) _
+        and_then_among counts_or_ports (check_group none_seen g) _
         (need-among counts_or_ports (counts_right (length g.loads) (length g.stores)) bad_counts _ refl
-        (andThen-among counts_or_ports (check_pairs (load_rule (length g.stores)) 0 0 none_seen.loads g.loads) _ loads λ t. stores))
+        (and_then_among counts_or_ports (check_pairs (load_rule (length g.stores)) 0 0 none_seen.loads g.loads) _ loads λ t. stores))
         λ t. refl
 
 -- ---- a right table

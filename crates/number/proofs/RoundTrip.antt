@@ -15,7 +15,7 @@ use Rattle.number.specs.Number.{Got, got, above, number_up_to, read_number, plac
 use Rattle.number.specs.Number.{bytes_up_to, number_bytes, bytes_of, Fit, fit_none, fit_one, is_byte, AreBytes}
 use Rattle.number.specs.Number.{WrittenAreBytes, NumbersReadBack, NumbersAreWritten, PaddingIsRefused, FewestBytes}
 use Rattle.number.proofs.Both.{and_left, and_right}
-use Rattle.number.proofs.ReplyLaws.{refused-accepted, of_read, need-accepts, thenRead-accepts, refusesAmong, refused-among, need-among, thenRead-among}
+use Rattle.number.proofs.ReplyLaws.{refused-accepted, of_read, need-accepts, then_read_accepts, refuses_among, refused-among, need-among, then_read_among}
 use Rattle.number.proofs.NumberLaws.{bound_of, number_bound, bound_least, place_drop}
 
 -- ---- what is read
@@ -95,7 +95,7 @@ bytes_read (suc more) top (b ∷ s) {n} {rest} e = go (ltb b 128) refl (λ m r d
         → pick t (accept (got b s)) (above (b - 128) (number_up_to more top s)) ≡ accept (got n rest) → BytesRead (suc more) top (b ∷ s) n rest
     go true k ih d = of_read (BytesRead _ _ _) d (one_byte (suc more) top b s (omega (arith, ltb-true b 128 k, bound_least top more)) (rw k))
     go false k ih d =
-        let (m, r, f, g) = thenRead-accepts (number_up_to more top s) (λ x l. accept (got (b - 128 + 128 * x) l)) d in
+        let (m, r, f, g) = then_read_accepts (number_up_to more top s) (λ x l. accept (got (b - 128 + 128 * x) l)) d in
         of_read (BytesRead _ _ _) g (byte_more more top b s m r (ltb-false b 128 k) (ih m r f))
 
 -- a number that was read passed 1 and 2, and is not padded
@@ -103,7 +103,7 @@ read_accepts : (s : List ℕ) {n : ℕ} {rest : List ℕ} → read_number s ≡ 
     → (number_up_to 4 15 s ≡ accept (got n rest)) × (padded (bytes_before s rest) ≡ false)
 unfolding read_number
 read_accepts s {n} {rest} e =
-    let (m, r, f, g) = thenRead-accepts (number_up_to 4 15 s) _ e in
+    let (m, r, f, g) = then_read_accepts (number_up_to 4 15 s) _ e in
     let (t, h) = need-accepts (not (padded (bytes_before s r))) padded_number (accept (got m r)) g in
     let q : r ≡ rest = cc in
     (f ∙ h, ap (λ (l : List ℕ). padded (bytes_before s l)) (sym q) ∙ not-true (padded (bytes_before s r)) t)
@@ -208,20 +208,20 @@ numbers_are_written s rest n a = (
 
 -- ---- the numbers that reading refuses with: 1, 2 and 42
 module _ (among : ℕ → Bool) (one : among ended ≡ true) (two : among too_large ≡ true) where
-  up-to-among : (more : ℕ) (s : List ℕ) → refusesAmong among (number_up_to more 15 s) ≡ true
+  up-to-among : (more : ℕ) (s : List ℕ) → refuses_among among (number_up_to more 15 s) ≡ true
   unfolding number_up_to
   up-to-among more [] = one
   up-to-among zero (b ∷ s) = need-among among (leb b 15) too_large (accept (got b s)) two refl
   up-to-among (suc more) (b ∷ s) = go (ltb b 128) (up-to-among more s)
     where
-      go : (t : Bool) → refusesAmong among (number_up_to more 15 s) ≡ true
-          → refusesAmong among (pick t (accept (got b s)) (above (b - 128) (number_up_to more 15 s))) ≡ true
+      go : (t : Bool) → refuses_among among (number_up_to more 15 s) ≡ true
+          → refuses_among among (pick t (accept (got b s)) (above (b - 128) (number_up_to more 15 s))) ≡ true
       go true h = refl
-      go false h = thenRead-among among (number_up_to more 15 s) _ h λ n rest. refl
+      go false h = then_read_among among (number_up_to more 15 s) _ h λ n rest. refl
 
-  pub number-among : among padded_number ≡ true → (s : List ℕ) → refusesAmong among (read_number s) ≡ true
+  pub number-among : among padded_number ≡ true → (s : List ℕ) → refuses_among among (read_number s) ≡ true
   unfolding read_number
-  number-among padding s = thenRead-among among (number_up_to 4 15 s) _ (up-to-among 4 s) λ n rest.
+  number-among padding s = then_read_among among (number_up_to 4 15 s) _ (up-to-among 4 s) λ n rest.
       need-among among (not (padded (bytes_before s rest))) padded_number (accept (got n rest)) padding refl
 
 -- ---- padding
@@ -292,7 +292,7 @@ pub record NumberGot (s : List ℕ) (place v next : ℕ) : Type 0 where
 
 pub number_got : (s : List ℕ) (place : ℕ) {v next : ℕ} → accept (reading v next) ≡ read_in s (read_number (drop place s)) → NumberGot s place v next
 number_got s place {v} {next} e =
-    let (n, rest, f, g) = thenRead-accepts (read_number (drop place s)) (λ a l. accept (reading a (place_of s l))) (sym e) in
+    let (n, rest, f, g) = then_read_accepts (read_number (drop place s)) (λ a l. accept (reading a (place_of s l))) (sym e) in
     let w = number_left (drop place s) f in
     let r : rest ≡ drop (place + w.front) s = sym w.is ∙ drop-drop w.front place s in
     let l : length s - place ≡ w.front + length rest = sym (length-drop place s) ∙ w.whole in

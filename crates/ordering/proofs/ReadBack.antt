@@ -12,10 +12,10 @@ use borrow.Author.Tests.{leb-true, eqb-true, eq-eqb}
 use Rattle.number.specs.Basics.{pick}
 use Rattle.number.specs.Reply.{Reply, refuse, accept}
 use Rattle.number.specs.Refusal.{unlisted, circle}
-use Rattle.number.proofs.ReplyLaws.{need-accepts, have-accepts, refusesAmong, need-among, have-among, not_zero, refusal_not_zero}
+use Rattle.number.proofs.ReplyLaws.{need-accepts, have-accepts, refuses_among, need-among, have-among, not_zero, refusal_not_zero}
 use Rattle.ordering.specs.declared.Precedence.{Precedence}
 use Rattle.ordering.specs.Orders.{asks}
-use Rattle.ordering.specs.Answer.{Waiting, without, followed, next, arrange, allListed, answer}
+use Rattle.ordering.specs.Answer.{Waiting, without, followed, next, arrange, all_listed, answer}
 use Rattle.ordering.specs.Records.{blank_precedence, precedences_of, PairsCounted, PairsInPlace, PairsAsk, RefusalsHoldNothing}
 use Rattle.ordering.specs.Records.{ordered, order_in, reply_of, AnswersReadBack, OrdersAreWhole, RecordsJustAnswered}
 use Rattle.ordering.proofs.RecordLaws.{pairs-length, pair-here}
@@ -42,16 +42,16 @@ module _ (n : ℕ) (pairs : List Precedence) where
   accepted-length order h =
       let (few, h) = need-accepts (leb n 32) unlisted _ h in
       let (_, h) = need-accepts (leb (length pairs) 64) unlisted _ h in
-      let (_, h) = need-accepts (allListed n pairs) unlisted _ h in
+      let (_, h) = need-accepts (all_listed n pairs) unlisted _ h in
       let (found, is, e) = have-accepts (arrange n pairs n (λ a. ltb a n)) circle accept h in
       let same : found ≡ order = cc in
       (leb-true n 32 few, ap length (sym same) ∙ arrange-length n (λ a. ltb a n) found is)
 
-  pub no-refusal-is-zero : refusesAmong not_zero (answer n pairs) ≡ true
+  pub no-refusal-is-zero : refuses_among not_zero (answer n pairs) ≡ true
   no-refusal-is-zero =
       need-among not_zero (leb n 32) unlisted _ refl
       (need-among not_zero (leb (length pairs) 64) unlisted _ refl
-      (need-among not_zero (allListed n pairs) unlisted _ refl
+      (need-among not_zero (all_listed n pairs) unlisted _ refl
       (have-among not_zero (arrange n pairs n (λ a. ltb a n)) circle accept refl λ order. refl)))
 
 pub orders_are_whole : OrdersAreWhole

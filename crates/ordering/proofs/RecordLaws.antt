@@ -14,7 +14,7 @@ use Rattle.number.proofs.Both.{and_left, and_right}
 use Rattle.number.proofs.HeldLaws.{held-here, held-length}
 use Rattle.ordering.specs.declared.Precedence.{Precedence}
 use Rattle.ordering.specs.declared.Precedences.{Precedences}
-use Rattle.ordering.specs.Answer.{allListed, arranged, answer}
+use Rattle.ordering.specs.Answer.{all_listed, arranged, answer}
 use Rattle.ordering.specs.Records.{blank_precedence, precedences_of}
 
 module _ (pairs : Precedences) where
@@ -28,7 +28,7 @@ module _ (pairs : Precedences) where
   take-pairs i low = take-suc (precedences_of pairs) i blank_precedence (rw pairs-length low) ∙ rw (pair-here i low)
 
   -- what 43 has ruled out, of one pair
-  pub listed_here : (n i : ℕ) → allListed n (precedences_of pairs) ≡ true → i < pairs.count
+  pub listed_here : (n i : ℕ) → all_listed n (precedences_of pairs) ≡ true → i < pairs.count
       → ((get_or pairs.pairs i blank_precedence).first < n) × ((get_or pairs.pairs i blank_precedence).second < n)
   listed_here n i h low =
       let p = get_or pairs.pairs i blank_precedence in
@@ -46,8 +46,8 @@ module _ (n : ℕ) (pairs : List Precedence) where
     answer-long long = rw (le-leb n 32 few, lt-leb (length pairs) 64 long)
 
     module _ (short : length pairs ≤ 64) where
-      pub answer-outside : allListed n pairs ≡ false → answer n pairs ≡ refuse unlisted
+      pub answer-outside : all_listed n pairs ≡ false → answer n pairs ≡ refuse unlisted
       answer-outside e = rw (le-leb n 32 few, le-leb (length pairs) 64 short, e)
 
-      pub answer-listed : allListed n pairs ≡ true → answer n pairs ≡ arranged n pairs
+      pub answer-listed : all_listed n pairs ≡ true → answer n pairs ≡ arranged n pairs
       answer-listed e = rw (le-leb n 32 few, le-leb (length pairs) 64 short, e)

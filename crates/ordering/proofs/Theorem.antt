@@ -14,7 +14,7 @@ use Rattle.number.proofs.Both.{and_left, and_right}
 use Rattle.number.proofs.ReplyLaws.{refused-accepted}
 use Rattle.ordering.specs.declared.Precedence.{Precedence}
 use Rattle.ordering.specs.Orders.{asks, Respects, AtMost, First, Chain, one, more, Circle, NamesUnlisted, Outside}
-use Rattle.ordering.specs.Answer.{Waiting, allListed, answer}
+use Rattle.ordering.specs.Answer.{Waiting, all_listed, answer}
 use Rattle.ordering.specs.Theorems.{AllJustAnswered, NeverBoth, OneOfBoth, SameAsked}
 use Rattle.ordering.proofs.Tests.{false-true, or_true, tally_all}
 use Rattle.ordering.proofs.Circles.{circle-no-order}
@@ -37,7 +37,7 @@ at_most_both (x ∷ xs) (y ∷ ys) h k = go h k (λ h k. at_most_both xs ys h k)
 
 -- ---- pairs that name accesses not listed
 
-listed_asked : (n a b : ℕ) (pairs : List Precedence) → allListed n pairs ≡ true → asks pairs a b ≡ true → (ltb a n ≡ true) × (ltb b n ≡ true)
+listed_asked : (n a b : ℕ) (pairs : List Precedence) → all_listed n pairs ≡ true → asks pairs a b ≡ true → (ltb a n ≡ true) × (ltb b n ≡ true)
 listed_asked n a b [] h k = false-true k
 listed_asked n a b (p ∷ ps) h k =
     go (eqb p.first a && eqb p.second b) refl k (λ k. listed_asked n a b ps (and_right (ltb p.first n && ltb p.second n) _ h) k)
@@ -51,20 +51,20 @@ listed_asked n a b (p ∷ ps) h k =
           rw (eqb-true p.second b (and_right (eqb p.first a) _ e)) at (and_right (ltb p.first n) _ both),
         )
 
-unlisted-named : (n : ℕ) (pairs : List Precedence) → allListed n pairs ≡ false → NamesUnlisted n pairs
+unlisted-named : (n : ℕ) (pairs : List Precedence) → all_listed n pairs ≡ false → NamesUnlisted n pairs
 unlisted-named n [] h = false-true (sym h)
 unlisted-named n (p ∷ ps) h = go (ltb p.first n) refl (ltb p.second n) refl h (λ h. unlisted-named n ps h)
   where
     named : asks (p ∷ ps) p.first p.second ≡ true
     named = rw (eq-eqb p.first p.first refl, eq-eqb p.second p.second refl)
 
-    go : (s : Bool) → ltb p.first n ≡ s → (t : Bool) → ltb p.second n ≡ t → (s && t) && allListed n ps ≡ false
-        → (allListed n ps ≡ false → NamesUnlisted n ps) → NamesUnlisted n (p ∷ ps)
+    go : (s : Bool) → ltb p.first n ≡ s → (t : Bool) → ltb p.second n ≡ t → (s && t) && all_listed n ps ≡ false
+        → (all_listed n ps ≡ false → NamesUnlisted n ps) → NamesUnlisted n (p ∷ ps)
     go false e t d h rest = (p.first, p.second, named, inl (ltb-false p.first n e))
     go true e false d h rest = (p.first, p.second, named, inr (ltb-false p.second n d))
     go true e true d h rest = let (a, b, k, o) = rest h in (a, b, rw k (or_true (eqb p.first a && eqb p.second b)), o)
 
-listed_none_named : (n : ℕ) (pairs : List Precedence) → allListed n pairs ≡ true → NamesUnlisted n pairs → ⊥
+listed_none_named : (n : ℕ) (pairs : List Precedence) → all_listed n pairs ≡ true → NamesUnlisted n pairs → ⊥
 listed_none_named n pairs h (a, b, k, o) = let (la, lb) = listed_asked n a b pairs h k in go (ltb-true a n la) (ltb-true b n lb) o
   where
     go : a < n → b < n → (n ≤ a) ⊎ (n ≤ b) → ⊥
@@ -80,7 +80,7 @@ module _ (n : ℕ) (pairs : List Precedence) where
   outcome : Outcome n pairs n everyone
   outcome = arrange-outcome n pairs n everyone (λ a h. ltb-true a n h) (tally_all n n (omega arith))
 
-  arranged-respects : allListed n pairs ≡ true → (order : List ℕ) → Arranged pairs everyone order → Respects n pairs order
+  arranged-respects : all_listed n pairs ≡ true → (order : List ℕ) → Arranged pairs everyone order → Respects n pairs order
   arranged-respects listed order h = record {
     once = exhausts-times everyone order (arranged-exhausts pairs everyone order h);
     before = λ a b k.
@@ -88,7 +88,7 @@ module _ (n : ℕ) (pairs : List Precedence) where
         arranged-ordered pairs everyone order h a b la lb k;
   }
 
-  arranged-is-first : allListed n pairs ≡ true → (order : List ℕ) → Arranged pairs everyone order → First n pairs order
+  arranged-is-first : all_listed n pairs ≡ true → (order : List ℕ) → Arranged pairs everyone order → First n pairs order
   arranged-is-first listed order h = record {
     respects = arranged-respects listed order h;
     least = λ other r. arranged-first pairs everyone order other h (times-exhausts everyone other r.once) (λ a b la lb k. r.before a b k);
@@ -100,15 +100,15 @@ module _ (n : ℕ) (pairs : List Precedence) where
     given : (Outside n pairs → ⊥) → (order : List ℕ) → answer n pairs ≡ accept order → First n pairs order → Case
     round : (Outside n pairs → ⊥) → answer n pairs ≡ refuse circle → Circle pairs → Case
 
-  inside : leb n 32 ≡ true → leb (length pairs) 64 ≡ true → allListed n pairs ≡ true → Outside n pairs → ⊥
+  inside : leb n 32 ≡ true → leb (length pairs) 64 ≡ true → all_listed n pairs ≡ true → Outside n pairs → ⊥
   inside few short listed (inl wide) = let low = leb-true n 32 few in omega arith
   inside few short listed (inr (inl long)) = let low = leb-true (length pairs) 64 short in omega arith
   inside few short listed (inr (inr named)) = listed_none_named n pairs listed named
 
   which : Case
-  which = go (leb n 32) refl (leb (length pairs) 64) refl (allListed n pairs) refl outcome
+  which = go (leb n 32) refl (leb (length pairs) 64) refl (all_listed n pairs) refl outcome
     where
-      go : (s : Bool) → leb n 32 ≡ s → (t : Bool) → leb (length pairs) 64 ≡ t → (u : Bool) → allListed n pairs ≡ u → Outcome n pairs n everyone → Case
+      go : (s : Bool) → leb n 32 ≡ s → (t : Bool) → leb (length pairs) 64 ≡ t → (u : Bool) → all_listed n pairs ≡ u → Outcome n pairs n everyone → Case
       go false few t short u listed o = outside (inl (leb-false n 32 few)) (rw few)
       go true few false short u listed o = outside (inr (inl (leb-false (length pairs) 64 short))) (rw (few, short))
       go true few true short false listed o = outside (inr (inr (unlisted-named n pairs listed))) (rw (few, short, listed))
@@ -175,9 +175,9 @@ pub never_both : NeverBoth
 never_both n pairs order r l = circle-no-order pairs n order r l
 
 pub one_of_both : OneOfBoth
-one_of_both n pairs none_named = go (allListed n pairs) refl (outcome n pairs)
+one_of_both n pairs none_named = go (all_listed n pairs) refl (outcome n pairs)
   where
-    go : (t : Bool) → allListed n pairs ≡ t → Outcome n pairs n (everyone n pairs) → ((order : List ℕ) × First n pairs order) ⊎ Circle pairs
+    go : (t : Bool) → all_listed n pairs ≡ t → Outcome n pairs n (everyone n pairs) → ((order : List ℕ) × First n pairs order) ⊎ Circle pairs
     go false e o = absurd (none_named (unlisted-named n pairs e))
     go true e (arranged order is h) = inl (order, arranged-is-first n pairs e order h)
     go true e (stuck is l) = inr l

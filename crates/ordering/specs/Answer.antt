@@ -46,9 +46,9 @@ module _ (n : ℕ) (pairs : List Precedence) where
   arranged = have (arrange n (λ a. ltb a n)) circle accept
 
   -- both accesses of every pair are listed
-  abbrev pub allListed : Bool
-  allListed = all_of (λ p. ltb p.first n && ltb p.second n) pairs
+  abbrev pub all_listed : Bool
+  all_listed = all_of (λ p. ltb p.first n && ltb p.second n) pairs
 
   -- "43: more than 32 accesses or 64 pairs, or a pair naming an access not listed; 44: a circle, after 43"
   abbrev pub answer : Reply (List ℕ)
-  answer = need (leb n 32) unlisted (need (leb (length pairs) 64) unlisted (need allListed unlisted arranged))
+  answer = need (leb n 32) unlisted (need (leb (length pairs) 64) unlisted (need all_listed unlisted arranged))

@@ -2,14 +2,14 @@
 use Rattle.std.specs.Prelude.{ℕ, ◌≤◌, ◌<◌, ◌≡◌, Bool, true, false, not, ◌&&◌, List, ltb, get_or}
 use Rattle.ordering.specs.declared.Precedence.{Precedence}
 use Rattle.ordering.specs.declared.Precedences.{Precedences}
-use Rattle.ordering.specs.Answer.{Waiting, ready, allListed}
+use Rattle.ordering.specs.Answer.{Waiting, ready, all_listed}
 use Rattle.ordering.specs.Records.{precedences_of}
 
 -- what 43 has ruled out
 pub record Listed (n : ℕ) (pairs : Precedences) : Type 0 where
   pub few : n ≤ 32
   pub count : pairs.count ≤ 64
-  pub within : allListed n (precedences_of pairs) ≡ true
+  pub within : all_listed n (precedences_of pairs) ≡ true
 
 -- the accesses below n whose mark is not set
 abbrev pub waits : ℕ → List Bool → Waiting

@@ -4,7 +4,7 @@
 
 ghost use Rattle.std.specs.Prelude.{◌≡◌, ◌≤◌, ◌<◌};
 ghost use Rattle.number.specs.Reply.{refuse};
-ghost use Rattle.ordering.specs.Answer.{answer, allListed, seek, next, arranged};
+ghost use Rattle.ordering.specs.Answer.{answer, all_listed, seek, next, arranged};
 ghost use Rattle.ordering.specs.Records.{precedences_of, ordered};
 ghost use Rattle.ordering.specs.Internal.{Listed, waits, unmarked, Unready};
 
@@ -55,7 +55,7 @@ fn refused(number: u8) -> Ordered
 // Does every pair name two of the accesses?
 fn all_listed(accesses: usize, pairs: Precedences) -> bool
     requires { pairs.count ≤ 64 }
-    ensures { result ≡ allListed accesses (precedences_of pairs) }
+    ensures { result ≡ all_listed accesses (precedences_of pairs) }
 {
     let count = pairs.count as usize;
     let mut i: usize = 0;

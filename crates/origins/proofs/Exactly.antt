@@ -20,7 +20,7 @@ use Rattle.queue.specs.declared.Kind.TheVariants.{Load}
 use Rattle.queue.specs.Entry.{Entry, with_before}
 use Rattle.queue.specs.Contents.{after, place_of, others_before}
 use Rattle.queue.specs.Serve.{Source, source, loaded_from}
-use Rattle.queue.proofs.Lists.{getElem?-short}
+use Rattle.queue.proofs.Lists.{get_elem?-short}
 use Rattle.sequential.specs.Calls.{Call}
 use Rattle.sequential.specs.Answers.{Machine, answers, machine_after}
 use Rattle.sequential.specs.Plain.{accesses, Filling}
@@ -61,7 +61,7 @@ pub serves_name_loads : ServesNameLoads
 serves_name_loads groups memory m o calls serial small past =
     let p = past_serve (machine_after m calls).queue (machine_after m calls).memory serial past in
     let (pre, it, post, l) = locate loads stores loads-stores (reached o calls).holds.windows (place_of (machine_after m calls).queue.loads serial) p.at in
-    let inside = getElem?-short (machine_after m calls).queue.loads.entries (place_of (machine_after m calls).queue.loads serial) p.at in (
+    let inside = get_elem?-short (machine_after m calls).queue.loads.entries (place_of (machine_after m calls).queue.loads serial) p.at in (
       length (own_in loads pre),
       record { activated = omega (arith, numbered o calls l); latest = omega (arith, numbered o calls l, few o calls) },
       serial_of_load o.first (total o calls) (machine_after m calls).queue.loads.next (length (machine_after m calls).queue.loads.entries)
@@ -89,7 +89,7 @@ module _ {groups : List GroupPairs} {memory : List ℕ} {m : Machine} (o : Openi
       → length (own_in loads pre) ≡ n
   is-nth {i} {pre} place at l =
       number_of o.first n (total o calls) left.queue.loads.next (length left.queue.loads.entries) i (length (own_in loads pre))
-      ((reached-counted o calls).next Load) named.activated named.latest (few o calls) (getElem?-short left.queue.loads.entries i at)
+      ((reached-counted o calls).next Load) named.activated named.latest (few o calls) (get_elem?-short left.queue.loads.entries i at)
       (numbered o calls l) place
 
   -- the load that the serve finds: its place in the log, its address, and that the answer is that of its source there
@@ -126,24 +126,24 @@ module _ {groups : List GroupPairs} {memory : List ℕ} {m : Machine} (o : Openi
           }
 
   -- where it stops, and what follows
-  abbrev sourceFound : Found → Source
-  sourceFound f = source f.address (own_in stores f.pre)
+  abbrev source_found : Found → Source
+  source_found f = source f.address (own_in stores f.pre)
 
-  settled-or-waits : (f : Found) → (is_settled (sourceFound f) ≡ true) ⊎ (serve_of_nth left o.first n ≡ earlier_store_unknown)
-  settled-or-waits f = go (is_settled (sourceFound f)) refl
+  settled-or-waits : (f : Found) → (is_settled (source_found f) ≡ true) ⊎ (serve_of_nth left o.first n ≡ earlier_store_unknown)
+  settled-or-waits f = go (is_settled (source_found f)) refl
     where
-      go : (t : Bool) → is_settled (sourceFound f) ≡ t → (is_settled (sourceFound f) ≡ true) ⊎ (serve_of_nth left o.first n ≡ earlier_store_unknown)
+      go : (t : Bool) → is_settled (source_found f) ≡ t → (is_settled (source_found f) ≡ true) ⊎ (serve_of_nth left o.first n ≡ earlier_store_unknown)
       go true e = inl e
-      go false e = inr (f.answer ∙ unsettled-waits left.memory f.address (sourceFound f) e)
+      go false e = inr (f.answer ∙ unsettled-waits left.memory f.address (source_found f) e)
 
-  one-origin : (f : Found) → is_settled (sourceFound f) ≡ true → (one other : Filling)
+  one-origin : (f : Found) → is_settled (source_found f) ≡ true → (one other : Filling)
       → origin_of groups memory (told (answers m calls)) one n ≡ origin_of groups memory (told (answers m calls)) other n
   one-origin f e one other = rw f.nth at (settled_same st f.place f.addressed e one other)
 
   two-origins : (f : Found) → serve_of_nth left o.first n ≡ earlier_store_unknown → 2 ≤ length memory → TwoOrigins groups memory (told (answers m calls)) n
   two-origins f e two =
       rw f.nth at
-      (unsettled-differ st f.place f.addressed (waits-unsettled left.memory f.address (sourceFound f) (sym f.answer ∙ e)) two)
+      (unsettled-differ st f.place f.addressed (waits-unsettled left.memory f.address (source_found f) (sym f.answer ∙ e)) two)
 
 pub served_one_origin : ServedOneOrigin
 served_one_origin groups memory m o calls n named past served one other one-low other-low = go (settled-or-waits o calls n named f)
@@ -151,7 +151,7 @@ served_one_origin groups memory m o calls n named past served one other one-low 
     f : Found o calls n named
     f = found o calls n named past
 
-    go : (is_settled (sourceFound o calls n named f) ≡ true) ⊎ (serve_of_nth (machine_after m calls) o.first n ≡ earlier_store_unknown)
+    go : (is_settled (source_found o calls n named f) ≡ true) ⊎ (serve_of_nth (machine_after m calls) o.first n ≡ earlier_store_unknown)
         → origin_of groups memory (told (answers m calls)) one n ≡ origin_of groups memory (told (answers m calls)) other n
     go (inl e) = one-origin o calls n named f e one other
     go (inr e) = absurd (served e)
@@ -164,7 +164,7 @@ serves-exactly groups memory m o two calls n named past = (λ e. two-origins o c
     f = found o calls n named past
 
     go : TwoOrigins groups memory (told (answers m calls)) n
-        → (is_settled (sourceFound o calls n named f) ≡ true) ⊎ (serve_of_nth (machine_after m calls) o.first n ≡ earlier_store_unknown)
+        → (is_settled (source_found o calls n named f) ≡ true) ⊎ (serve_of_nth (machine_after m calls) o.first n ≡ earlier_store_unknown)
         → serve_of_nth (machine_after m calls) o.first n ≡ earlier_store_unknown
     go t (inl e) = absurd (t.differ (one-origin o calls n named f e t.one t.other))
     go t (inr e) = e

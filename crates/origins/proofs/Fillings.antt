@@ -16,7 +16,7 @@ use Rattle.queue.specs.Touch.{same, apart, touch}
 use Rattle.queue.specs.Serve.{Source, unsettled, from_store, from_memory, decided}
 use Rattle.queue.proofs.Lists.{false-true}
 use Rattle.queue.proofs.SourceLaws.{past_store, source_from}
-use Rattle.sequential.specs.Plain.{Rows, Filling, next_of, memoryFrom}
+use Rattle.sequential.specs.Plain.{Rows, Filling, next_of, memory_from}
 use Rattle.sequential.proofs.Log.{LogEntry, of_load, of_store, access_of, stores, own_in}
 use Rattle.sequential.proofs.Rows.{Row, given, fed, AllRows, rows_after_load, rows_after_store, store-fits, eqb_self}
 use Rattle.origins.specs.Origins.{Origin, opening, by, origin_reading}
@@ -55,7 +55,7 @@ store-filled s es rows filled h is = none_given StoreAddress s.port (of_store s)
 module _ (a end : ℕ) where
   -- what the run leaves at the address
   abbrev pub left : Filling → ℕ → List Origin → Rows → List LogEntry → Origin
-  left fill k s rows pre = get_or (memoryFrom (origin_reading end) fill k (state s rows) (map access_of pre)) a (opening end)
+  left fill k s rows pre = get_or (memory_from (origin_reading end) fill k (state s rows) (map access_of pre)) a (opening end)
 
   -- ---- settled: one origin
 

@@ -12,7 +12,7 @@ use Rattle.queue.specs.Contents.{after, place_of, others_before}
 use Rattle.queue.specs.Serve.{Served}
 use Rattle.queue.proofs.Accepted.{MayServe, Serving, serve_accepts}
 use Rattle.sequential.specs.Answers.{Machine, Answered, answers, machine_after}
-use Rattle.sequential.specs.Plain.{Rows, rows_of, Filling, next_of, word_reading, plain_start, memoryFrom}
+use Rattle.sequential.specs.Plain.{Rows, rows_of, Filling, next_of, word_reading, plain_start, memory_from}
 use Rattle.sequential.specs.Demand3.{told}
 use Rattle.sequential.proofs.Log.{LogEntry, of_load, of_store, access_of, loads, stores, own_in, loads-stores}
 use Rattle.sequential.proofs.Lanes.{cell_at}
@@ -25,14 +25,14 @@ use Rattle.sequential.proofs.Steps.Serve.{right-served, served-cells, served-row
 use Rattle.origins.specs.Origins.{Origin, origin_of, origins_loaded, loaded, word_of}
 use Rattle.origins.specs.Exactly.{ServesGiveWords}
 use Rattle.origins.proofs.Past.{state, rows_after}
-use Rattle.origins.proofs.Words.{wordsLoaded, loads-give-words}
+use Rattle.origins.proofs.Words.{words_loaded, loads-give-words}
 use Rattle.origins.proofs.Loaded.{some_same, loads-there, origin-there}
 use Rattle.origins.proofs.Exactly.{is-nth}
 
 -- ---- every cell agrees at an entry of the log too
 
 cellwise_past : (fill : Filling) (pre rest : List LogEntry) (k : ℕ) (v : ℕ → ℕ → ℕ) (n : List ℕ) (rows : Rows) → AllRows (pre ++ rest) rows
-    → Cellwise v n (pre ++ rest) → (v' : ℕ → ℕ → ℕ) × Cellwise v' (memoryFrom word_reading fill k (state n rows) (map access_of pre)) rest
+    → Cellwise v n (pre ++ rest) → (v' : ℕ → ℕ → ℕ) × Cellwise v' (memory_from word_reading fill k (state n rows) (map access_of pre)) rest
 cellwise_past fill [] rest k v n rows h g = (v, g)
 cellwise_past fill (of_load l ∷ pre) rest k v n rows h g =
     cellwise_past fill pre rest (suc k) v n (rows_after (access_of (of_load l)) rows) (rows_after_load l (pre ++ rest) rows h) (λ b j low lane. (g b j low lane).1)
@@ -59,7 +59,7 @@ module _ {groups : List GroupPairs} {memory : List ℕ} {answered : List Answere
     (l : Located loads stores inv.log m.queue.loads.entries m.queue.stores.entries i pre it post)
     (s : Serving m.queue m.memory (with_before l.number it)) (fill : Filling) where
   abbrev memory-there : List ℕ
-  memory-there = memoryFrom word_reading fill 0 (plain_start memory (told answered)) (map access_of pre)
+  memory-there = memory_from word_reading fill 0 (plain_start memory (told answered)) (map access_of pre)
 
   -- it gets the word that the plain run has there
   given-there : s.loaded.value ≡ get_or memory-there s.may.address 0
@@ -85,7 +85,7 @@ module _ {groups : List GroupPairs} {memory : List ℕ} {answered : List Answere
   word-there x e =
       let n = length (own_in loads pre) in
       let origin = nth-map (word_of groups memory (told answered) fill) (map loaded (origins_loaded groups memory (told answered) fill)) n e in
-      let word = nth-map (λ (w : ℕ). some w) (map loaded (wordsLoaded groups memory (told answered) fill)) n
+      let word = nth-map (λ (w : ℕ). some w) (map loaded (words_loaded groups memory (told answered) fill)) n
       (loads-there inv l s.may.addressed word_reading memory fill) in
       some_same (sym origin ∙ ap (λ (r : List (Option ℕ)). get_elem? r n) (loads-give-words groups memory (told answered) fill) ∙ word)
       ∙ ap some (sym given-there)

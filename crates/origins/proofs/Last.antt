@@ -12,7 +12,7 @@ use borrow.Author.Tests.{eqb-true, eqb-false}
 use Rattle.number.specs.Basics.{pick}
 use Rattle.table.specs.Group.{Access, load, store}
 use Rattle.queue.specs.declared.arguments.Argument.TheVariants.{LoadAddress, StoreAddress}
-use Rattle.sequential.specs.Plain.{Rows, rows_of, Filling, next_of, memoryFrom}
+use Rattle.sequential.specs.Plain.{Rows, rows_of, Filling, next_of, memory_from}
 use Rattle.origins.specs.Origins.{Origin, opening, by, origin_reading, openings, origin_of, used_by, store_uses, is_at, last_to, stores_at, OriginsAreLast}
 use Rattle.origins.proofs.Past.{state, rows_after, store-after, nth-loads}
 
@@ -27,7 +27,7 @@ get_d_put s b a x d low = go (eqb b a) refl
 module _ (fill : Filling) (a end : ℕ) (address : ℕ → Option ℕ) where
   last-from : (k : ℕ) (s : List Origin) (rows : Rows) (before rest : List Access) → a < length s → get_or s a (opening end) ≡ last_to address a k
       → ((i : ℕ) → address (k + i) ≡ store_uses rows (take i (before ++ rest)) StoreAddress (fill.address (k + i)) (get_elem? (before ++ rest) i))
-      → get_or (memoryFrom (origin_reading end) fill k (state s rows) before) a (opening end) ≡ last_to address a (k + length before)
+      → get_or (memory_from (origin_reading end) fill k (state s rows) before) a (opening end) ≡ last_to address a (k + length before)
   last-from k s rows [] rest low h d = rw (add-zero k) h
   last-from k s rows (load p ∷ before) rest low h d =
       last-from (suc k) s (rows_after (load p) rows) before rest low

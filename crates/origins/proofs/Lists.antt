@@ -13,7 +13,7 @@ use Rattle.queue.proofs.Lists.{false-true, all_middle}
 use Rattle.sequential.specs.Answers.{Machine, Answered, answers}
 use Rattle.sequential.specs.Plain.{rows_of, accesses, next_of}
 use Rattle.sequential.specs.Demand3.{told, uses}
-use Rattle.sequential.proofs.Log.{LogEntry, of_load, of_store, access_of, loads, own_in, ownIn-append}
+use Rattle.sequential.proofs.Log.{LogEntry, of_load, of_store, access_of, loads, own_in, own_in_append}
 use Rattle.sequential.proofs.PlainRun.{count-uncounted, uses-uncounted}
 use Rattle.sequential.proofs.Rows.{given, AllRows, load_fits, eqb_self}
 use Rattle.sequential.proofs.Invariant.{Invariant, right_load, load_in_range}
@@ -71,7 +71,7 @@ module _ {groups : List GroupPairs} {memory : List ℕ} {answered : List Answere
               lacking = rw (eqb_self l.port, e)
           known (some a) e =
               let right = all_middle (right_load m.queue.memory_length) (own_in loads pre) (own_in loads post) l
-              (rw (log_is, ownIn-append loads pre (of_load l ∷ post)) at (st.holds.right loads)) in
+              (rw (log_is, own_in_append loads pre (of_load l ∷ post)) at (st.holds.right loads)) in
               rw (← (rw e at (load_fits l post (rows_past (map access_of pre) (rows_of (told answered))) filled past)), st.holds.opened)
               (ltb-true a m.queue.memory_length (rw e at (load_in_range m.queue.memory_length l right)))
 

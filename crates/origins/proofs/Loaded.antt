@@ -16,7 +16,7 @@ use Rattle.queue.specs.Serve.{from_memory, source}
 use Rattle.queue.proofs.Lists.{false-true}
 use Rattle.queue.proofs.SourceLaws.{source_from_lem}
 use Rattle.sequential.specs.Answers.{Machine, Answered}
-use Rattle.sequential.specs.Plain.{rows_of, accesses, Filling, Reading, plain_start, valuesFrom, memoryFrom}
+use Rattle.sequential.specs.Plain.{rows_of, accesses, Filling, Reading, plain_start, values_from, memory_from}
 use Rattle.sequential.specs.Demand3.{told}
 use Rattle.sequential.proofs.Log.{LogEntry, of_load, of_store, pair_for, access_of, loads, stores, own_in}
 use Rattle.sequential.proofs.Window.{Located}
@@ -56,8 +56,8 @@ module _ {groups : List GroupPairs} {memory : List ℕ} {answered : List Answere
 
   -- what it loads, as any reading of the run has it
   pub loads-there : {A : Type 0} (reading : Reading A) (s : List A) (fill : Filling)
-      → get_elem? (map loaded (valuesFrom reading fill 0 (plain_start s (told answered)) (accesses groups (told answered)))) (length (own_in loads pre))
-      ≡ some (get_or (memoryFrom reading fill 0 (plain_start s (told answered)) (map access_of pre)) a reading.beyond)
+      → get_elem? (map loaded (values_from reading fill 0 (plain_start s (told answered)) (accesses groups (told answered)))) (length (own_in loads pre))
+      ≡ some (get_or (memory_from reading fill 0 (plain_start s (told answered)) (map access_of pre)) a reading.beyond)
   loads-there {A} reading s fill =
       rw (
         ← values-uncounted reading fill 0 (plain_start s (told answered)) (accesses groups (told answered)),
@@ -67,7 +67,7 @@ module _ {groups : List GroupPairs} {memory : List ℕ} {answered : List Answere
         ← count-loads pre,
       )
       (nth-loads reading fill s (rows_of (told answered)) (map access_of pre) (pair_for it) (map access_of post)
-      ∙ ap (λ (x : ℕ). some (get_or (memoryFrom reading fill 0 (plain_start s (told answered)) (map access_of pre)) x reading.beyond))
+      ∙ ap (λ (x : ℕ). some (get_or (memory_from reading fill 0 (plain_start s (told answered)) (map access_of pre)) x reading.beyond))
       (address-used (fill.address (length (map access_of pre)))))
 
   -- its origin, in a filling

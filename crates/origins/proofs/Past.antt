@@ -12,7 +12,7 @@ use Rattle.table.specs.declared.Pair.{Pair}
 use Rattle.table.specs.Group.{Access, load, store, is_load}
 use Rattle.queue.specs.declared.arguments.Argument.{Argument}
 use Rattle.queue.specs.declared.arguments.Argument.TheVariants.{LoadAddress, StoreAddress, StoreData}
-use Rattle.sequential.specs.Plain.{Rows, Filling, next_of, used_up, Reading, PlainState, valuesFrom, memoryFrom}
+use Rattle.sequential.specs.Plain.{Rows, Filling, next_of, used_up, Reading, PlainState, values_from, memory_from}
 use Rattle.sequential.specs.Demand3.{uses}
 use Rattle.sequential.proofs.Rows.{eqb-turned}
 use Rattle.origins.specs.Origins.{loaded, used_by, store_uses}
@@ -74,8 +74,8 @@ store-after rows x before argument filled (some (store q)) =
 
 module _ {A : Type 0} (reading : Reading A) (fill : Filling) where
   nth_left : (k : ℕ) (s : List A) (rows : Rows) (before : List Access) (p : Pair) (rest : List Access)
-      → get_elem? (map loaded (valuesFrom reading fill k (state s rows) (before ++ load p ∷ rest))) (count_where is_load before)
-      ≡ some (get_or (memoryFrom reading fill k (state s rows) before)
+      → get_elem? (map loaded (values_from reading fill k (state s rows) (before ++ load p ∷ rest))) (count_where is_load before)
+      ≡ some (get_or (memory_from reading fill k (state s rows) before)
       (next_of (rows_past before rows LoadAddress p.port) (fill.address (k + length before))) reading.beyond)
   nth_left k s rows [] p rest = rw (add-zero k)
   nth_left k s rows (load q ∷ before) p rest = rw (add-suc k, ← suc-add k) (nth_left (suc k) s (rows_after (load q) rows) before p rest)
@@ -83,7 +83,7 @@ module _ {A : Type 0} (reading : Reading A) (fill : Filling) where
 
   -- The nth load loads the word at its address of the memory that the accesses before it leave.
   pub nth-loads : (s : List A) (rows : Rows) (before : List Access) (p : Pair) (rest : List Access)
-      → get_elem? (map loaded (valuesFrom reading fill 0 (state s rows) (before ++ load p ∷ rest))) (count_where is_load before)
-      ≡ some (get_or (memoryFrom reading fill 0 (state s rows) before) (used_by rows before LoadAddress p.port (fill.address (length before)))
+      → get_elem? (map loaded (values_from reading fill 0 (state s rows) (before ++ load p ∷ rest))) (count_where is_load before)
+      ≡ some (get_or (memory_from reading fill 0 (state s rows) before) (used_by rows before LoadAddress p.port (fill.address (length before)))
       reading.beyond)
   nth-loads s rows before p rest = rw (← left_past rows before LoadAddress p.port) (rw (zero-add (length before)) at (nth_left 0 s rows before p rest))

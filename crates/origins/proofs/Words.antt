@@ -11,7 +11,7 @@ use Rattle.number.specs.Basics.{pick}
 use Rattle.table.specs.Group.{GroupPairs, Access, load, store}
 use Rattle.queue.specs.declared.arguments.Argument.TheVariants.{LoadAddress, StoreAddress, StoreData}
 use Rattle.queue.proofs.ContentsLaws.{map-set}
-use Rattle.sequential.specs.Plain.{Told, Rows, rows_of, accesses, Filling, next_of, word_reading, PortValue, plain_start, valuesFrom, values_at, plain_loads}
+use Rattle.sequential.specs.Plain.{Told, Rows, rows_of, accesses, Filling, next_of, word_reading, PortValue, plain_start, values_from, values_at, plain_loads}
 use Rattle.origins.specs.Origins.{Origin, opening, by, origin_reading, openings, origins_loaded, plain_origins, loaded, store_uses, word_of}
 use Rattle.origins.specs.Origins.{OriginsGiveWords}
 use Rattle.origins.proofs.Past.{state, rows_after, store-after}
@@ -26,7 +26,7 @@ under f v = record { port = v.port; value = f v.value }
 module _ (fill : Filling) (word : Origin → Option ℕ) (end : ℕ) (past : word (opening end) ≡ some 0) where
   words-from : (k : ℕ) (m : List ℕ) (s : List Origin) (rows : Rows) (rest : List Access) → map word s ≡ map some m
       → ((i : ℕ) → word (by (k + i)) ≡ store_uses rows (take i rest) StoreData (fill.word (k + i)) (get_elem? rest i))
-      → map (under word) (valuesFrom (origin_reading end) fill k (state s rows) rest) ≡ map (under some) (valuesFrom word_reading fill k (state m rows) rest)
+      → map (under word) (values_from (origin_reading end) fill k (state s rows) rest) ≡ map (under some) (values_from word_reading fill k (state m rows) rest)
   words-from k m s rows [] h d = refl
   words-from k m s rows (load p ∷ rest) h d =
       ap₂ (λ (x : Option ℕ) (xs : List (PortValue (Option ℕ))). record { port = p.port; value = x } ∷ xs) here
@@ -68,10 +68,10 @@ get_d_end (w ∷ m) = get_d_end m
 -- ---- all loads, those of a port, the nth
 
 module _ (groups : List GroupPairs) (memory : List ℕ) (ts : List Told) (fill : Filling) where
-  abbrev pub wordsLoaded : List (PortValue ℕ)
-  wordsLoaded = valuesFrom word_reading fill 0 (plain_start memory ts) (accesses groups ts)
+  abbrev pub words_loaded : List (PortValue ℕ)
+  words_loaded = values_from word_reading fill 0 (plain_start memory ts) (accesses groups ts)
 
-  all_words : map (under (word_of groups memory ts fill)) (origins_loaded groups memory ts fill) ≡ map (under some) wordsLoaded
+  all_words : map (under (word_of groups memory ts fill)) (origins_loaded groups memory ts fill) ≡ map (under some) words_loaded
   all_words =
       words-from fill (word_of groups memory ts fill) (length memory) (ap some (get_d_end memory)) 0 memory (openings 0 memory) (rows_of ts)
       (accesses groups ts)
@@ -79,11 +79,11 @@ module _ (groups : List GroupPairs) (memory : List ℕ) (ts : List Told) (fill :
       (λ i. rw (zero-add i))
 
   -- The words that the loads load, in order, are those of their origins.
-  pub loads-give-words : map (word_of groups memory ts fill) (map loaded (origins_loaded groups memory ts fill)) ≡ map some (map loaded wordsLoaded)
+  pub loads-give-words : map (word_of groups memory ts fill) (map loaded (origins_loaded groups memory ts fill)) ≡ map some (map loaded words_loaded)
   loads-give-words =
       map-map (word_of groups memory ts fill) loaded (origins_loaded groups memory ts fill)
       ∙ sym (map-map loaded (under (word_of groups memory ts fill)) (origins_loaded groups memory ts fill))
-      ∙ ap (map loaded) all_words ∙ map-map loaded (under some) wordsLoaded ∙ sym (map-map some loaded wordsLoaded)
+      ∙ ap (map loaded) all_words ∙ map-map loaded (under some) words_loaded ∙ sym (map-map some loaded words_loaded)
 
 values_at_under : {A B : Type 0} (f : A → B) (port : ℕ) (l : List (PortValue A)) → values_at port (map (under f) l) ≡ map f (values_at port l)
 values_at_under f port [] = refl
@@ -99,4 +99,4 @@ pub origins_give_words : OriginsGiveWords
 unfolding plain_loads plain_origins
 origins_give_words groups memory ts fill port =
     sym (values_at_under (word_of groups memory ts fill) port (origins_loaded groups memory ts fill))
-    ∙ ap (values_at port) (all_words groups memory ts fill) ∙ values_at_under some port (wordsLoaded groups memory ts fill)
+    ∙ ap (values_at port) (all_words groups memory ts fill) ∙ values_at_under some port (words_loaded groups memory ts fill)

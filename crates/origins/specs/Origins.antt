@@ -9,7 +9,7 @@ use Rattle.table.specs.declared.Pair.{Pair}
 use Rattle.table.specs.Group.{GroupPairs, Access, load, store, is_load}
 use Rattle.queue.specs.declared.arguments.Argument.{Argument}
 use Rattle.queue.specs.declared.arguments.Argument.TheVariants.{LoadAddress, StoreAddress, StoreData}
-use Rattle.sequential.specs.Plain.{Told, Rows, rows_of, accesses, Filling, next_of, Reading, PortValue, valuesFrom, plain_start, values_at, plain_loads}
+use Rattle.sequential.specs.Plain.{Told, Rows, rows_of, accesses, Filling, next_of, Reading, PortValue, values_from, plain_start, values_at, plain_loads}
 use Rattle.sequential.specs.Calls.{Call}
 use Rattle.sequential.specs.Answers.{Machine, answers}
 use Rattle.sequential.specs.Demand3.{uses, told, Opening}
@@ -33,7 +33,7 @@ openings a (w ∷ ws) = opening a ∷ openings (suc a) ws
 
 -- the origins of the words that are loaded, each with its port, in the run's order
 abbrev pub origins_loaded : List GroupPairs → List ℕ → List Told → Filling → List (PortValue Origin)
-origins_loaded groups memory ts fill = valuesFrom (origin_reading (length memory)) fill 0 (plain_start (openings 0 memory) ts) (accesses groups ts)
+origins_loaded groups memory ts fill = values_from (origin_reading (length memory)) fill 0 (plain_start (openings 0 memory) ts) (accesses groups ts)
 
 -- the origins of the words that a port loads, in order
 unfoldable pub plain_origins : List GroupPairs → List ℕ → List Told → Filling → ℕ → List Origin

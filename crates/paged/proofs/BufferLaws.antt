@@ -9,7 +9,7 @@ use lib.ListN.{length, get_or, drop, drop_of_length-le}
 use lib.Seq.{drop-cons}
 use lib.Dec.{eqb}
 use Rattle.number.specs.Reply.{Reply, refuse, accept}
-use Rattle.number.proofs.ReplyLaws.{refused-accepted, need-accepts, andThen-accepts, thenRead-accepts, refused_some}
+use Rattle.number.proofs.ReplyLaws.{refused-accepted, need-accepts, and_then_accepts, then_read_accepts, refused_some}
 use Rattle.number.proofs.RoundTrip.{read_refused}
 use Rattle.number.specs.Number.{Got, place_of, reading, read_in}
 use Rattle.number.specs.Refusal.{too_short, wrong_memory}
@@ -113,7 +113,7 @@ module _ (trace : List ℕ) where
   pub events-behind : {h : Header} {at : ℕ} → accept (reading h at) ≡ read_in trace (read_header trace)
       → events_behind (read_header trace) ≡ events_from trace at
   events-behind {h} {at} e =
-      let (x, rest, d, f) = thenRead-accepts (read_header trace) (λ a l. accept (reading a (place_of trace l))) (sym e) in
+      let (x, rest, d, f) = then_read_accepts (read_header trace) (λ a l. accept (reading a (place_of trace l))) (sym e) in
       let place : place_of trace rest ≡ at = cc in
       ap events_behind d ∙ ap read_events (header_place trace d ∙ ap (λ (i : ℕ). drop i trace) place)
 
@@ -123,8 +123,8 @@ module _ (trace : List ℕ) where
 pub start-events : (gs : List GroupPairs) (trace : List ℕ) {s : Start} → prepare gs trace ≡ accept s → trace_events trace ≡ s.events
 unfolding prepare
 start-events gs trace {s} e₀ =
-    let (q, opens, e₁) = andThen-accepts (open_trace gs (read_header trace)) _ e₀ in
-    let (es, d, e₂) = andThen-accepts (events_behind (read_header trace)) (λ l. accept (record { queue = q; events = l })) e₁ in
+    let (q, opens, e₁) = and_then_accepts (open_trace gs (read_header trace)) _ e₀ in
+    let (es, d, e₂) = and_then_accepts (events_behind (read_header trace)) (λ l. accept (record { queue = q; events = l })) e₁ in
     let x : record { queue = q; events = es } ≡ s = cc in
     ap events_read d ∙ ap (λ (y : Start). y.events) x
 
@@ -133,7 +133,7 @@ module _ (gs : List GroupPairs) (trace memory : List ℕ) (c : Counts) (b : Buff
   pub replay-events : (p : Replay) → replay gs trace memory c b ≡ accept p → length p.log ≡ length (trace_events trace)
   unfolding replay
   replay-events p e₀ =
-      let (s, d, e₁) = andThen-accepts (prepare gs trace) (replay_start memory c b) e₀ in
+      let (s, d, e₁) = and_then_accepts (prepare gs trace) (replay_start memory c b) e₀ in
       let (t, e₂) = need-accepts (eqb (length memory) s.queue.memory_length) wrong_memory _ e₁ in
       let (u, e₃) = need-accepts (fits (length s.events) b) too_short (accept (replayed s memory c)) e₂ in
       let same : p ≡ replayed s memory c = cc in

@@ -19,7 +19,7 @@ use Rattle.trace.proofs.RoundTrip.{headers_are_written}
 use Rattle.counts.specs.declared.Counts.{Counts}
 use Rattle.queue.specs.Contents.{Contents}
 use Rattle.queue.specs.Open.{open_queue}
-use Rattle.number.proofs.ReplyLaws.{need-accepts, andThen-accepts, thenRead-accepts}
+use Rattle.number.proofs.ReplyLaws.{need-accepts, and_then_accepts, then_read_accepts}
 use Rattle.sequential.specs.Answers.{machine, answers}
 use Rattle.sequential.specs.Plain.{Filling}
 use Rattle.sequential.specs.Demand3.{Opening}
@@ -51,11 +51,11 @@ module _ (groups : List GroupPairs) (trace : List ℕ) (are-bytes : AreBytes tra
   prepared : prepare groups trace ≡ accept s → Begins groups s memory
   unfolding prepare
   prepared e₀ =
-      let (q, e₁, e₂) = andThen-accepts (open_trace groups (read_header trace)) _ e₀ in
-      let (es, d, e₃) = andThen-accepts (events_behind (read_header trace)) (λ l. accept (record { queue = q; events = l })) e₂ in
+      let (q, e₁, e₂) = and_then_accepts (open_trace groups (read_header trace)) _ e₀ in
+      let (es, d, e₃) = and_then_accepts (events_behind (read_header trace)) (λ l. accept (record { queue = q; events = l })) e₂ in
       let x : record { queue = q; events = es } ≡ s = cc in
       let same : q ≡ s.queue = ap (λ (y : Start). y.queue) x in
-      let (h, rest, a, e) = thenRead-accepts (read_header trace) _ e₁ in
+      let (h, rest, a, e) = then_read_accepts (read_header trace) _ e₁ in
       let (limits, is) = limits-opened groups h.load_depth h.store_depth h.first h.memory_length s.queue (e ∙ ap accept same) in
       let long : length memory ≡ h.memory_length = fit ∙ ap (λ (q : Contents). q.memory_length) (sym is) in
       record {
@@ -105,7 +105,7 @@ start-shows gs trace memory c b are-bytes p s d f fill below =
 pub replays-show : ReplaysShow
 unfolding replay
 replays-show gs trace memory c b are-bytes p e =
-    let (s, d, f) = andThen-accepts (prepare gs trace) (replay_start memory c b) e in
+    let (s, d, f) = and_then_accepts (prepare gs trace) (replay_start memory c b) e in
     (s, d, start-shows gs trace memory c b are-bytes p s d f)
 
 pub runs-show : RunsShow

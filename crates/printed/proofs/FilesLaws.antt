@@ -24,7 +24,7 @@ use Rattle.replay.specs.declared.Replayed.{Replayed}
 use Rattle.replay.specs.Events.{events_from}
 use Rattle.replay.specs.Replay.{Start, start_of, open_trace, prepare, replayed, Buffers, fits, replay_from}
 use Rattle.replay.specs.Outcome.{at_front, log_in, ReplayedWell, Replays}
-use Rattle.number.proofs.ReplyLaws.{thenRead-accepts, not_zero, refused_some}
+use Rattle.number.proofs.ReplyLaws.{then_read_accepts, not_zero, refused_some}
 use Rattle.trace.proofs.Among.{events-among}
 use Rattle.replay.proofs.EventLaws.{events_few_from}
 use Rattle.replay.proofs.ReplayLaws.{replay-accepted, long-enough}
@@ -62,7 +62,7 @@ module _ (table trace : List ℕ) where
 -- ---- opening
 pub opened-words : (gs : List GroupPairs) (g : Reply (Got Header)) {q : Contents} → open_trace gs g ≡ accept q → q.memory_length ≤ most_words
 opened-words gs g {q} e₀ =
-    let (h, rest, d, e) = thenRead-accepts g _ e₀ in
+    let (h, rest, d, e) = then_read_accepts g _ e₀ in
     let (limits, is) = limits-opened gs h.load_depth h.store_depth h.first h.memory_length q e in
     rw (sym is) (leb-true _ _ (and_right (leb 1 h.memory_length) (leb h.memory_length 4096) limits.words_right))
 

@@ -17,7 +17,7 @@ use Rattle.trace.specs.Event.{read_header}
 use Rattle.counts.specs.declared.Counts.{Counts}
 use Rattle.counts.specs.Counts.{share}
 use Rattle.queue.specs.Contents.{Contents}
-use Rattle.number.proofs.ReplyLaws.{andThen-accepts}
+use Rattle.number.proofs.ReplyLaws.{and_then_accepts}
 use Rattle.replay.specs.Events.{events_from}
 use Rattle.replay.specs.Replay.{Start, start_of, open_trace, prepare}
 use Rattle.replay.specs.Outcome.{place_in}
@@ -40,14 +40,14 @@ record SmallText (s : Start) : Type 0 where
 start_small : (q : Contents) (trace : List ℕ) (at : ℕ) {s : Start} → q.memory_length ≤ 4096 → length trace ≤ most_bytes
     → start_of q (events_from trace at) ≡ accept s → SmallText s
 start_small q trace at {s} h k e =
-    let (es, d, f) = andThen-accepts (events_from trace at) (λ l. accept (record { queue = q; events = l })) e in
+    let (es, d, f) = and_then_accepts (events_from trace at) (λ l. accept (record { queue = q; events = l })) e in
     let y : s ≡ record { queue = q; events = es } = cc in
     rw y (record { events = omega (arith, events_few_from trace at d); memory_few = h })
 
 prepare-small : (gs : List GroupPairs) (trace : List ℕ) {s : Start} → length trace ≤ most_bytes → prepare gs trace ≡ accept s → SmallText s
 unfolding prepare
 prepare-small gs trace k e =
-    let (q, opens, starts) = andThen-accepts (open_trace gs (read_header trace)) _ e in
+    let (q, opens, starts) = and_then_accepts (open_trace gs (read_header trace)) _ e in
     let place = events_place gs trace (read_header trace) refl opens in
     start_small q trace (place_in trace (read_header trace)) (opened-words gs (read_header trace) opens) k (ap (start_of q) (sym place) ∙ starts)
 

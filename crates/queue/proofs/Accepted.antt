@@ -15,7 +15,7 @@ use Rattle.queue.specs.Arguments.{kind_of, names_port, in_range, lacks, asked_of
 use Rattle.queue.specs.Serve.{Served, source, Loaded, loaded_from, may_serve, served_with, serve}
 use Rattle.queue.specs.Write.{Written, WordPut, no_conflict, may_write, written_with, write}
 use Rattle.queue.specs.Take.{Taken, take_place, taken_with, take_rule}
-use Rattle.number.proofs.ReplyLaws.{need-accepts, have-accepts, andThen-accepts}
+use Rattle.number.proofs.ReplyLaws.{need-accepts, have-accepts, and_then_accepts}
 
 -- ---- activate: the group is in the table, and there is room for it
 pub activate_accepts : (q : Contents) (group : ℕ) {r : Contents} → activate q group ≡ accept r
@@ -63,7 +63,7 @@ serve_accepts q m serial h₀ =
     let (t₁, h₁) = need-accepts (sound q) _ _ h₀ in
     let (t₂, h₂) = need-accepts (eqb (length m) q.memory_length) _ _ h₁ in
     let (l, at, h₃) = have-accepts (get_elem? q.loads.entries (place_of q.loads serial)) _ _ h₂ in
-    let (v, may, h₄) = andThen-accepts (may_serve m (others_before q.stores l) l) _ h₃ in
+    let (v, may, h₄) = and_then_accepts (may_serve m (others_before q.stores l) l) _ h₃ in
     (t₁, l, at, record { loaded = v; may = may_serve_accepts m (others_before q.stores l) l v may }, cc)
 
 -- ---- write: the store has an address and data, and nothing before it conflicts with it
@@ -96,7 +96,7 @@ write_accepts q m serial h₀ =
     let (t₁, h₁) = need-accepts (sound q) _ _ h₀ in
     let (t₂, h₂) = need-accepts (eqb (length m) q.memory_length) _ _ h₁ in
     let (s, at, h₃) = have-accepts (get_elem? q.stores.entries (place_of q.stores serial)) _ _ h₂ in
-    let (p, may, h₄) = andThen-accepts (may_write (others_before q.loads s) (take (place_of q.stores serial) q.stores.entries) s) _ h₃ in
+    let (p, may, h₄) = and_then_accepts (may_write (others_before q.loads s) (take (place_of q.stores serial) q.stores.entries) s) _ h₃ in
     (t₁, s, at, record { put = p; may = may_write_accepts (others_before q.loads s) (take (place_of q.stores serial) q.stores.entries) s p may }, cc)
 
 -- ---- take: the port's oldest untaken load has a value

@@ -20,9 +20,9 @@ use Rattle.queue.specs.declared.Queue.{Queue}
 use Rattle.number.specs.Refusal.{unsound, no_group, no_place}
 use Rattle.number.specs.Reply.{refuse, accept, need}
 use Rattle.number.proofs.Both.{and_left, and_right}
-use Rattle.queue.proofs.ContentsLaws.{getElem?-past, mapped-length}
+use Rattle.queue.proofs.ContentsLaws.{get_elem?_past, mapped-length}
 use Rattle.queue.proofs.SoundLaws.{depth-most, table-right}
-use Rattle.queue.proofs.GroupLaws.{groups-few, group-getElem?}
+use Rattle.queue.proofs.GroupLaws.{groups-few, group-get_elem?}
 
 -- ---- the new entries by their offsets
 new_counted : (kind : Kind) (n loads stores : ℕ) (xs : List Access)
@@ -129,7 +129,7 @@ module _ (q : Queue) (group : ℕ) (s : sound (contents_of q) ≡ true) where
   unfolding activate contents_of
   activate-no-group h =
       let e : length (groups_of q.frame.table) ≤ group = rw (groups-size q.frame.table) h in
-      rw (s, getElem?-past (groups_of q.frame.table) group e)
+      rw (s, get_elem?_past (groups_of q.frame.table) group e)
 
   module _ (k : group < q.frame.table.count) {g : Group} (a : g ≡ group_at q.frame.table.groups group) where
     abbrev asked : GroupPairs
@@ -137,4 +137,4 @@ module _ (q : Queue) (group : ℕ) (s : sound (contents_of q) ≡ true) where
 
     pub activate-group : activate (contents_of q) group ≡ need (room (contents_of q) asked) no_place (accept (with_group (contents_of q) asked))
     unfolding activate contents_of
-    activate-group = rw (s, group-getElem? q.frame.table (groups-few q.frame.table (table-right q s)) group k a)
+    activate-group = rw (s, group-get_elem? q.frame.table (groups-few q.frame.table (table-right q s)) group k a)

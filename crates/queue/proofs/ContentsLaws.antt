@@ -17,15 +17,15 @@ use Rattle.queue.proofs.Lists.{take-map}
 
 -- ---- a list's places
 module _ {A : Type 0} where
-  pub getElem?-getD : (l : List A) (i : ℕ) (d : A) → i < length l → get_elem? l i ≡ some (get_or l i d)
-  getElem?-getD [] i d h = absurd (not-suc-le-zero h)
-  getElem?-getD (x ∷ l) zero d h = refl
-  getElem?-getD (x ∷ l) (suc i) d h = getElem?-getD l i d (le_of_suc-le-suc h)
+  pub get_elem?_get_d : (l : List A) (i : ℕ) (d : A) → i < length l → get_elem? l i ≡ some (get_or l i d)
+  get_elem?_get_d [] i d h = absurd (not-suc-le-zero h)
+  get_elem?_get_d (x ∷ l) zero d h = refl
+  get_elem?_get_d (x ∷ l) (suc i) d h = get_elem?_get_d l i d (le_of_suc-le-suc h)
 
-  pub getElem?-past : (l : List A) (i : ℕ) → length l ≤ i → get_elem? l i ≡ none
-  getElem?-past [] i h = refl
-  getElem?-past (x ∷ l) zero h = absurd (not-suc-le-zero h)
-  getElem?-past (x ∷ l) (suc i) h = getElem?-past l i (le_of_suc-le-suc h)
+  pub get_elem?_past : (l : List A) (i : ℕ) → length l ≤ i → get_elem? l i ≡ none
+  get_elem?_past [] i h = refl
+  get_elem?_past (x ∷ l) zero h = absurd (not-suc-le-zero h)
+  get_elem?_past (x ∷ l) (suc i) h = get_elem?_past l i (le_of_suc-le-suc h)
 
   -- an element made anew is one put in its place
   pub update-set : (f : A → A) (l : List A) (i : ℕ) (d : A) → update_at f i l ≡ set l i (f (get_or l i d))
@@ -51,8 +51,8 @@ module _ {A B : Type 0} (f : A → B) (blank : A) (n : ℕ) (l : List A) where
   pub mapped_at : (i : ℕ) → i < n → get_or (map f (held blank n l)) i (f blank) ≡ f (get_or l i blank)
   mapped_at i k = get_or-map f (held blank n l) i blank ∙ rw (held-here blank n l i k)
 
-  pub mapped-getElem? : (i : ℕ) → i < n → get_elem? (map f (held blank n l)) i ≡ some (f (get_or l i blank))
-  mapped-getElem? i k = getElem?-getD (map f (held blank n l)) i (f blank) (rw mapped-length k) ∙ rw (mapped_at i k)
+  pub mapped_get_elem? : (i : ℕ) → i < n → get_elem? (map f (held blank n l)) i ≡ some (f (get_or l i blank))
+  mapped_get_elem? i k = get_elem?_get_d (map f (held blank n l)) i (f blank) (rw mapped-length k) ∙ rw (mapped_at i k)
 
   -- one more
   pub mapped-last : map f (held blank (n + 1) l) ≡ map f (held blank n l) ++ f (get_or l n blank) ∷ []
@@ -139,12 +139,12 @@ module _ (kind : Kind) (q : Queue) where
   side-place serial = ap₂ (λ (next n : ℕ). age (oldest next n) serial) (side_next kind q) side-count
 
   -- the entry at a place
-  pub side-getElem? : (i : ℕ) → i < (counts_of kind q).count → get_elem? (side_of kind (contents_of q)).entries i ≡ some (entry_in (get_or (numbers_of kind q) i 0))
-  side-getElem? i k =
-      ap (λ (l : List Entry). get_elem? l i) (side-held kind q) ∙ mapped-getElem? entry_in 0 (counts_of kind q).count (numbers_of kind q) i k
+  pub side-get_elem? : (i : ℕ) → i < (counts_of kind q).count → get_elem? (side_of kind (contents_of q)).entries i ≡ some (entry_in (get_or (numbers_of kind q) i 0))
+  side-get_elem? i k =
+      ap (λ (l : List Entry). get_elem? l i) (side-held kind q) ∙ mapped_get_elem? entry_in 0 (counts_of kind q).count (numbers_of kind q) i k
 
   pub side-past : (i : ℕ) → (counts_of kind q).count ≤ i → get_elem? (side_of kind (contents_of q)).entries i ≡ none
-  side-past i k = getElem?-past (side_of kind (contents_of q)).entries i (rw side-count k)
+  side-past i k = get_elem?_past (side_of kind (contents_of q)).entries i (rw side-count k)
 
   -- the oldest entries
   pub side-take : (m : ℕ) → m ≤ (counts_of kind q).count → take m (side_of kind (contents_of q)).entries ≡ entries_held m (numbers_of kind q)

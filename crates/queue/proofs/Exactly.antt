@@ -11,7 +11,7 @@ use Rattle.queue.specs.Sound.{sound}
 use Rattle.queue.specs.Serve.{serve}
 use Rattle.queue.specs.Write.{write}
 use Rattle.queue.specs.Ready.{serials, count_of, oldest_of, answer_to, any_memory, would, ready_serials, ReadyExactly}
-use Rattle.queue.proofs.Lists.{false-true, getElem?-short}
+use Rattle.queue.proofs.Lists.{false-true, get_elem?-short}
 use Rattle.queue.proofs.Refusals.{serve_proper, write_proper}
 use Rattle.queue.proofs.Accepted.{serve_accepts, write_accepts}
 use Rattle.queue.proofs.SoundLaws.{within_most, sound-parts}
@@ -74,11 +74,11 @@ held : (kind : Kind) (q : Contents) (memory : List ℕ) (serial : ℕ) → eqb (
 held load q memory serial h =
     let (r, e) = reply_accepts (serve q memory serial) (sym (accepted_number (serve q memory serial) (serve_proper q memory serial)) ∙ h) in
     let (right, l, at, s, is) = serve_accepts q memory serial e in
-    (right, getElem?-short q.loads.entries (place_of q.loads serial) at)
+    (right, get_elem?-short q.loads.entries (place_of q.loads serial) at)
 held store q memory serial h =
     let (r, e) = reply_accepts (write q memory serial) (sym (accepted_number (write q memory serial) (write_proper q memory serial)) ∙ h) in
     let (right, s, at, w, is) = write_accepts q memory serial e in
-    (right, getElem?-short q.stores.entries (place_of q.stores serial) at)
+    (right, get_elem?-short q.stores.entries (place_of q.stores serial) at)
 
 -- so it is among the serials of the queue
 listed : (kind : Kind) (q : Contents) (memory : List ℕ) (serial : ℕ) → serial < 2 ^ 32 → eqb (answer_to kind q memory serial) 0 ≡ true

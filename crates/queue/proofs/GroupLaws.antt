@@ -11,7 +11,7 @@ use Rattle.table.specs.Table.{meant_in, group_at, groups_of, check_table}
 use Rattle.table.proofs.CheckLaws.{view-length, view-at, groups-size, group_at_lem}
 use Rattle.table.proofs.OrderOffsets.{GroupRight, table_groups_few, table_group_right}
 use Rattle.queue.specs.Open.{group_fits}
-use Rattle.queue.proofs.ContentsLaws.{mapped-getElem?, mapped-here, mapped_end}
+use Rattle.queue.proofs.ContentsLaws.{mapped_get_elem?, mapped-here, mapped_end}
 use Rattle.number.specs.Reply.{passed}
 
 -- the pairs from the ith on: what a walk over them comes to
@@ -48,8 +48,8 @@ module _ (t : Table) (few : t.count ≤ 16) (i : ℕ) (k : i < t.count) {g : Gro
   pub groups-here : drop i (groups_of t) ≡ pairs_of t.loads t.stores g ∷ drop (i + 1) (groups_of t)
   groups-here = mapped-here (meant_in t.loads t.stores) 0 t.count t.groups i k ∙ ap (λ (x : GroupPairs). x ∷ drop (i + 1) (groups_of t)) is-here
 
-  pub group-getElem? : get_elem? (groups_of t) i ≡ some (pairs_of t.loads t.stores g)
-  group-getElem? = mapped-getElem? (meant_in t.loads t.stores) 0 t.count t.groups i k ∙ ap (λ (x : GroupPairs). some x) is-here
+  pub group-get_elem? : get_elem? (groups_of t) i ≡ some (pairs_of t.loads t.stores g)
+  group-get_elem? = mapped_get_elem? (meant_in t.loads t.stores) 0 t.count t.groups i k ∙ ap (λ (x : GroupPairs). some x) is-here
 
   pub group-right : check_table (groups_of t) ≡ passed → GroupRight (pairs_of t.loads t.stores g)
   group-right right = rw (group_at_lem t few i k here a) at (table_group_right (groups_of t) right i here (rw (groups-size t) k))

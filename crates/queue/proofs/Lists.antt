@@ -100,37 +100,37 @@ module _ {A : Type 0} where
 
   -- ---- frontWhile, afterWhile
 
-  pub all-frontWhile : (p : A → Bool) (xs : List A) → all_of p (front_while p xs) ≡ true
-  all-frontWhile p [] = refl
-  all-frontWhile p (x ∷ xs) = go (p x) refl (all-frontWhile p xs)
+  pub all_front_while : (p : A → Bool) (xs : List A) → all_of p (front_while p xs) ≡ true
+  all_front_while p [] = refl
+  all_front_while p (x ∷ xs) = go (p x) refl (all_front_while p xs)
     where
       go : (b : Bool) → p x ≡ b → all_of p (front_while p xs) ≡ true → all_of p (pick b (x ∷ front_while p xs) []) ≡ true
       go true e h = and_both e h
       go false e h = refl
 
-  pub afterWhile-map : {B : Type 0} (p : B → Bool) (q : A → Bool) (f : A → B) → ((x : A) → p (f x) ≡ q x) → (xs : List A)
+  pub after_while-map : {B : Type 0} (p : B → Bool) (q : A → Bool) (f : A → B) → ((x : A) → p (f x) ≡ q x) → (xs : List A)
       → after_while p (map f xs) ≡ map f (after_while q xs)
-  afterWhile-map p q f e [] = refl
-  afterWhile-map {B} p q f e (x ∷ xs) = rw (e x) (go (q x) (afterWhile-map p q f e xs))
+  after_while-map p q f e [] = refl
+  after_while-map {B} p q f e (x ∷ xs) = rw (e x) (go (q x) (after_while-map p q f e xs))
     where
       go : (b : Bool) → after_while p (map f xs) ≡ map f (after_while q xs)
           → pick b (after_while p (map f xs)) (f x ∷ map f xs) ≡ map f (pick b (after_while q xs) (x ∷ xs))
       go true h = h
       go false h = refl
 
-  pub length-frontWhile-map : {B : Type 0} (p : B → Bool) (q : A → Bool) (f : A → B) → ((x : A) → p (f x) ≡ q x) → (xs : List A)
+  pub length_front_while_map : {B : Type 0} (p : B → Bool) (q : A → Bool) (f : A → B) → ((x : A) → p (f x) ≡ q x) → (xs : List A)
       → length (front_while p (map f xs)) ≡ length (front_while q xs)
-  length-frontWhile-map p q f e [] = refl
-  length-frontWhile-map {B} p q f e (x ∷ xs) = rw (e x) (go (q x) (length-frontWhile-map p q f e xs))
+  length_front_while_map p q f e [] = refl
+  length_front_while_map {B} p q f e (x ∷ xs) = rw (e x) (go (q x) (length_front_while_map p q f e xs))
     where
       go : (b : Bool) → length (front_while p (map f xs)) ≡ length (front_while q xs)
           → length (pick b (f x ∷ front_while p (map f xs)) []) ≡ length (pick b (x ∷ front_while q xs) [])
       go true h = ap suc h
       go false h = refl
 
-  pub length-afterWhile : (p : A → Bool) (xs : List A) → length (after_while p xs) ≤ length xs
-  length-afterWhile p [] = omega arith
-  length-afterWhile p (x ∷ xs) = go (p x) (length-afterWhile p xs)
+  pub length-after_while : (p : A → Bool) (xs : List A) → length (after_while p xs) ≤ length xs
+  length-after_while p [] = omega arith
+  length-after_while p (x ∷ xs) = go (p x) (length-after_while p xs)
     where
       go : (b : Bool) → length (after_while p xs) ≤ length xs → length (pick b (after_while p xs) (x ∷ xs)) ≤ length (x ∷ xs)
       go true h = omega arith
@@ -159,39 +159,39 @@ module _ {A : Type 0} where
   take-map f (suc n) [] = refl
   take-map {B} f (suc n) (x ∷ xs) = ap (λ (l : List B). f x ∷ l) (take-map f n xs)
 
-  pub getElem?-map : {B : Type 0} (f : A → B) (xs : List A) (i : ℕ) {y : B} → get_elem? (map f xs) i ≡ some y → (x : A) × (get_elem? xs i ≡ some x)
-  getElem?-map f [] i h = let e : false ≡ true = cc in false-true e
-  getElem?-map f (x ∷ xs) zero h = (x, refl)
-  getElem?-map f (x ∷ xs) (suc i) h = getElem?-map f xs i h
+  pub get_elem?-map : {B : Type 0} (f : A → B) (xs : List A) (i : ℕ) {y : B} → get_elem? (map f xs) i ≡ some y → (x : A) × (get_elem? xs i ≡ some x)
+  get_elem?-map f [] i h = let e : false ≡ true = cc in false-true e
+  get_elem?-map f (x ∷ xs) zero h = (x, refl)
+  get_elem?-map f (x ∷ xs) (suc i) h = get_elem?-map f xs i h
 
   pub map_same : {B : Type 0} (f g : A → B) → ((x : A) → f x ≡ g x) → (xs : List A) → map f xs ≡ map g xs
   map_same f g e [] = refl
   map_same f g e (x ∷ xs) = rw (e x, map_same f g e xs)
 
-  pub getElem?-split : (xs : List A) (i : ℕ) {x : A} → get_elem? xs i ≡ some x
+  pub get_elem?_split : (xs : List A) (i : ℕ) {x : A} → get_elem? xs i ≡ some x
       → (before after : List A) × (xs ≡ before ++ x ∷ after) × (length before ≡ i)
-  getElem?-split [] i h = let e : false ≡ true = cc in false-true e
-  getElem?-split (y ∷ xs) zero {x} h = let e : y ≡ x = cc in ([], xs, rw e, refl)
-  getElem?-split (y ∷ xs) (suc i) h = let (b, a, e, l) = getElem?-split xs i h in (y ∷ b, a, ap (λ (t : List A). y ∷ t) e, ap suc l)
+  get_elem?_split [] i h = let e : false ≡ true = cc in false-true e
+  get_elem?_split (y ∷ xs) zero {x} h = let e : y ≡ x = cc in ([], xs, rw e, refl)
+  get_elem?_split (y ∷ xs) (suc i) h = let (b, a, e, l) = get_elem?_split xs i h in (y ∷ b, a, ap (λ (t : List A). y ∷ t) e, ap suc l)
 
-  pub getElem?-short : (xs : List A) (i : ℕ) {x : A} → get_elem? xs i ≡ some x → i < length xs
-  getElem?-short [] i h = let e : false ≡ true = cc in false-true e
-  getElem?-short (y ∷ xs) zero h = omega arith
-  getElem?-short (y ∷ xs) (suc i) h = let k : i < length xs = getElem?-short xs i h in omega arith
+  pub get_elem?-short : (xs : List A) (i : ℕ) {x : A} → get_elem? xs i ≡ some x → i < length xs
+  get_elem?-short [] i h = let e : false ≡ true = cc in false-true e
+  get_elem?-short (y ∷ xs) zero h = omega arith
+  get_elem?-short (y ∷ xs) (suc i) h = let k : i < length xs = get_elem?-short xs i h in omega arith
 
-  pub getElem?-seam : (xs : List A) (x : A) (ys : List A) → get_elem? (xs ++ x ∷ ys) (length xs) ≡ some x
-  getElem?-seam [] x ys = refl
-  getElem?-seam (y ∷ xs) x ys = getElem?-seam xs x ys
+  pub get_elem?_seam : (xs : List A) (x : A) (ys : List A) → get_elem? (xs ++ x ∷ ys) (length xs) ≡ some x
+  get_elem?_seam [] x ys = refl
+  get_elem?_seam (y ∷ xs) x ys = get_elem?_seam xs x ys
 
-  pub updateAt-seam : (f : A → A) (xs : List A) (x : A) (ys : List A) → update_at f (length xs) (xs ++ x ∷ ys) ≡ xs ++ f x ∷ ys
-  updateAt-seam f [] x ys = refl
-  updateAt-seam f (y ∷ xs) x ys = ap (λ (l : List A). y ∷ l) (updateAt-seam f xs x ys)
+  pub update_at_seam : (f : A → A) (xs : List A) (x : A) (ys : List A) → update_at f (length xs) (xs ++ x ∷ ys) ≡ xs ++ f x ∷ ys
+  update_at_seam f [] x ys = refl
+  update_at_seam f (y ∷ xs) x ys = ap (λ (l : List A). y ∷ l) (update_at_seam f xs x ys)
 
-  pub length-updateAt : (f : A → A) (i : ℕ) (xs : List A) → length (update_at f i xs) ≡ length xs
-  length-updateAt f zero [] = refl
-  length-updateAt f (suc i) [] = refl
-  length-updateAt f zero (x ∷ xs) = refl
-  length-updateAt f (suc i) (x ∷ xs) = ap suc (length-updateAt f i xs)
+  pub length-update_at : (f : A → A) (i : ℕ) (xs : List A) → length (update_at f i xs) ≡ length xs
+  length-update_at f zero [] = refl
+  length-update_at f (suc i) [] = refl
+  length-update_at f zero (x ∷ xs) = refl
+  length-update_at f (suc i) (x ∷ xs) = ap suc (length-update_at f i xs)
 
   -- an element at the first place passes, and those before it do not
   pub first_passes : (p : A → Bool) (xs : List A) {x : A} → get_elem? xs (first_place p xs) ≡ some x → p x ≡ true

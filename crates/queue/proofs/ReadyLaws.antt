@@ -22,7 +22,7 @@ use Rattle.queue.specs.Write.{may_write, written_with, write_at, write}
 use Rattle.queue.specs.Ready.{serials, count_of, oldest_of, answer_to, any_memory, would, ready_serials, ready, Readies, Fronts}
 use Rattle.queue.specs.Parts.{readied_of}
 use Rattle.queue.specs.Internal.{may_write_at, load_ready, ready_at, InReach, serials_listed, Noted, Lists, HandedOut}
-use Rattle.queue.proofs.ContentsLaws.{counts_of, side_next, side-count, side-getElem?, side-take}
+use Rattle.queue.proofs.ContentsLaws.{counts_of, side_next, side-count, side-get_elem?, side-take}
 use Rattle.number.proofs.ReplyLaws.{accepted_number}
 use Rattle.queue.proofs.Refusals.{need_same, have_same, may_write_proper, serve_proper, write_proper}
 use Rattle.queue.proofs.Serials.{place_of_serial, oldest-small}
@@ -121,7 +121,7 @@ module _ (q : Queue) (right : sound (contents_of q) ≡ true) where
       here : (kind : Kind) → i < (counts_of kind q).count → stands_ready kind (contents_of q) i ≡ ready_at kind q.load_entries q.store_entries i
       here load k =
           let e : Entry = entry_in (get_or q.load_entries i 0) in
-          ap (ready_in (contents_of q)) (side-getElem? load q i k)
+          ap (ready_in (contents_of q)) (side-get_elem? load q i k)
           ∙ ap (λ (l : List Entry). load_ready l e) (side-take store q e.before (before-held q right load i k))
       here store k =
           let m : List ℕ = any_memory (contents_of q) in

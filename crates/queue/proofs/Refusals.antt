@@ -17,7 +17,7 @@ use Rattle.number.specs.Basics.{any_of, all_of}
 use Rattle.queue.specs.declared.Kind.TheVariants.{Load as load}
 use Rattle.queue.specs.declared.arguments.Argument.{Argument}
 use Rattle.number.proofs.Both.{and_left, and_right}
-use Rattle.number.proofs.ReplyLaws.{refusesAmong, need-among, have-among, andThen-among, not_zero}
+use Rattle.number.proofs.ReplyLaws.{refuses_among, need-among, have-among, and_then_among, not_zero}
 
 -- two rules with the same tests accept alike where what follows does
 pub need_same : {A B : Type 0} (b : Bool) (n : ℕ) (x : Reply A) (y : Reply B) → accepted x ≡ accepted y
@@ -36,10 +36,10 @@ byte n = not_zero n && ltb n 256
 
 module _ {A : Type 0} where
   abbrev pub proper : Reply A → Bool
-  proper r = refusesAmong not_zero r
+  proper r = refuses_among not_zero r
 
   abbrev pub small : Reply A → Bool
-  small r = refusesAmong byte r
+  small r = refuses_among byte r
 
   pub number_small : (r : Reply A) → small r ≡ true → number r < 256
   number_small (refuse n) h = ltb-true n 256 (and_right (not_zero n) (ltb n 256) h)
@@ -75,7 +75,7 @@ serve-small q m serial =
     need-among byte (sound q) _ _ refl
     (need-among byte (eqb (length m) q.memory_length) _ _ refl
     (have-among byte (get_elem? q.loads.entries (place_of q.loads serial)) _ _ refl λ l.
-    andThen-among byte (may_serve m (others_before q.stores l) l) _ (may_serve_small m (others_before q.stores l) l) λ v. refl))
+    and_then_among byte (may_serve m (others_before q.stores l) l) _ (may_serve_small m (others_before q.stores l) l) λ v. refl))
 
 may_write_small : (ls : List Entry) (ss : List Entry) (s : Entry) → small (may_write ls ss s) ≡ true
 may_write_small ls ss s =
@@ -90,7 +90,7 @@ write-small q m serial =
     need-among byte (sound q) _ _ refl
     (need-among byte (eqb (length m) q.memory_length) _ _ refl
     (have-among byte (get_elem? q.stores.entries (place_of q.stores serial)) _ _ refl λ s.
-    andThen-among byte (may_write (others_before q.loads s) (take (place_of q.stores serial) q.stores.entries) s) _
+    and_then_among byte (may_write (others_before q.loads s) (take (place_of q.stores serial) q.stores.entries) s) _
     (may_write_small (others_before q.loads s) (take (place_of q.stores serial) q.stores.entries) s) λ p. refl))
 
 pub take-small : (q : Contents) (port : ℕ) → small (take_rule q port) ≡ true

@@ -15,7 +15,7 @@ use Rattle.queue.specs.Serve.{Source, source, loaded_from, may_serve, served_wit
 use Rattle.queue.specs.Outcome.{value_in, ServedWell}
 use Rattle.queue.specs.Parts.{queue_of, counted_of}
 use Rattle.queue.specs.Internal.{Has64, may_serve_at, served_as, MadeAnew}
-use Rattle.queue.proofs.ContentsLaws.{side-past, side-getElem?, side-take, side-place, side-anew, words-held}
+use Rattle.queue.proofs.ContentsLaws.{side-past, side-get_elem?, side-take, side-place, side-anew, words-held}
 
 -- ---- 26, 27, and then by the source
 module _ (memory : List ℕ) (ss : List Entry) (e : EntryStruct) where
@@ -40,7 +40,7 @@ module _ (q : Queue) (memory : List ℕ) (place : ℕ) where
     serve-held =
         let e : EntryStruct = unpacked (get_or q.load_entries place 0) in
         ap (λ (o : Option Entry). have o no_serial λ l.
-        and_then (may_serve memory (others_before (contents_of q).stores l) l) λ v. accept (served_with (contents_of q) place v)) (side-getElem? load q place k)
+        and_then (may_serve memory (others_before (contents_of q).stores l) l) λ v. accept (served_with (contents_of q) place v)) (side-get_elem? load q place k)
         ∙ ap (λ (l : List Entry). and_then (may_serve memory l (entry_of e)) λ v. accept (served_with (contents_of q) place v)) (side-take store q e.before b)
 
 -- ---- an accepted serve: the load at the place has its value

@@ -15,7 +15,7 @@ use Rattle.queue.specs.Arguments.{names_port}
 use Rattle.queue.specs.Take.{untaken, take_rule}
 use Rattle.queue.specs.Retire.{retire}
 use Rattle.queue.specs.declared.Kind.TheVariants.{Load as load}
-use Rattle.queue.proofs.ContentsLaws.{getElem?-past, mapped-getElem?, mapped-length}
+use Rattle.queue.proofs.ContentsLaws.{get_elem?_past, mapped_get_elem?, mapped-length}
 
 module _ (q : Queue) (port : ℕ) where
   pub take-unsound : sound (contents_of q) ≡ false → take_rule (contents_of q) port ≡ refuse unsound
@@ -35,13 +35,13 @@ module _ (q : Queue) (port : ℕ) where
         right,
         known,
         ← is,
-        getElem?-past (entries_held q.frame.loads.count q.load_entries) place
+        get_elem?_past (entries_held q.frame.loads.count q.load_entries) place
             (rw (mapped-length entry_in 0 q.frame.loads.count q.load_entries) h),
       )
 
       module _ (k : place < q.frame.loads.count) (e : EntryStruct) (at : unpacked (get_or q.load_entries place 0) ≡ e) where
         here : get_elem? (entries_held q.frame.loads.count q.load_entries) place ≡ some (entry_of e)
-        here = mapped-getElem? entry_in 0 q.frame.loads.count q.load_entries place k ∙ rw at
+        here = mapped_get_elem? entry_in 0 q.frame.loads.count q.load_entries place k ∙ rw at
 
         pub take-unserved : e.filled ≡ false → take_rule (contents_of q) port ≡ refuse not_served
         unfolding take_rule contents_of

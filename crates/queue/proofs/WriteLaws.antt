@@ -12,7 +12,7 @@ use Rattle.queue.specs.Contents.{Contents, contents_of, age, oldest, place_of, e
 use Rattle.queue.specs.Sound.{sound}
 use Rattle.queue.specs.Write.{no_conflict, may_write, written_with, write_at, write}
 use Rattle.queue.specs.Internal.{may_write_at}
-use Rattle.queue.proofs.ContentsLaws.{side-past, side-getElem?, side-take, side-place, words-held}
+use Rattle.queue.proofs.ContentsLaws.{side-past, side-get_elem?, side-take, side-place, words-held}
 
 -- ---- an answer that is no 0 refuses with it
 pub refused_number : {A : Type 0} (x : Reply A) → (number x ≡ 0 → ⊥) → x ≡ refuse (number x)
@@ -77,7 +77,7 @@ module _ (q : Queue) (memory : List ℕ) (place : ℕ) where
         let e : EntryStruct = unpacked (get_or q.store_entries place 0) in
         ap (λ (o : Option Entry). have o no_serial λ s. and_then
         (may_write (others_before (contents_of q).loads s) (take place (contents_of q).stores.entries) s) λ p. accept
-        (written_with (contents_of q) memory place p)) (side-getElem? store q place k)
+        (written_with (contents_of q) memory place p)) (side-get_elem? store q place k)
         ∙ ap (λ (l : List Entry). and_then (may_write l (take place (contents_of q).stores.entries) (entry_of e)) λ p. accept
         (written_with (contents_of q) memory place p)) (side-take load q e.before b)
         ∙ ap (λ (l : List Entry). and_then (may_write (entries_held e.before q.load_entries) l (entry_of e)) λ p. accept

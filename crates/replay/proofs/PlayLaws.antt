@@ -83,15 +83,15 @@ giving Argument.StoreData p w = StoreData p w
 -- the same for each kind of event, where the runs of entries are whole
 module _ (q : Queue) (c : Counts) (m : List ℕ) (full : whole q.load_entries q.store_entries ≡ true) where
   -- a rule on the parts
-  abbrev onRuns : {A : Type 0} → Reply A → Reply A
-  onRuns rule = on_parts q.load_entries q.store_entries rule
+  abbrev on_runs : {A : Type 0} → Reply A → Reply A
+  on_runs rule = on_parts q.load_entries q.store_entries rule
 
-  pub play-activate : {e : Event} (g : ℕ) (o : Outcome) → e ≡ Activate g → Moves q (onRuns (activate (contents_of q) g)) o
+  pub play-activate : {e : Event} (g : ℕ) (o : Outcome) → e ≡ Activate g → Moves q (on_runs (activate (contents_of q) g)) o
       → Plays q c m e (with_counts o c) m
   play-activate g o is w = rw is (moves-play q c m (Activate g) (activate (contents_of q) g) o refl refl (rw full at w))
 
   pub play-give : {e : Event} (argument : Argument) (p x : ℕ) (o : Outcome) → e ≡ giving argument p x
-      → Moves q (onRuns (give argument (contents_of q) p x)) o → Plays q c m e (with_counts o c) m
+      → Moves q (on_runs (give argument (contents_of q) p x)) o → Plays q c m e (with_counts o c) m
   play-give argument p x o is w =
       rw is (moves-play q c m (giving argument p x) (give argument (contents_of q) p x) o (stepped argument) (uncounted argument) (rw full at w))
     where
@@ -105,12 +105,12 @@ module _ (q : Queue) (c : Counts) (m : List ℕ) (full : whole q.load_entries q.
       uncounted Argument.StoreAddress = refl
       uncounted Argument.StoreData = refl
 
-  pub play-serve : {e : Event} (s : ℕ) (r : Counted) → e ≡ Serve s → Serves q c (onRuns (serve (contents_of q) m s)) r → Plays q c m e r m
+  pub play-serve : {e : Event} (s : ℕ) (r : Counted) → e ≡ Serve s → Serves q c (on_runs (serve (contents_of q) m s)) r → Plays q c m e r m
   play-serve s r is w = rw is (serves-play q c m (Serve s) (serve (contents_of q) m s) r refl refl (rw full at w))
 
-  pub play-write : {e : Event} (s : ℕ) (o : Outcome) (left : List ℕ) → e ≡ Write s → Writes q m (onRuns (write (contents_of q) m s)) o left
+  pub play-write : {e : Event} (s : ℕ) (o : Outcome) (left : List ℕ) → e ≡ Write s → Writes q m (on_runs (write (contents_of q) m s)) o left
       → Plays q c m e (with_counts o c) left
   play-write s o left is w = rw is (writes-play q c m (Write s) (write (contents_of q) m s) o left refl refl (rw full at w))
 
-  pub play-take : {e : Event} (p : ℕ) (o : Outcome) → e ≡ Take p → Takes q (onRuns (take_rule (contents_of q) p)) o → Plays q c m e (with_counts o c) m
+  pub play-take : {e : Event} (p : ℕ) (o : Outcome) → e ≡ Take p → Takes q (on_runs (take_rule (contents_of q) p)) o → Plays q c m e (with_counts o c) m
   play-take p o is w = rw is (takes-play q c m (Take p) (take_rule (contents_of q) p) o refl refl (rw full at w))

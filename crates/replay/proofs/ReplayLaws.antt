@@ -10,7 +10,7 @@ use lib.ListN.{length, drop, set, get_or, length-append, length-drop, length-map
 use borrow.Author.Tests.{eq-eqb, ne_eqb, le-leb, leb-true}
 use lib.Seq.{set_at, drop-cons, append_snoc}
 use Rattle.number.specs.Reply.{Reply, refuse, accept, and_then}
-use Rattle.number.proofs.ReplyLaws.{refused-accepted, andThen-accepts, refusesAmong, need-among, andThen-among, not_zero}
+use Rattle.number.proofs.ReplyLaws.{refused-accepted, and_then_accepts, refuses_among, need-among, and_then_among, not_zero}
 use Rattle.number.specs.Refusal.{too_short, wrong_memory}
 use Rattle.table.specs.Group.{GroupPairs}
 use Rattle.trace.specs.declared.Event.{Event}
@@ -98,7 +98,7 @@ pub record Next (s : List ℕ) (next : ℕ) (left : List Event) (e : Event) : Ty
 pub next_left : {s : List ℕ} {place next : ℕ} {e : Event} (left : List Event) → events_from s place ≡ accept left
     → EventGot s place e next → Next s next left e
 next_left {s} {place} {next} {e} left reads g =
-    let (es, d, f) = andThen-accepts (events_from s next) (λ l. accept (e ∷ l)) (sym g.is ∙ reads) in
+    let (es, d, f) = and_then_accepts (events_from s next) (λ l. accept (e ∷ l)) (sym g.is ∙ reads) in
     record { rest = es; is = cc; reads = d }
 
 abbrev as_logged : ℕ → Option ℕ → Logged
@@ -215,9 +215,9 @@ unfolding replay
 replay-opened gs trace memory c b e = rw e
 
 -- no refusal of it is 0
-pub replay_proper : (gs : List GroupPairs) (trace memory : List ℕ) (c : Counts) (b : Buffers) → refusesAmong not_zero (replay gs trace memory c b) ≡ true
+pub replay_proper : (gs : List GroupPairs) (trace memory : List ℕ) (c : Counts) (b : Buffers) → refuses_among not_zero (replay gs trace memory c b) ≡ true
 unfolding replay
 replay_proper gs trace memory c b =
-    andThen-among not_zero (prepare gs trace) _ (prepare_proper gs trace) λ s.
+    and_then_among not_zero (prepare gs trace) _ (prepare_proper gs trace) λ s.
     need-among not_zero (eqb (length memory) s.queue.memory_length) wrong_memory _ refl
     (need-among not_zero (fits (length s.events) b) too_short _ refl refl)

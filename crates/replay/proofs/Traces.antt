@@ -6,7 +6,7 @@ use Rattle.trace.specs.Trace.{Trace, read_events, trace_bytes}
 use Rattle.trace.proofs.Traces.{trace_of, trace-parts, trace_of_parts, traces_read_back, traces_are_written}
 use Rattle.queue.specs.Contents.{Contents}
 use Rattle.queue.specs.Open.{opened}
-use Rattle.number.proofs.ReplyLaws.{andThen-accepts, thenRead-accepts, of_accepted}
+use Rattle.number.proofs.ReplyLaws.{and_then_accepts, then_read_accepts, of_accepted}
 use Rattle.sequential.proofs.Run.{limits-opened}
 use Rattle.replay.specs.Replay.{open_trace, events_behind, prepare, replay_start, replay}
 use Rattle.replay.specs.Traces.{open_for, start_with, replay_on, trace_of_run}
@@ -19,16 +19,16 @@ traces_prepared gs bytes t e = let w = trace-parts bytes t e in rw (w.header, w.
 pub only_traces_prepared : OnlyTracesPrepared
 unfolding prepare
 only_traces_prepared gs bytes s e₀ =
-    let (q, opens, e₁) = andThen-accepts (open_trace gs (read_header bytes)) _ e₀ in
-    let (h, rest, a, opens₁) = thenRead-accepts (read_header bytes) _ opens in
-    let (es, behind, e₂) = andThen-accepts (events_behind (read_header bytes)) (λ l. accept (start_with q (trace_of h l))) e₁ in
+    let (q, opens, e₁) = and_then_accepts (open_trace gs (read_header bytes)) _ e₀ in
+    let (h, rest, a, opens₁) = then_read_accepts (read_header bytes) _ opens in
+    let (es, behind, e₂) = and_then_accepts (events_behind (read_header bytes)) (λ l. accept (start_with q (trace_of h l))) e₁ in
     let b : read_events rest ≡ accept es = sym (ap events_behind a) ∙ behind in
     (trace_of h es, trace_of_parts bytes rest h es a b, rw opens₁ e₂)
 
 pub runs_are_written : RunsAreWritten
 runs_are_written gs bytes s a e =
     let (t, read, starts) = only_traces_prepared gs bytes s e in
-    let (q, opens, f) = andThen-accepts (open_for gs t) (λ x. accept (start_with x t)) starts in
+    let (q, opens, f) = and_then_accepts (open_for gs t) (λ x. accept (start_with x t)) starts in
     of_accepted (λ x. (x.queue.groups ≡ gs) × (bytes ≡ trace_bytes (trace_of_run x))) f (of-queue t q ((traces_are_written bytes t a).0 read).1
     (limits-opened gs _ _ _ _ q opens).1)
   where

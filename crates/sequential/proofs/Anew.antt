@@ -14,11 +14,11 @@ use Rattle.queue.specs.declared.arguments.Argument.{Argument}
 use Rattle.queue.specs.Entry.{Entry, with_before}
 use Rattle.queue.specs.Contents.{Contents, with_entries, update_at, side_of}
 use Rattle.queue.specs.Retire.{retire, retiring, finished, after_retiring}
-use Rattle.queue.proofs.Lists.{all-replace, count-append, length-updateAt, length-afterWhile}
+use Rattle.queue.proofs.Lists.{all-replace, count-append, length-update_at, length-after_while}
 use Rattle.sequential.specs.Answers.{Answered}
 use Rattle.sequential.specs.Plain.{gather, rows_of, accesses}
 use Rattle.sequential.specs.Demand3.{tell, told, taken_at, serve_of, write_of}
-use Rattle.sequential.proofs.Log.{LogEntry, access_of, loads, stores, own_in, loads-stores, stores-loads, ownIn-append, Opposite, put, own_put}
+use Rattle.sequential.proofs.Log.{LogEntry, access_of, loads, stores, own_in, loads-stores, stores-loads, own_in_append, Opposite, put, own_put}
 use Rattle.sequential.proofs.Window.{Located, turned, window-leave, Windows, put_other}
 use Rattle.sequential.proofs.CellLog.{CellsHold}
 use Rattle.sequential.proofs.Rows.{Row, RowPlace, given, value_taken, row_same}
@@ -36,14 +36,14 @@ module _ (K : Kind) (words : ℕ) (pre post : List LogEntry) (it x : Entry) wher
   own-replaced : all_of (right_entry K words) (own_in K (pre ++ put K it ∷ post)) ≡ true → right_entry K words x ≡ true
       → all_of (right_entry K words) (own_in K (pre ++ put K x ∷ post)) ≡ true
   own-replaced h right =
-      rw (ownIn-append K pre (put K x ∷ post), own_put K x)
-      (all-replace (right_entry K words) (own_in K pre) (own_in K post) it x (rw (ownIn-append K pre (put K it ∷ post), own_put K it) at h) right)
+      rw (own_in_append K pre (put K x ∷ post), own_put K x)
+      (all-replace (right_entry K words) (own_in K pre) (own_in K post) it x (rw (own_in_append K pre (put K it ∷ post), own_put K it) at h) right)
 
   others-replaced : (K' : Kind) → Opposite K K' → (p : Entry → Bool) → all_of p (own_in K' (pre ++ put K it ∷ post)) ≡ true
       → all_of p (own_in K' (pre ++ put K x ∷ post)) ≡ true
   others-replaced K' opposed p h =
-      rw (ownIn-append K' pre (put K x ∷ post), put_other K K' opposed x)
-      (rw (ownIn-append K' pre (put K it ∷ post), put_other K K' opposed it) at h)
+      rw (own_in_append K' pre (put K x ∷ post), put_other K K' opposed x)
+      (rw (own_in_append K' pre (put K it ∷ post), put_other K K' opposed it) at h)
 
 module _ {q : Contents} {m memory : List ℕ} {log : List LogEntry} (h : Holds q m memory log)
     {i : ℕ} {pre : List LogEntry} {it : Entry} {post : List LogEntry} (f : Entry → Entry)
@@ -54,7 +54,7 @@ module _ {q : Contents} {m memory : List ℕ} {log : List LogEntry} (h : Holds q
       → Holds (with_entries K q (update_at f i (side_of K q).entries)) m' memory (pre ++ put K (f it) ∷ post)
   holds-anew Load l right cells = record {
     limits = h.limits;
-    room = elim [ Load ↦ rw (length-updateAt f i q.loads.entries) (h.room Load) | Store ↦ h.room Store ];
+    room = elim [ Load ↦ rw (length-update_at f i q.loads.entries) (h.room Load) | Store ↦ h.room Store ];
     long = long ∙ h.long;
     opened = h.opened;
     windows = l.anew f blind;
@@ -66,7 +66,7 @@ module _ {q : Contents} {m memory : List ℕ} {log : List LogEntry} (h : Holds q
   }
   holds-anew Store l right cells = record {
     limits = h.limits;
-    room = elim [ Load ↦ h.room Load | Store ↦ rw (length-updateAt f i q.stores.entries) (h.room Store) ];
+    room = elim [ Load ↦ h.room Load | Store ↦ rw (length-update_at f i q.stores.entries) (h.room Store) ];
     long = long ∙ h.long;
     opened = h.opened;
     windows = turned (l.anew f blind);
@@ -100,7 +100,7 @@ holds-retired {q} {m} {memory} {log} h = record {
     shorter : (others l : List Entry) {n : ℕ} → length l ≤ n → length (map (after_retiring (retiring others)) (after_while finished l)) ≤ n
     shorter others l {n} k =
         rw (length-map (after_while finished l) (after_retiring (retiring others)))
-        (let d : length (after_while finished l) ≤ length l = length-afterWhile finished l in omega arith)
+        (let d : length (after_while finished l) ≤ length l = length-after_while finished l in omega arith)
 
 -- ---- the answers' part
 

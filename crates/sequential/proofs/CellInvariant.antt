@@ -7,7 +7,7 @@ use mathlib.Core.Option.{Option, none, some}
 use Rattle.number.specs.Basics.{pick, is_some}
 use Rattle.table.specs.RightTables.{Each}
 use Rattle.sequential.proofs.EachLaws.{Pairs}
-use Rattle.sequential.proofs.Cells.{Stage, waiting, begun, ended, is_begun, is_ended, Seen, load, store, loadPassed, storePassed}
+use Rattle.sequential.proofs.Cells.{Stage, waiting, begun, ended, is_begun, is_ended, Seen, load, store, load_passed, store_passed}
 use Rattle.queue.specs.Touch.{Touch, apart, unknown, same, is_same}
 
 -- may an access, once complete, touch the cell (true), or leave it alone (false)
@@ -64,20 +64,20 @@ module _ {B : Type 0} where
   writes (load t g o) = false
   writes (store t g o) = is_same t && (is_begun g || is_ended g)
 
-  abbrev pub readsMemory : Seen B → Bool
-  readsMemory (load t g o) = is_same t && (is_begun g && not (is_some o))
-  readsMemory (store t g o) = false
+  abbrev pub reads_memory : Seen B → Bool
+  reads_memory (load t g o) = is_same t && (is_begun g && not (is_some o))
+  reads_memory (store t g o) = false
 
   -- an earlier entry that 31 and 32 let a store pass
   abbrev pub passed : Seen B → Bool
-  passed a = loadPassed a && storePassed a
+  passed a = load_passed a && store_passed a
 
   -- What an earlier entry is to a later one.
   -- Ordered: a store goes to memory only past loads that have ended, stores that are written, and entries apart.
   -- Clear: a load reads memory only past stores that are written or apart.
   pub record Before (a x : Seen B) : Type 0 where
     pub ordered : writes x ≡ true → passed a ≡ true
-    pub clear : readsMemory x ≡ true → storePassed a ≡ true
+    pub clear : reads_memory x ≡ true → store_passed a ≡ true
 
   pub record CellInvariant (m n : B) (es : List (Seen B)) : Type 0 where
     pub agree : Agree m n es

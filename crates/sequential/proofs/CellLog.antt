@@ -8,10 +8,10 @@ use lib.Dec.{eqb}
 use lib.ListN.{length, get_or, set}
 use borrow.Author.Tests.{eqb-true}
 use Rattle.number.specs.Basics.{pick, all_of}
-use Rattle.table.specs.Group.{Access, load as aLoad, store as aStore}
+use Rattle.table.specs.Group.{Access, load as a_load, store as a_store}
 use Rattle.queue.specs.Entry.{served, written}
 use Rattle.queue.specs.Touch.{apart, same, touch}
-use Rattle.queue.specs.Serve.{Source as Word, unsettled as unsettledWord, from_store, from_memory, source as wordSource}
+use Rattle.queue.specs.Serve.{Source as Word, unsettled as unsettled_word, from_store, from_memory, source as word_source}
 use Rattle.queue.specs.Write.{no_conflict}
 use Rattle.queue.proofs.Lists.{false-true}
 use Rattle.queue.proofs.SourceLaws.{word_from}
@@ -33,8 +33,8 @@ cells-opened memory b j low lane = record { agree = refl; right = tt; before = t
 -- ---- new entries
 
 fresh-view : (b j : ℕ) (a : Access) → Fresh (view b j (fresh a))
-fresh-view b j (aLoad p) = fresh-load
-fresh-view b j (aStore p) = fresh-store
+fresh-view b j (a_load p) = fresh-load
+fresh-view b j (a_store p) = fresh-store
 
 pub cells_added : (m memory : List ℕ) (log : List LogEntry) (new : List Access) → CellsHold m memory log → CellsHold m memory (log ++ map fresh new)
 cells_added m memory log [] h = rw (append-nil log) h
@@ -69,7 +69,7 @@ module _ (m memory : List ℕ) (pre : List LogEntry) (e e' : LogEntry) (post : L
   -- A load of the address a is served the word that its source gives.
   pub cells-served : (a v : ℕ) → ((b j : ℕ) → view b j e ≡ load (touch b (some a)) waiting none)
       → ((b j : ℕ) → view b j e' ≡ load (touch b (some a)) ended (some (lane_of v j)))
-      → word_from (get_or m a 0) (wordSource a (own_in stores pre)) ≡ some v
+      → word_from (get_or m a 0) (word_source a (own_in stores pre)) ≡ some v
       → CellsHold m memory (pre ++ e ∷ post) → CellsHold m memory (pre ++ e' ∷ post)
   cells-served a v was is word h =
       cells-change m (λ b j low lane k. rw (is b j) (go b j (eqb a b) refl (rw (was b j) at k))) h
@@ -77,7 +77,7 @@ module _ (m memory : List ℕ) (pre : List LogEntry) (e e' : LogEntry) (post : L
       from : (j : ℕ) (x : Word) → source in_memory (map (view a j) pre) ≡ source_in j x → word_from (get_or m a 0) x ≡ some v
           → (n : ℕ) (ps : List (Seen ℕ)) → CellInvariant (cell_at m a j) n (map (view a j) pre ++ load same waiting none ∷ ps)
           → CellInvariant (cell_at m a j) n (map (view a j) pre ++ load same ended (some (lane_of v j)) ∷ ps)
-      from j unsettledWord s w n ps k = let z : false ≡ true = cc in false-true z
+      from j unsettled_word s w n ps k = let z : false ≡ true = cc in false-true z
       from j (from_store none) s w n ps k = let z : false ≡ true = cc in false-true z
       from j (from_store (some x)) s w n ps k =
           let same_word : x ≡ v = cc in
@@ -92,7 +92,7 @@ module _ (m memory : List ℕ) (pre : List LogEntry) (e e' : LogEntry) (post : L
       go b j true here k =
           let at_a = eqb-true a b here in
           rw (← at_a)
-          (from j (wordSource a (own_in stores pre)) (source-view a j pre) word (cell_at memory a j) (map (view a j) post) (rw (← at_a) at k))
+          (from j (word_source a (own_in stores pre)) (source-view a j pre) word (cell_at memory a j) (map (view a j) post) (rw (← at_a) at k))
       go b j false here k = moves-keep (cell_at m b j) (cell_at memory b j) (map (view b j) pre) (map (view b j) post) load-aside k
 
   -- A store of w to the address a is written, where nothing before it conflicts.

@@ -9,7 +9,7 @@ use Rattle.table.specs.RightTables.{Each}
 use Rattle.queue.proofs.Lists.{false-true}
 use Rattle.sequential.proofs.EachLaws.{Pairs, each_both}
 use Rattle.sequential.proofs.Cells.{Stage, waiting, begun, ended, is_begun, is_ended, Seen, load, store, CellSource, supplied, in_memory, after}
-use Rattle.sequential.proofs.Cells.{source, storePassed}
+use Rattle.sequential.proofs.Cells.{source, store_passed}
 use Rattle.queue.specs.Touch.{Touch, apart, unknown, same, is_apart, is_same}
 use Rattle.sequential.proofs.CellInvariant.{may, or_else, fits, does, Agree, RightLoad, Right, writes, passed, Before}
 
@@ -35,7 +35,7 @@ module _ {B : Type 0} where
   does-passed same ended h b p w m = refl
 
   -- Virtual is actual past stores that are written or apart.
-  pub passed-holds : (m : B) (pre : List (Seen B)) → Each (λ a. storePassed a ≡ true) pre → Holding m m pre
+  pub passed-holds : (m : B) (pre : List (Seen B)) → Each (λ a. store_passed a ≡ true) pre → Holding m m pre
   passed-holds m [] h = refl
   passed-holds m (load t g o ∷ pre) h = passed-holds m pre h.1
   passed-holds m (store t g o ∷ pre) h = λ b p w q. rw (does-passed t g h.0 b p w m) (passed-holds m pre h.1)
@@ -64,7 +64,7 @@ module _ {B : Type 0} where
   -- A load that is sent to memory has only written and apart stores before it. Where a written store sent it there, this is the order in
   -- which stores are written (`Before.ordered`). P says that all stores before `pre` are passed.
   pub memory-clear : (P : Type 0) (k : CellSource B) (pre : List (Seen B)) → (k ≡ in_memory → P) → Each (λ x. writes x ≡ true → P) pre
-      → Pairs Before pre → source k pre ≡ in_memory → P × Each (λ a. storePassed a ≡ true) pre
+      → Pairs Before pre → source k pre ≡ in_memory → P × Each (λ a. store_passed a ≡ true) pre
   memory-clear P k [] h f r e = (h e, record {})
   memory-clear P k (load t g o ∷ pre) h f r e = let (p, rest) = memory-clear P k pre h f.1 r.1 e in (p, (refl, rest))
   memory-clear P k (store t g o ∷ pre) h f r e =

@@ -9,9 +9,9 @@ use Rattle.queue.proofs.Lists.{false-true}
 use Rattle.sequential.proofs.EachLaws.{everywhere, each_weaken, each-before, each_at, each-change, each_more, pairs-prefix, pairs-before}
 use Rattle.sequential.proofs.EachLaws.{pairs-change, pairs-more}
 use Rattle.sequential.proofs.Cells.{Stage, waiting, begun, ended, is_waiting, is_begun, Seen, load, store, supplied, in_memory, source}
-use Rattle.sequential.proofs.Cells.{storePassed}
+use Rattle.sequential.proofs.Cells.{store_passed}
 use Rattle.queue.specs.Touch.{Touch, apart, unknown, same, is_same}
-use Rattle.sequential.proofs.CellInvariant.{or_else, fits, does, Agree, RightLoad, RightStore, Right, writes, readsMemory, passed, Before}
+use Rattle.sequential.proofs.CellInvariant.{or_else, fits, does, Agree, RightLoad, RightStore, Right, writes, reads_memory, passed, Before}
 use Rattle.sequential.proofs.CellInvariant.{CellInvariant}
 use Rattle.sequential.proofs.CellMemory.{does-passed, passed-holds, supplied-holds, memory-clear, agree-change, agree-got, agree-write}
 
@@ -48,7 +48,7 @@ module _ {B : Type 0} where
   right-load same o h = h
 
   -- an entry that neither writes nor will read memory asks nothing of those before it
-  idle : (e : Seen B) → writes e ≡ false → readsMemory e ≡ false → (a : Seen B) → Before a e
+  idle : (e : Seen B) → writes e ≡ false → reads_memory e ≡ false → (a : Seen B) → Before a e
   idle e w r a = record { ordered = λ h. false-true (sym w ∙ h); clear = λ h. false-true (sym r ∙ h) }
 
   -- ---- one entry made anew
@@ -56,7 +56,7 @@ module _ {B : Type 0} where
   -- 31 and 32 refuse no later store for it that they did not refuse before.
   record Onward (e e' : Seen B) : Type 0 where
     all-passed : passed e ≡ true → passed e' ≡ true
-    store-passed : storePassed e ≡ true → storePassed e' ≡ true
+    store-passed : store_passed e ≡ true → store_passed e' ≡ true
 
   -- the entry's own part, what it is to later ones, and what earlier ones are to it
   anew : {m n m' : B} (pre post : List (Seen B)) (e e' : Seen B) → CellInvariant m n (pre ++ e ∷ post)
@@ -72,16 +72,16 @@ module _ {B : Type 0} where
 
   -- the same for an entry that then neither writes nor will read memory
   anew-idle : {m n m' : B} (pre post : List (Seen B)) (e e' : Seen B) → CellInvariant m n (pre ++ e ∷ post)
-      → Agree m' n (pre ++ e' ∷ post) → (Right e → Right e') → Onward e e' → writes e' ≡ false → readsMemory e' ≡ false
+      → Agree m' n (pre ++ e' ∷ post) → (Right e → Right e') → Onward e e' → writes e' ≡ false → reads_memory e' ≡ false
       → CellInvariant m' n (pre ++ e' ∷ post)
   anew-idle pre post e e' h agree right on w r =
       anew pre post e e' h agree right on (everywhere (λ a. Before a e → Before a e') (λ a b. idle e' w r a) pre)
 
   -- ---- the moves
 
-  fits-orElse : (o : Option B) (w : B) → fits o (or_else o w)
-  fits-orElse none w = record {}
-  fits-orElse (some x) w = refl
+  fits_or_else : (o : Option B) (w : B) → fits o (or_else o w)
+  fits_or_else none w = record {}
+  fits_or_else (some x) w = refl
 
   module _ (m n : B) (pre post : List (Seen B)) where
     kept-load-aside : (g g' : Stage) (o o' : Option B)
@@ -101,7 +101,7 @@ module _ {B : Type 0} where
         same_memory : (m n : B) → Agree m n (store apart g o ∷ post) → Agree m n (store apart g' o' ∷ post)
         same_memory m n k b p w q =
             rw (p, does-passed apart g' refl false refl w m)
-            (rw (does-passed apart g refl false refl (or_else o w) m) at (k false refl (or_else o w) (fits-orElse o w)))
+            (rw (does-passed apart g refl false refl (or_else o w) m) at (k false refl (or_else o w) (fits_or_else o w)))
 
     kept-load-address : (t : Touch) (g : Stage) (o : Option B)
         → CellInvariant m n (pre ++ load unknown g o ∷ post) → CellInvariant m n (pre ++ load t g o ∷ post)
@@ -155,10 +155,10 @@ module _ {B : Type 0} where
         (agree-change (load same waiting none) (load same begun none) post (λ m n k. k) pre m n
         (rw (each_at Right pre post (load same waiting o) h.right) at h.agree))
         (λ r. record {}) (record { all-passed = λ p. false-true p; store-passed = λ p. refl })
-        (each_weaken (λ a. storePassed a ≡ true) (λ a. Before a (load same waiting o) → Before a (load same begun none))
+        (each_weaken (λ a. store_passed a ≡ true) (λ a. Before a (load same waiting o) → Before a (load same begun none))
         (λ a p b. record { ordered = λ z. false-true z; clear = λ z. p }) pre clear)
       where
-        clear : Each (λ a. storePassed a ≡ true) pre
+        clear : Each (λ a. store_passed a ≡ true) pre
         clear =
             (memory-clear (Unit {0}) in_memory pre (λ e. record {}) (everywhere (λ x. writes x ≡ true → Unit {0}) (λ x w. record {}) pre)
             (pairs-prefix Before pre post (load same waiting o) h.before) s).1
@@ -174,7 +174,7 @@ module _ {B : Type 0} where
             → Agree m n (pre ++ load same ended (some (or_else o m)) ∷ post)
         got none k b =
             agree-got same begun ended m post pre m n
-            (passed-holds m pre (each_weaken (λ a. Before a (load same begun none)) (λ a. storePassed a ≡ true) (λ a r. r.clear refl) pre b)) k
+            (passed-holds m pre (each_weaken (λ a. Before a (load same begun none)) (λ a. store_passed a ≡ true) (λ a r. r.clear refl) pre b)) k
         got (some v) k b = agree-change (load same begun (some v)) (load same ended (some v)) post (λ m n j. j) pre m n k
 
     kept-store-begun : (w : B) → Each (λ a. passed a ≡ true) pre

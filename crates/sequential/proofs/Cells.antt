@@ -54,10 +54,10 @@ module _ {B : Type 0} where
   source k (store t g o ∷ es) = source (after t g o k) es
 
   -- an earlier load, an earlier store, that does not stand in a store's way: 31 and 32 for one cell
-  abbrev pub loadPassed : Seen B → Bool
-  loadPassed (load t g o) = is_apart t || is_ended g
-  loadPassed (store t g o) = true
+  abbrev pub load_passed : Seen B → Bool
+  load_passed (load t g o) = is_apart t || is_ended g
+  load_passed (store t g o) = true
 
-  abbrev pub storePassed : Seen B → Bool
-  storePassed (load t g o) = true
-  storePassed (store t g o) = is_apart t || is_ended g
+  abbrev pub store_passed : Seen B → Bool
+  store_passed (load t g o) = true
+  store_passed (store t g o) = is_apart t || is_ended g

@@ -16,7 +16,7 @@ use Rattle.number.proofs.Both.{and_left}
 use Rattle.queue.proofs.Lists.{and_both}
 use Rattle.sequential.specs.Calls.{Call}
 use Rattle.sequential.specs.Answers.{Machine, Answered, answers, machine_after}
-use Rattle.sequential.specs.Plain.{Told, Rows, rows_of, in_order, accesses, Filling, word_reading, PlainState, plain_start, valuesFrom, memoryFrom}
+use Rattle.sequential.specs.Plain.{Told, Rows, rows_of, in_order, accesses, Filling, word_reading, PlainState, plain_start, values_from, memory_from}
 use Rattle.sequential.specs.Plain.{values_at, plain_loads, plain_memory}
 use Rattle.sequential.specs.Demand3.{told, taken_at, Sequential, Opening, Demand3, AlikeLists}
 use Rattle.sequential.proofs.Log.{LogEntry, of_load, of_store, access_of, stores, own_in, loads}
@@ -90,11 +90,11 @@ module _ (groups : List GroupPairs) (memory : List ℕ) (a b : List Told) (h : A
 
   pub alike-loads : (port : ℕ) → plain_loads groups memory a fill port ≡ plain_loads groups memory b fill port
   unfolding plain_loads
-  alike-loads port = alike_runs (λ s order. values_at port (valuesFrom word_reading fill 0 s order))
+  alike-loads port = alike_runs (λ s order. values_at port (values_from word_reading fill 0 s order))
 
   pub alike-memories : plain_memory groups memory a fill ≡ plain_memory groups memory b fill
   unfolding plain_memory
-  alike-memories = alike_runs (λ s order. memoryFrom word_reading fill 0 s order)
+  alike-memories = alike_runs (λ s order. memory_from word_reading fill 0 s order)
 
 -- any filling serves; the memory has a word 0
 zeros : Filling

@@ -25,7 +25,7 @@ use Rattle.queue.specs.declared.Kind.{Kind}
 use Rattle.queue.specs.declared.Kind.TheVariants.{Load, Store}
 use Rattle.table.specs.declared.Pair.{Pair}
 use Rattle.number.proofs.Both.{and_left, and_right}
-use Rattle.queue.proofs.Lists.{false-true, and_both, all_join, all_take, all_map, all-weaken, all_middle, getElem?-split}
+use Rattle.queue.proofs.Lists.{false-true, and_both, all_join, all_take, all_map, all-weaken, all_middle, get_elem?_split}
 use Rattle.queue.proofs.ActivateLaws.{with_group_is}
 use Rattle.queue.proofs.SourceLaws.{past_store, source_from, source_from_lem, word_from, loaded_word}
 use Rattle.sequential.specs.Calls.{Call}
@@ -44,9 +44,9 @@ module _ {A : Type 0} (p : A → Bool) where
   all_update f keeps zero (x ∷ xs) h = and_both (keeps x (and_left (p x) (all_of p xs) h)) (and_right (p x) (all_of p xs) h)
   all_update f keeps (suc i) (x ∷ xs) h = and_both (and_left (p x) (all_of p xs) h) (all_update f keeps i xs (and_right (p x) (all_of p xs) h))
 
-  all-afterWhile : (t : A → Bool) (xs : List A) → all_of p xs ≡ true → all_of p (after_while t xs) ≡ true
-  all-afterWhile t [] h = refl
-  all-afterWhile t (x ∷ xs) h = go (t x) (all-afterWhile t xs (and_right (p x) (all_of p xs) h))
+  all_after_while : (t : A → Bool) (xs : List A) → all_of p xs ≡ true → all_of p (after_while t xs) ≡ true
+  all_after_while t [] h = refl
+  all_after_while t (x ∷ xs) h = go (t x) (all_after_while t xs (and_right (p x) (all_of p xs) h))
     where
       go : (b : Bool) → all_of p (after_while t xs) ≡ true → all_of p (pick b (after_while t xs) (x ∷ xs)) ≡ true
       go true k = k
@@ -63,7 +63,7 @@ module _ {A : Type 0} (p : A → Bool) where
   all_get_d (x ∷ xs) (suc i) d h k = all_get_d xs i d (and_right (p x) (all_of p xs) h) k
 
   all_found : (xs : List A) (i : ℕ) {x : A} → get_elem? xs i ≡ some x → all_of p xs ≡ true → p x ≡ true
-  all_found xs i {x} at h = let (b, a, e, l) = getElem?-split xs i at in all_middle p b a x (rw e at h)
+  all_found xs i {x} at h = let (b, a, e, l) = get_elem?_split xs i at in all_middle p b a x (rw e at h)
 
   all-by-place : (d : A) (xs : List A) → ((i : ℕ) → i < length xs → p (get_or xs i d) ≡ true) → all_of p xs ≡ true
   all-by-place d [] h = refl
@@ -146,7 +146,7 @@ module _ (q : Contents) (m : List ℕ) (f : Fits (machine q m)) where
     where
       left : (others l : List Entry) → all_of entry_fits l ≡ true → all_of entry_fits (map (after_retiring (retiring others)) (after_while finished l)) ≡ true
       left others l h =
-          all_map entry_fits entry_fits (after_retiring (retiring others)) (λ e. refl) (after_while finished l) ∙ all-afterWhile entry_fits finished l h
+          all_map entry_fits entry_fits (after_retiring (retiring others)) (λ e. refl) (after_while finished l) ∙ all_after_while entry_fits finished l h
 
   group-fits : (g : GroupPairs) → GroupRight g → Fits (machine (with_group q g) m)
   group-fits g right =

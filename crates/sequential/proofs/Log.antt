@@ -133,9 +133,9 @@ module _ (K : Kind) where
       go none h k = k
       go (some a) h k = ap (λ (l : List Entry). a ∷ l) h
 
-  pub ownIn-append : (xs ys : List LogEntry) → own_in K (xs ++ ys) ≡ own_in K xs ++ own_in K ys
-  ownIn-append [] ys = refl
-  ownIn-append (e ∷ xs) ys = go (own K e) (ownIn-append xs ys)
+  pub own_in_append : (xs ys : List LogEntry) → own_in K (xs ++ ys) ≡ own_in K xs ++ own_in K ys
+  own_in_append [] ys = refl
+  own_in_append (e ∷ xs) ys = go (own K e) (own_in_append xs ys)
     where
       go : (o : Option Entry) → own_in K (xs ++ ys) ≡ own_in K xs ++ own_in K ys → cons_option o (own_in K (xs ++ ys)) ≡ cons_option o (own_in K xs) ++ own_in K ys
       go none h = h

@@ -18,8 +18,8 @@ use Rattle.number.proofs.Both.{and_left, and_right}
 use Rattle.queue.proofs.Lists.{false-true, implied}
 use Rattle.sequential.specs.Answers.{Answered}
 use Rattle.sequential.specs.Demand3.{told, uses}
-use Rattle.sequential.specs.Plain.{accesses, Rows, Filling, next_of, used_up, Reading, word_reading, PlainState, after_load, afterStore, valuesFrom}
-use Rattle.sequential.specs.Plain.{memoryFrom, values_at}
+use Rattle.sequential.specs.Plain.{accesses, Rows, Filling, next_of, used_up, Reading, word_reading, PlainState, after_load, after_store, values_from}
+use Rattle.sequential.specs.Plain.{memory_from, values_at}
 use Rattle.sequential.proofs.Log.{LogEntry, of_load, of_store, access_of, loads, stores, own_in}
 use Rattle.sequential.proofs.Lanes.{lanes, lane_of, cell_at, lanes_word, at_put, cells-memory}
 use Rattle.sequential.proofs.CellInvariant.{may, fits, does, Agree}
@@ -75,7 +75,7 @@ cellwise-load l a x v n es right p has h =
 pub taken_is_loaded : (fill : Filling) (port : ℕ) (es : List LogEntry) (k : ℕ) (v : ℕ → ℕ → ℕ) (n : List ℕ) (rows : Rows)
     → all_of (right_load (length n)) (own_in loads es) ≡ true → AllRows es rows → Cellwise v n es
     → (row : List ℕ) → Row (value_taken port) es row → (i x : ℕ) → get_elem? row i ≡ some x
-    → get_elem? (values_at port (valuesFrom word_reading fill k (record { memory = n; rows = rows }) (map access_of es))) i ≡ some x
+    → get_elem? (values_at port (values_from word_reading fill k (record { memory = n; rows = rows }) (map access_of es))) i ≡ some x
 taken_is_loaded fill port [] k v n rows right h g row r i x e = let z : get_elem? [] i ≡ some x = (rw r at e) in let y : false ≡ true = cc in false-true y
 taken_is_loaded fill port (of_load l ∷ es) k v n rows right h g row r i x e =
     go (eqb l.port port) l.finished l.word has i r e
@@ -87,7 +87,7 @@ taken_is_loaded fill port (of_load l ∷ es) k v n rows right h g row r i x e =
     word = get_or n (next_of (rows LoadAddress l.port) (fill.address k)) 0
 
     later : List ℕ
-    later = values_at port (valuesFrom word_reading fill (suc k) (record { memory = n; rows = used_up LoadAddress l.port rows }) (map access_of es))
+    later = values_at port (values_from word_reading fill (suc k) (record { memory = n; rows = used_up LoadAddress l.port rows }) (map access_of es))
 
     has : (y : ℕ) → l.word ≡ some y → y ≡ word
     has y is =
@@ -123,7 +123,7 @@ taken_is_loaded fill port (of_store s ∷ es) k v n rows right h g row r i x e =
 -- Where every store is written, virtual memory is memory, and memory is the plain run's.
 cellwise-written : (fill : Filling) (es : List LogEntry) (k : ℕ) (v : ℕ → ℕ → ℕ) (n : List ℕ) (rows : Rows) → AllRows es rows
     → Cellwise v n es → all_of finished (own_in stores es) ≡ true → (b j : ℕ) → b < length n → j < lanes
-    → v b j ≡ cell_at (memoryFrom word_reading fill k (record { memory = n; rows = rows }) (map access_of es)) b j
+    → v b j ≡ cell_at (memory_from word_reading fill k (record { memory = n; rows = rows }) (map access_of es)) b j
 cellwise-written fill [] k v n rows h g t b j low lane = g b j low lane
 cellwise-written fill (of_load l ∷ es) k v n rows h g t b j low lane =
     cellwise-written fill es (suc k) v n (used_up LoadAddress l.port rows) (rows_after_load l es rows h) (λ b j low lane. (g b j low lane).1) t b j low lane
@@ -141,16 +141,16 @@ cellwise-written fill (of_store s ∷ es) k v n rows h g t b j low lane =
     word = next_of (rows StoreData s.port) (fill.word k)
 
 pub memory-long : (fill : Filling) (k : ℕ) (s : PlainState ℕ) (accesses : List Access)
-    → length (memoryFrom word_reading fill k s accesses) ≡ length s.memory
+    → length (memory_from word_reading fill k s accesses) ≡ length s.memory
 memory-long fill k s [] = refl
 memory-long fill k s (load p ∷ rest) = memory-long fill (suc k) (after_load s p.port) rest
 memory-long fill k s (store p ∷ rest) =
-    memory-long fill (suc k) (afterStore word_reading fill k s p.port) rest
+    memory-long fill (suc k) (after_store word_reading fill k s p.port) rest
     ∙ length-set s.memory (next_of (s.rows StoreAddress p.port) (fill.address k)) (next_of (s.rows StoreData p.port) (fill.word k))
 
 pub written_is_plain : (fill : Filling) (es : List LogEntry) (m n : List ℕ) (rows : Rows) → length m ≡ length n → AllRows es rows
     → Cellwise (cell_at m) n es → all_of finished (own_in stores es) ≡ true
-    → m ≡ memoryFrom word_reading fill 0 (record { memory = n; rows = rows }) (map access_of es)
+    → m ≡ memory_from word_reading fill 0 (record { memory = n; rows = rows }) (map access_of es)
 written_is_plain fill es m n rows long h g t =
     cells-memory m _ (long ∙ sym (memory-long fill 0 (record { memory = n; rows = rows }) (map access_of es)))
     (λ b j low lane. cellwise-written fill es 0 (cell_at m) n rows h g t b j (rw (← long) low) lane)
@@ -158,15 +158,15 @@ written_is_plain fill es m n rows long h g t =
 -- ---- the plain run does not look at offsets
 
 module _ {A : Type 0} (reading : Reading A) (fill : Filling) where
-  pub values-uncounted : (k : ℕ) (s : PlainState A) (xs : List Access) → valuesFrom reading fill k s (map uncounted xs) ≡ valuesFrom reading fill k s xs
+  pub values-uncounted : (k : ℕ) (s : PlainState A) (xs : List Access) → values_from reading fill k s (map uncounted xs) ≡ values_from reading fill k s xs
   values-uncounted k s [] = refl
   values-uncounted k s (load p ∷ xs) = rw (values-uncounted (suc k) (after_load s p.port) xs)
-  values-uncounted k s (store p ∷ xs) = values-uncounted (suc k) (afterStore reading fill k s p.port) xs
+  values-uncounted k s (store p ∷ xs) = values-uncounted (suc k) (after_store reading fill k s p.port) xs
 
-  pub memory-uncounted : (k : ℕ) (s : PlainState A) (xs : List Access) → memoryFrom reading fill k s (map uncounted xs) ≡ memoryFrom reading fill k s xs
+  pub memory-uncounted : (k : ℕ) (s : PlainState A) (xs : List Access) → memory_from reading fill k s (map uncounted xs) ≡ memory_from reading fill k s xs
   memory-uncounted k s [] = refl
   memory-uncounted k s (load p ∷ xs) = memory-uncounted (suc k) (after_load s p.port) xs
-  memory-uncounted k s (store p ∷ xs) = memory-uncounted (suc k) (afterStore reading fill k s p.port) xs
+  memory-uncounted k s (store p ∷ xs) = memory-uncounted (suc k) (after_store reading fill k s p.port) xs
 
 pub count-uncounted : (p : Access → Bool) → ((a : Access) → p (uncounted a) ≡ p a) → (xs : List Access)
     → count_where p (map uncounted xs) ≡ count_where p xs

@@ -24,13 +24,13 @@ use Rattle.queue.specs.declared.arguments.Argument.{Argument}
 use Rattle.queue.specs.declared.arguments.Argument.TheVariants.{LoadAddress, StoreAddress, StoreData}
 use Rattle.number.specs.Reply.{number}
 use Rattle.number.proofs.Both.{and_left, and_right}
-use Rattle.queue.proofs.Lists.{false-true, is_none, and_both, or_left, all_left, all_middle, getElem?-short}
+use Rattle.queue.proofs.Lists.{false-true, is_none, and_both, or_left, all_left, all_middle, get_elem?-short}
 use Rattle.queue.proofs.SourceLaws.{source-memory, has_address}
 use Rattle.queue.proofs.Serials.{place_of_serial, oldest-small, after_small}
 use Rattle.sequential.specs.Answers.{Machine, Answered}
 use Rattle.sequential.specs.Plain.{rows_of, accesses, cons_option}
 use Rattle.sequential.specs.Demand3.{told, uses, some_unserved, some_unwritten, all_arguments, would_move}
-use Rattle.sequential.proofs.Log.{LogEntry, of_load, of_store, access_of, loads, stores, own_in, loads-stores, stores-loads, ownIn-append, put}
+use Rattle.sequential.proofs.Log.{LogEntry, of_load, of_store, access_of, loads, stores, own_in, loads-stores, stores-loads, own_in_append, put}
 use Rattle.sequential.proofs.Log.{own, put_own}
 use Rattle.sequential.proofs.Window.{Located, turned, unfinished-queued, before-queued}
 use Rattle.sequential.proofs.PlainRun.{seen-count, loads-uncounted, stores-uncounted, uses-uncounted}
@@ -158,7 +158,7 @@ serial_of s right few i at = (after from i, after_small from i, place_of_serial 
 
     small : i < 2 ^ 32
     small =
-        let short : i < length s.entries = getElem?-short s.entries i at in
+        let short : i < length s.entries = get_elem?-short s.entries i at in
         let depth : s.depth ≤ 64 = leb-true s.depth 64 (and_right (leb 1 s.depth) _ right) in
         omega (arith, few)
 
@@ -182,13 +182,13 @@ module _ (q : Contents) (m memory : List ℕ) (log : List LogEntry) (h : Holds q
       untaken =
           untaken-unserved q.memory_length l
           (all_middle (right_load q.memory_length) (own_in loads pre) (own_in loads post) l
-          (rw (log_is, ownIn-append loads pre (of_load l ∷ post)) at (h.right loads))) value
+          (rw (log_is, own_in_append loads pre (of_load l ∷ post)) at (h.right loads))) value
 
-      storesWritten : all_of finished (own_in stores pre) ≡ true
-      storesWritten = all_own stores is_done finished (λ s t. t) pre before
+      stores_written : all_of finished (own_in stores pre) ≡ true
+      stores_written = all_own stores is_done finished (λ s t. t) pre before
 
-      storesAddressed : all_of has_address (own_in stores pre) ≡ true
-      storesAddressed = all_own stores complete has_address (λ s t. and_left (is_some s.address) _ t) pre
+      stores_addressed : all_of has_address (own_in stores pre) ≡ true
+      stores_addressed = all_own stores complete has_address (λ s t. and_left (is_some s.address) _ t) pre
           (all_left complete pre (of_load l ∷ post) (rw log_is at filled))
 
       go : (i : ℕ) × Located loads stores log q.loads.entries q.stores.entries i pre l post → (a : ℕ) × (l.address ≡ some a)
@@ -201,8 +201,8 @@ module _ (q : Contents) (m memory : List ℕ) (log : List LogEntry) (h : Holds q
             small,
             inl
                 (serve-accepted q m serial (with_before place.number l) a right h.long (ap (get_elem? q.loads.entries) is ∙ place.at) value address
-                (source-memory a (take place.number q.stores.entries) (before-queued place.before' finished (λ n s. refl) storesWritten)
-                (before-queued place.before' has_address (λ n s. refl) storesAddressed))),
+                (source-memory a (take place.number q.stores.entries) (before-queued place.before' finished (λ n s. refl) stores_written)
+                (before-queued place.before' has_address (λ n s. refl) stores_addressed))),
           )
 
   store-moves : (pre : List LogEntry) (s : Entry) (post : List LogEntry) → log ≡ pre ++ of_store s ∷ post → all_of is_done pre ≡ true

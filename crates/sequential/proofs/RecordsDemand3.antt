@@ -30,7 +30,7 @@ use Rattle.queue.specs.Take.{Taken, take_rule}
 use Rattle.queue.specs.Ready.{ready, Readies}
 use Rattle.queue.specs.Outcome.{value_in, Handed, handed, no_value, Accepted, HandedCounts, Moves, Takes, Serves, Writes, Opens, with_counts}
 use Rattle.queue.specs.Parts.{queue_of, OpensFrame}
-use Rattle.number.proofs.ReplyLaws.{need-among, andThen-among, not_zero}
+use Rattle.number.proofs.ReplyLaws.{need-among, and_then_among, not_zero}
 use Rattle.queue.proofs.Refusals.{proper}
 use Rattle.sequential.specs.Calls.{Call, Activate, Give, Serve, Write, Take, Ready}
 use Rattle.sequential.specs.Answers.{Machine, Response, move_response, serve_response, write_response, take_response, step, Answered, answers}
@@ -139,7 +139,7 @@ pub open_proper : (groups : List GroupPairs) (load_depth store_depth first words
     → proper (open_queue groups load_depth store_depth first words) ≡ true
 unfolding open_queue
 open_proper groups load_depth store_depth first words =
-    andThen-among not_zero (check_table groups) _ (check_table_among not_zero refl groups) λ right.
+    and_then_among not_zero (check_table groups) _ (check_table_among not_zero refl groups) λ right.
     need-among not_zero (depth_right load_depth) _ _ refl
     (need-among not_zero (depth_right store_depth) _ _ refl
     (need-among not_zero (memory_right words) _ _ refl (need-among not_zero (all_of (group_fits load_depth store_depth) groups) _ _ refl refl)))

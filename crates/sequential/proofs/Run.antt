@@ -13,7 +13,7 @@ use Rattle.queue.specs.declared.Kind.TheVariants.{Load, Store}
 use Rattle.queue.specs.Contents.{Contents}
 use Rattle.queue.specs.Sound.{depth_right, memory_right}
 use Rattle.queue.specs.Open.{group_fits, opened, open_queue}
-use Rattle.number.proofs.ReplyLaws.{need-accepts, andThen-accepts}
+use Rattle.number.proofs.ReplyLaws.{need-accepts, and_then_accepts}
 use Rattle.sequential.specs.Calls.{Call}
 use Rattle.sequential.specs.Answers.{Machine, Response, Answered, step, answers, machine_after}
 use Rattle.sequential.specs.Demand3.{Opening}
@@ -33,7 +33,7 @@ pub limits-opened : (groups : List GroupPairs) (load_depth store_depth first wor
     → Limits groups words load_depth store_depth × (opened groups load_depth store_depth first words ≡ q)
 unfolding open_queue
 limits-opened groups load_depth store_depth first words q h₀ =
-    let (t, t₁, h₁) = andThen-accepts (check_table groups) _ h₀ in
+    let (t, t₁, h₁) = and_then_accepts (check_table groups) _ h₀ in
     let (t₂, h₂) = need-accepts (depth_right load_depth) _ _ h₁ in
     let (t₃, h₃) = need-accepts (depth_right store_depth) _ _ h₂ in
     let (t₄, h₄) = need-accepts (memory_right words) _ _ h₃ in

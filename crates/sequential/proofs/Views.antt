@@ -10,7 +10,7 @@ use Rattle.number.proofs.Both.{and_left, and_right}
 use Rattle.table.specs.RightTables.{Each}
 use Rattle.queue.specs.Entry.{Entry, served, written}
 use Rattle.queue.specs.Touch.{Touch, unknown, same, apart, touch, is_apart}
-use Rattle.queue.specs.Serve.{Source as Word, unsettled as unsettledWord, from_store, from_memory, decided, source as wordSource}
+use Rattle.queue.specs.Serve.{Source as Word, unsettled as unsettled_word, from_store, from_memory, decided, source as word_source}
 use Rattle.queue.specs.Write.{no_conflict}
 use Rattle.queue.proofs.Lists.{and_both}
 use Rattle.queue.proofs.SourceLaws.{past_store, source_from, source_from_lem}
@@ -48,7 +48,7 @@ store_view b j s has filled done = rw (has, filled, done)
 
 -- where a load's word comes from, seen from a cell of its address
 abbrev pub source_in : ℕ → Word → CellSource ℕ
-source_in j unsettledWord = unsettled
+source_in j unsettled_word = unsettled
 source_in j (from_store word) = supplied (lane_in j word)
 source_in j from_memory = in_memory
 
@@ -71,7 +71,7 @@ view_from a j found (of_load l ∷ pre) = view_from a j found pre
 view_from a j found (of_store s ∷ pre) = rw (past_view a j s found) (view_from a j (past_store a s found) pre)
 
 -- The cell's source is the queue's.
-pub source-view : (a j : ℕ) (pre : List LogEntry) → source in_memory (map (view a j) pre) ≡ source_in j (wordSource a (own_in stores pre))
+pub source-view : (a j : ℕ) (pre : List LogEntry) → source in_memory (map (view a j) pre) ≡ source_in j (word_source a (own_in stores pre))
 source-view a j pre = view_from a j from_memory pre ∙ ap (source_in j) (sym (source_from_lem a (own_in stores pre)))
 
 -- ---- 31 and 32

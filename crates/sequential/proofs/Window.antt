@@ -18,8 +18,8 @@ use Rattle.queue.specs.Entry.{Entry, with_before}
 use Rattle.queue.specs.Contents.{update_at}
 use Rattle.queue.specs.Retire.{finished, retiring, after_retiring}
 use Rattle.queue.proofs.Lists.{false-true, all_left, all_right, all_join, all_take, all_map, all-weaken, all-weaken₂, take-append, take-map}
-use Rattle.queue.proofs.Lists.{getElem?-map, map_same, failing-behind, getElem?-split, getElem?-seam, updateAt-seam, all-frontWhile, afterWhile-map}
-use Rattle.queue.proofs.Lists.{length-frontWhile-map}
+use Rattle.queue.proofs.Lists.{get_elem?-map, map_same, failing-behind, get_elem?_split, get_elem?_seam, update_at_seam, all_front_while, after_while-map}
+use Rattle.queue.proofs.Lists.{length_front_while_map}
 use Rattle.sequential.specs.Plain.{cons_option}
 use Rattle.sequential.proofs.Log.{LogEntry, Opposite, Placed, place, placed_entry, side, own_in, own, put, own_put, others, counting}
 use Rattle.sequential.proofs.Log.{side-append, map-side, side-length, side_before, side-split}
@@ -154,7 +154,7 @@ module _ (K K' : Kind) (opposite : Opposite K K') where
 
     located-at : get_elem? held (length near) ≡ some (shown gone' (place (others K pre) it))
     located-at = rw (held-is, ← i-is)
-        (getElem?-seam (map (shown gone') near) (shown gone' (place (others K pre) it))
+        (get_elem?_seam (map (shown gone') near) (shown gone' (place (others K pre) it))
         (map (shown gone') (side K (others K pre) post)))
 
     located-nth : length (own_in K pre) + length held ≡ length (own_in K log) + length near
@@ -199,7 +199,7 @@ module _ (K K' : Kind) (opposite : Opposite K K') where
         (map (shown gone') near ++ shown gone' (place (others K pre) it) ∷ map (shown gone') (side K (others K pre) post))
         ≡ map (shown gone') near ++ shown gone' (place (others K pre) (f it)) ∷ map (shown gone') (side K (others K pre) post)
     updated f blind =
-        updateAt-seam f (map (shown gone') near) (shown gone' (place (others K pre) it))
+        update_at_seam f (map (shown gone') near) (shown gone' (place (others K pre) it))
         (map (shown gone') (side K (others K pre) post))
         ∙ rw (blind (others K pre - gone') it)
 
@@ -240,7 +240,7 @@ module _ (K K' : Kind) (opposite : Opposite K K') where
   -- the entry at a place of the queue
   pub locate : {log : List LogEntry} {held held' : List Entry} → Windows K K' log held held' → (i : ℕ) {x : Entry} → get_elem? held i ≡ some x
       → (pre : List LogEntry) × (it : Entry) × (post : List LogEntry) × Located K K' log held held' i pre it post
-  locate {log} {held} {held'} w i {x} h = at-live (getElem?-map (shown w.gone') w.ours.live i (rw w.ours.shows at h))
+  locate {log} {held} {held'} w i {x} h = at-live (get_elem?-map (shown w.gone') w.ours.live i (rw w.ours.shows at h))
     where
       at-log : (near far : List Placed) (y : Placed) → w.ours.live ≡ near ++ y ∷ far → length near ≡ i
           → ((pre post : List LogEntry) × (log ≡ pre ++ put K y.entry ∷ post) × (side K 0 pre ≡ w.ours.old ++ near))
@@ -254,7 +254,7 @@ module _ (K K' : Kind) (opposite : Opposite K K') where
 
       at-live : (y : Placed) × (get_elem? w.ours.live i ≡ some y) → (pre : List LogEntry) × (it : Entry) × (post : List LogEntry)
           × Located K K' log held held' i pre it post
-      at-live (y, e) = at_place y (getElem?-split w.ours.live i e)
+      at-live (y, e) = at_place y (get_elem?_split w.ours.live i e)
 
   -- an unfinished entry of the log has a place in the queue
   pub unfinished-queued : {log : List LogEntry} {held held' : List Entry} → Windows K K' log held held'
@@ -336,10 +336,10 @@ module _ (K K' : Kind) (opposite : Opposite K K') where
         ∙ sym (append_assoc w.old (front_while is_over w.live) (after_while is_over w.live));
     many =
         length-append w.old (front_while is_over w.live)
-        ∙ rw (w.many, w.shows, length-frontWhile-map finished is_over (shown out) (λ x. refl) w.live);
-    ended = all_join is_over w.old (front_while is_over w.live) w.ended (all-frontWhile is_over w.live);
+        ∙ rw (w.many, w.shows, length_front_while_map finished is_over (shown out) (λ x. refl) w.live);
+    ended = all_join is_over w.old (front_while is_over w.live) w.ended (all_front_while is_over w.live);
     shows =
-        rw (w.shows, afterWhile-map finished is_over (shown out) (λ x. refl) w.live)
+        rw (w.shows, after_while-map finished is_over (shown out) (λ x. refl) w.live)
         (map-map (after_retiring j) (shown out) (after_while is_over w.live)
         ∙ map_same (λ x. after_retiring j (shown out x)) (shown (out + j)) lower (after_while is_over w.live));
   }

@@ -119,22 +119,22 @@ module _ {A : Type 0} (reading : Reading A) (fill : Filling) where
   loaded_at k s port = get_or s.memory (next_of (s.rows LoadAddress port) (fill.address k)) reading.beyond
 
   -- "A store uses up the next address and the next data of its port's rows and puts the data there."
-  abbrev pub afterStore : ℕ → PlainState A → ℕ → PlainState A
-  afterStore k s port = record {
+  abbrev pub after_store : ℕ → PlainState A → ℕ → PlainState A
+  after_store k s port = record {
     memory = set s.memory (next_of (s.rows StoreAddress port) (fill.address k)) (reading.put k (next_of (s.rows StoreData port) (fill.word k)));
     rows = used_up StoreData port (used_up StoreAddress port s.rows);
   }
 
   -- The values loaded, and the memory at the end, of the accesses from the kth on.
-  abbrev pub valuesFrom : ℕ → PlainState A → List Access → List (PortValue A)
-  valuesFrom k s [] = []
-  valuesFrom k s (load p ∷ rest) = record { port = p.port; value = loaded_at k s p.port } ∷ valuesFrom (suc k) (after_load s p.port) rest
-  valuesFrom k s (store p ∷ rest) = valuesFrom (suc k) (afterStore k s p.port) rest
+  abbrev pub values_from : ℕ → PlainState A → List Access → List (PortValue A)
+  values_from k s [] = []
+  values_from k s (load p ∷ rest) = record { port = p.port; value = loaded_at k s p.port } ∷ values_from (suc k) (after_load s p.port) rest
+  values_from k s (store p ∷ rest) = values_from (suc k) (after_store k s p.port) rest
 
-  abbrev pub memoryFrom : ℕ → PlainState A → List Access → List A
-  memoryFrom k s [] = s.memory
-  memoryFrom k s (load p ∷ rest) = memoryFrom (suc k) (after_load s p.port) rest
-  memoryFrom k s (store p ∷ rest) = memoryFrom (suc k) (afterStore k s p.port) rest
+  abbrev pub memory_from : ℕ → PlainState A → List Access → List A
+  memory_from k s [] = s.memory
+  memory_from k s (load p ∷ rest) = memory_from (suc k) (after_load s p.port) rest
+  memory_from k s (store p ∷ rest) = memory_from (suc k) (after_store k s p.port) rest
 
 -- the run's beginning: the opening memory and all the rows
 abbrev pub plain_start : {A : Type 0} → List A → List Told → PlainState A
@@ -147,7 +147,7 @@ values_at port (l ∷ ls) = pick (eqb l.port port) (l.value ∷ values_at port l
 
 -- The plain run: the values that a port loads, in order, and the memory that it leaves.
 unfoldable pub plain_loads : List GroupPairs → List ℕ → List Told → Filling → ℕ → List ℕ
-plain_loads groups memory ts fill port = values_at port (valuesFrom word_reading fill 0 (plain_start memory ts) (accesses groups ts))
+plain_loads groups memory ts fill port = values_at port (values_from word_reading fill 0 (plain_start memory ts) (accesses groups ts))
 
 unfoldable pub plain_memory : List GroupPairs → List ℕ → List Told → Filling → List ℕ
-plain_memory groups memory ts fill = memoryFrom word_reading fill 0 (plain_start memory ts) (accesses groups ts)
+plain_memory groups memory ts fill = memory_from word_reading fill 0 (plain_start memory ts) (accesses groups ts)

@@ -24,7 +24,7 @@ use Rattle.queue.specs.Outcome.{value_in, Handed, Takes}
 use Rattle.queue.specs.Parts.{queue_of}
 use Rattle.number.proofs.ReplyLaws.{refusal_not_zero}
 use Rattle.queue.proofs.Refusals.{proper, take_proper}
-use Rattle.queue.proofs.Lists.{false-true, length-updateAt}
+use Rattle.queue.proofs.Lists.{false-true, length-update_at}
 use Rattle.queue.proofs.ContentsLaws.{update-set}
 use Rattle.sequential.specs.Calls.{Call, Activate, Give, Serve, Write, Take, Ready}
 use Rattle.sequential.specs.Answers.{Machine, Answered, take_response, step, answers}
@@ -77,7 +77,7 @@ record Has (r : ShiftRecord) (port n v : ℕ) : Type 0 where
 -- a take at the port
 has-taken : {r : ShiftRecord} {port n v : ℕ} (w : ℕ) → Has r port n v → Has (recorded port w r) port (suc n) w
 has-taken {r} {port} {n} w h = record {
-  room = rw (length-updateAt one_more port r.takes) h.room;
+  room = rw (length-update_at one_more port r.takes) h.room;
   room_too = rw (length-set r.values port w) h.room_too;
   takes =
       ap (λ (l : List ℕ). get_or l port 0) (update-set one_more r.takes port 0)
@@ -90,7 +90,7 @@ has-taken {r} {port} {n} w h = record {
 -- a take at another port, which the record may have or not
 has_kept : {r : ShiftRecord} {port n v : ℕ} (p w : ℕ) → (p ≡ port → ⊥) → Has r port n v → Has (recorded p w r) port n v
 has_kept {r} {port} p w other h = record {
-  room = rw (length-updateAt one_more p r.takes) h.room;
+  room = rw (length-update_at one_more p r.takes) h.room;
   room_too = rw (length-set r.values p w) h.room_too;
   takes =
       ap (λ (l : List ℕ). get_or l port 0) (update-set one_more r.takes p 0)

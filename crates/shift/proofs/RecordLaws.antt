@@ -16,7 +16,7 @@ use Rattle.queue.specs.Take.{Taken}
 use Rattle.queue.specs.Outcome.{Handed, value_in, Takes}
 use Rattle.queue.specs.Contents.{update_at}
 use Rattle.queue.proofs.ContentsLaws.{update-set}
-use Rattle.queue.proofs.Lists.{and_both, length-updateAt}
+use Rattle.queue.proofs.Lists.{and_both, length-update_at}
 use Rattle.sequential.specs.RunsExist.{bits_fit}
 use Rattle.shift.specs.declared.ShiftRecord.{ShiftRecord}
 use Rattle.shift.specs.declared.Recorded.{Recorded}
@@ -80,7 +80,7 @@ records_one_port r s port value = record {
   other_values = λ other apart. get_or-set_other r.values port other value 0 apart;
   outside = recorded-outside r port value s.ports s.ports_too;
   stored = λ small. record {
-    ports = length-updateAt one_more port r.takes ∙ s.ports;
+    ports = length-update_at one_more port r.takes ∙ s.ports;
     takes = all_update one_more r.takes port one_more_fits s.takes;
     ports_too = length-set r.values port value ∙ s.ports_too;
     values = all_set r.values port value (lt-ltb value (2 ^ 32) small) s.values;

@@ -17,7 +17,7 @@ use Rattle.table.specs.Group.{GroupPairs, empty_group}
 use Rattle.table.specs.Table.{load_rule, store_rule, check_pairs, seeing, counts_right, none_seen, seen_after, check_group, check_groups, check_table}
 use Rattle.table.specs.TableBytes.{read_pairs, read_group, group_numbers, table_bytes}
 use Rattle.table.specs.EmptyGroups.{EmptyGroupsRight, EmptyGroupsLeaveFault, BadCountsMeanAbove16, ReadingBadCounts, EmptyTables}
-use Rattle.number.proofs.ReplyLaws.{refusesAmong, refused-among, andThen-among, thenRead-among}
+use Rattle.number.proofs.ReplyLaws.{refuses_among, refused-among, and_then_among, then_read_among}
 use Rattle.number.proofs.RoundTrip.{number-among}
 use Rattle.table.proofs.Among.{check-pairs-among, pairs-among}
 use Rattle.table.proofs.RoundTrip.{tables_read_back}
@@ -63,7 +63,7 @@ above_wrong a b (inr h) = go (leb a 16)
 abbrev other : ℕ → Bool
 other n = not (eqb n bad_counts)
 
-never : {A : Type 0} {B : Type 0} (r : Reply A) → refusesAmong other r ≡ true → r ≡ refuse bad_counts → B
+never : {A : Type 0} {B : Type 0} (r : Reply A) → refuses_among other r ≡ true → r ≡ refuse bad_counts → B
 never r h e = absurd (false≢true (refused-among other r h e))
 
 pub bad_counts_mean_above_16 : BadCountsMeanAbove16
@@ -78,7 +78,7 @@ bad_counts_mean_above_16 seen g = (go (counts_right loads stores) refl, λ h. rw
 
     go : (t : Bool) → counts_right loads stores ≡ t → check_group seen g ≡ refuse bad_counts → (16 < loads) ⊎ (16 < stores)
     go false k e = above loads stores k
-    go true k e = never _ (andThen-among other (check_pairs (load_rule stores) 0 0 seen.loads g.loads) _
+    go true k e = never _ (and_then_among other (check_pairs (load_rule stores) 0 0 seen.loads g.loads) _
         (check-pairs-among other refl refl refl (load_rule stores) 0 0 seen.loads g.loads) λ right.
         check-pairs-among other refl refl refl (store_rule g.loads) 0 0 seen.stores g.stores) (rw k at e)
 
@@ -87,14 +87,14 @@ unfolding read_group
 reading_bad_counts seen s s₁ s₂ loads stores e f = (go (counts_right loads stores) refl, λ h. rw (e, f, above_wrong loads stores h))
   where
     pairs-other : (rule : ℕ → ℕ → ℕ → Bool) (n : ℕ) (marks : List Bool) (l : List ℕ)
-        → refusesAmong other (read_pairs rule n 0 0 marks l) ≡ true
+        → refuses_among other (read_pairs rule n 0 0 marks l) ≡ true
     pairs-other rule n marks l = pairs-among other refl refl refl (number-among other refl refl refl) rule n 0 0 marks l
 
     go : (t : Bool) → counts_right loads stores ≡ t → read_group seen s ≡ refuse bad_counts → (16 < loads) ⊎ (16 < stores)
     go false k d = above loads stores k
-    go true k d = never _ (thenRead-among other (read_pairs (load_rule stores) loads 0 0 seen.loads s₂) _
+    go true k d = never _ (then_read_among other (read_pairs (load_rule stores) loads 0 0 seen.loads s₂) _
         (pairs-other (load_rule stores) loads seen.loads s₂) λ ls s₃.
-        thenRead-among other (read_pairs (store_rule ls) stores 0 0 seen.stores s₃) _
+        then_read_among other (read_pairs (store_rule ls) stores 0 0 seen.stores s₃) _
         (pairs-other (store_rule ls) stores seen.stores s₃) λ ss s₄. refl) (rw (e, f, k) at d)
 
 -- ---- a table of empty groups only

@@ -20,7 +20,7 @@ use Rattle.table.specs.Group.{GroupPairs}
 use Rattle.table.specs.Table.{load_rule, store_rule, check_pair, seeing, counts_right, Seen, none_seen, seen_after, check_group}
 use Rattle.table.specs.TableBytes.{read_pairs, read_group, read_groups, pack}
 use Rattle.table.specs.Internal.{Two, two_numbers, read_two, Finds, Tells, seen_of, pairs_in, pack_pairs, GroupFound, Growing, Grown}
-use Rattle.number.proofs.ReplyLaws.{thenRead-accepts, refusesAmong, thenRead-among, not_zero}
+use Rattle.number.proofs.ReplyLaws.{then_read_accepts, refuses_among, then_read_among, not_zero}
 use Rattle.number.proofs.RoundTrip.{NumberGot, number_got, number-among}
 use Rattle.table.proofs.PackedLaws.{pairs_read_back, map-append}
 use Rattle.number.proofs.HeldLaws.{held-few}
@@ -53,9 +53,9 @@ pub two-answer : (s : List ℕ) (place : ℕ) {x y next : ℕ} → accept (readi
     → TwoGot s place x y next
 unfolding read_two
 two-answer s place {x} {y} {next} e =
-    let (t, rest, f, g) = thenRead-accepts (read_two (drop place s)) (λ u l. accept (reading u (place_of s l))) (sym e) in
-    let (a, s₁, f₁, h) = thenRead-accepts (read_number (drop place s)) _ f in
-    let (b, s₂, f₂, k) = thenRead-accepts (read_number s₁) _ h in
+    let (t, rest, f, g) = then_read_accepts (read_two (drop place s)) (λ u l. accept (reading u (place_of s l))) (sym e) in
+    let (a, s₁, f₁, h) = then_read_accepts (read_number (drop place s)) _ f in
+    let (b, s₂, f₂, k) = then_read_accepts (read_number s₁) _ h in
     both (number_got s place (sym (ap (read_in s) f₁))) f₁ f₂ (ap (read_in s) k ∙ g)
   where
     moved : {a b n : ℕ} → a ≡ x → b ≡ y → n ≡ next → TwoGot s place a b n → TwoGot s place x y next
@@ -71,11 +71,11 @@ two-answer s place {x} {y} {next} e =
         let n : place_of s s₂ ≡ next = cc in
         moved (ap (λ (u : Two). u.first) t) (ap (λ (u : Two). u.second) t) n (record { is = rw (v.is, w.is); inside = w.inside })
 
-pub two_among : (s : List ℕ) → refusesAmong not_zero (read_two s) ≡ true
+pub two_among : (s : List ℕ) → refuses_among not_zero (read_two s) ≡ true
 unfolding read_two
 two_among s =
-    thenRead-among not_zero (read_number s) _ (number-among not_zero refl refl refl s) λ x s₁.
-    thenRead-among not_zero (read_number s₁) _ (number-among not_zero refl refl refl s₁) λ y s₂. refl
+    then_read_among not_zero (read_number s) _ (number-among not_zero refl refl refl s) λ x s₁.
+    then_read_among not_zero (read_number s₁) _ (number-among not_zero refl refl refl s₁) λ y s₂. refl
 
 -- ---- pairs, one by one
 

@@ -20,8 +20,8 @@ use Rattle.table.specs.Table.{groups_of, check_group, check_groups, check_table}
 use Rattle.table.specs.TableBytes.{read_pairs, read_group, read_groups, read_table, table_answer, wrote_table}
 use Rattle.table.specs.TableBytes.{pair_numbers, group_numbers, table_numbers, table_bytes}
 use Rattle.table.specs.RoundTrip.{FaultsAreRead, TablesReadBack, OnlyRightTables, TablesAreWritten, EqualTablesEqualBytes, TablesWrittenBack}
-use Rattle.number.proofs.ReplyLaws.{need-accepts, andThen-accepts, thenRead-accepts, not_zero, refused_some}
-use Rattle.number.proofs.ReplyLaws.{need-then, andThen-then, thenRead-then, of_accepted, of_read, both_pass}
+use Rattle.number.proofs.ReplyLaws.{need-accepts, and_then_accepts, then_read_accepts, not_zero, refused_some}
+use Rattle.number.proofs.ReplyLaws.{need-then, and_then-then, then_read-then, of_accepted, of_read, both_pass}
 use Rattle.number.proofs.RoundTrip.{numbers_read_back, Reads, reads_none, reads_one, reads_append, reads-written}
 use Rattle.number.proofs.SpliceLaws.{wrote-fits}
 use Rattle.table.proofs.Among.{table_among}
@@ -41,8 +41,8 @@ pairs-told rule low i seen (p ∷ ps) ns (fit_one h (fit_one k w)) = rw (
   numbers_read_back p.offset h (bytes_of (p.port ∷ flat_map pair_numbers ps ++ ns)),
   numbers_read_back p.port k (bytes_of (flat_map pair_numbers ps ++ ns)),
   pairs-told rule p.offset (suc i) (set seen p.port true) ps ns w,
-  thenRead-then (check_pairs rule p.offset (suc i) (set seen p.port true) ps),
-  andThen-then (check_pair (rule low i p.offset) seen p.port),
+  then_read-then (check_pairs rule p.offset (suc i) (set seen p.port true) ps),
+  and_then-then (check_pair (rule low i p.offset) seen p.port),
 )
 
 -- what stands behind numbers that fit
@@ -63,11 +63,11 @@ group-told seen g ns (fit_one h (fit_one k w)) =
       numbers_read_back (length g.stores) k (bytes_of ((ls ++ ss) ++ ns)),
       append_assoc ls ss ns,
       pairs-told (load_rule (length g.stores)) 0 0 seen.loads g.loads (ss ++ ns) v,
-      thenRead-then loads,
+      then_read-then loads,
       pairs-told (store_rule g.loads) 0 0 seen.stores g.stores ns (fit-behind ls v),
-      thenRead-then (check_pairs (store_rule g.loads) 0 0 seen.stores g.stores),
+      then_read-then (check_pairs (store_rule g.loads) 0 0 seen.stores g.stores),
       need-then,
-      andThen-then loads,
+      and_then-then loads,
     )
 
 groups-told : (seen : Seen) (gs : List GroupPairs) (ns : List ℕ) → Fit (flat_map group_numbers gs ++ ns)
@@ -80,10 +80,10 @@ groups-told seen (g ∷ gs) ns w =
     ap (λ (ms : List ℕ). read_groups (suc (length gs)) seen (bytes_of ms)) (append_assoc (group_numbers g) (flat_map group_numbers gs) ns)
     ∙ rw (
       group-told seen g others v,
-      thenRead-then (check_group seen g),
+      then_read-then (check_group seen g),
       groups-told (seen_after g seen) gs ns (fit-behind (group_numbers g) v),
-      thenRead-then (check_groups (seen_after g seen) gs),
-      andThen-then (check_group seen g),
+      then_read-then (check_groups (seen_after g seen) gs),
+      and_then-then (check_group seen g),
     )
 
 pub faults_are_read : FaultsAreRead
@@ -96,7 +96,7 @@ faults_are_read gs (fit_one h (fit_one k w)) =
       numbers_read_back 2 h (bytes_of (length gs ∷ numbers)),
       numbers_read_back (length gs) k (bytes_of numbers),
       e,
-      thenRead-then (check_groups none_seen gs),
+      then_read-then (check_groups none_seen gs),
       need-then,
     )
 
@@ -137,10 +137,10 @@ pub pairs-written : (rule : ℕ → ℕ → ℕ → Bool) (n low i : ℕ) (seen 
 unfolding read_pairs check_pairs
 pairs-written rule zero low i seen s e = of_read (PairsWritten rule zero low i seen s) e (record { right = refl; many = refl; reads = reads_none })
 pairs-written rule (suc n) low i seen s e =
-    let (x, s₁, a, e₁) = thenRead-accepts (read_number s) _ e in
-    let (y, s₂, b, e₂) = thenRead-accepts (read_number s₁) _ e₁ in
-    let (right, c, e₃) = andThen-accepts (check_pair (rule low i x) seen y) _ e₂ in
-    let (l, r, d, q) = thenRead-accepts (read_pairs rule n x (suc i) (set seen y true) s₂) _ e₃ in
+    let (x, s₁, a, e₁) = then_read_accepts (read_number s) _ e in
+    let (y, s₂, b, e₂) = then_read_accepts (read_number s₁) _ e₁ in
+    let (right, c, e₃) = and_then_accepts (check_pair (rule low i x) seen y) _ e₂ in
+    let (l, r, d, q) = then_read_accepts (read_pairs rule n x (suc i) (set seen y true) s₂) _ e₃ in
     let w = pairs-written rule n x (suc i) (set seen y true) s₂ d in
     of_read (PairsWritten rule (suc n) low i seen s) q (record {
       right = both_pass c w.right;
@@ -155,11 +155,11 @@ pub record GroupWritten (seen : Seen) (s : List ℕ) (g : GroupPairs) (rest : Li
 pub group-written : (seen : Seen) (s : List ℕ) {g : GroupPairs} {rest : List ℕ} → read_group seen s ≡ accept (got g rest) → GroupWritten seen s g rest
 unfolding read_group
 group-written seen s e =
-    let (x, s₁, a, e₁) = thenRead-accepts (read_number s) _ e in
-    let (y, s₂, b, e₂) = thenRead-accepts (read_number s₁) _ e₁ in
+    let (x, s₁, a, e₁) = then_read_accepts (read_number s) _ e in
+    let (y, s₂, b, e₂) = then_read_accepts (read_number s₁) _ e₁ in
     let (c, e₃) = need-accepts (counts_right x y) bad_counts _ e₂ in
-    let (ls, s₃, d, e₄) = thenRead-accepts (read_pairs (load_rule y) x 0 0 seen.loads s₂) _ e₃ in
-    let (ss, s₄, f, q) = thenRead-accepts (read_pairs (store_rule ls) y 0 0 seen.stores s₃) _ e₄ in
+    let (ls, s₃, d, e₄) = then_read_accepts (read_pairs (load_rule y) x 0 0 seen.loads s₂) _ e₃ in
+    let (ss, s₄, f, q) = then_read_accepts (read_pairs (store_rule ls) y 0 0 seen.stores s₃) _ e₄ in
     let l = pairs-written (load_rule y) x 0 0 seen.loads s₂ d in
     let t = pairs-written (store_rule ls) y 0 0 seen.stores s₃ f in
     of_read (GroupWritten seen s) q (record {
@@ -177,8 +177,8 @@ groups-written : (n : ℕ) (seen : Seen) (s : List ℕ) {gs : List GroupPairs} {
 unfolding read_groups check_groups
 groups-written zero seen s e = of_read (GroupsWritten seen zero s) e (record { right = refl; many = refl; reads = reads_none })
 groups-written (suc n) seen s e =
-    let (g, s₁, a, e₁) = thenRead-accepts (read_group seen s) _ e in
-    let (l, r, b, q) = thenRead-accepts (read_groups n (seen_after g seen) s₁) _ e₁ in
+    let (g, s₁, a, e₁) = then_read_accepts (read_group seen s) _ e in
+    let (l, r, b, q) = then_read_accepts (read_groups n (seen_after g seen) s₁) _ e₁ in
     let x = group-written seen s a in
     let w = groups-written n (seen_after g seen) s₁ b in
     of_read (GroupsWritten seen (suc n) s) q (record {
@@ -190,11 +190,11 @@ groups-written (suc n) seen s e =
 table-reads : (s : List ℕ) {gs : List GroupPairs} → read_table s ≡ accept gs → (check_table gs ≡ passed) × Reads s (table_numbers gs) []
 unfolding read_table
 table-reads s e =
-    let (x, s₁, a, e₁) = thenRead-accepts (read_number s) _ e in
+    let (x, s₁, a, e₁) = then_read_accepts (read_number s) _ e in
     let (two, e₂) = need-accepts (eqb x 2) bad_fields _ e₁ in
-    let (n, s₂, b, e₃) = thenRead-accepts (read_number s₁) _ e₂ in
+    let (n, s₂, b, e₃) = then_read_accepts (read_number s₁) _ e₂ in
     let (count, e₄) = need-accepts (within 1 16 n) bad_group_count _ e₃ in
-    let (hs, s₃, c, e₅) = thenRead-accepts (read_groups n none_seen s₂) _ e₄ in
+    let (hs, s₃, c, e₅) = then_read_accepts (read_groups n none_seen s₂) _ e₄ in
     let (none, q) = need-accepts (eqb (length s₃) 0) left_over (accept hs) e₅ in
     let w = groups-written n none_seen s₂ c in
     of_accepted (λ l. (check_table l ≡ passed) × Reads s (table_numbers l) []) q (

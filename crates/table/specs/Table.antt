@@ -48,8 +48,8 @@ no_ports = replicate 32 false
 
 -- A pair is checked in this order: 8 offset, 6 port above 31, 7 port seen in the table among its kind.
 abbrev pub check_pair : Bool → List Bool → ℕ → Reply (Unit {0})
-check_pair offsetRight seen port =
-    need offsetRight bad_offset
+check_pair offset_right seen port =
+    need offset_right bad_offset
     (need (leb port 31) bad_port
     (need (not (get_or seen port false)) port_seen
     passed))

@@ -16,7 +16,7 @@ use Rattle.number.specs.Number.{got, then_read, read_number}
 use Rattle.trace.specs.Event.{event_numbers, has_second, event_of, read_kind, read_event, header_numbers, read_header}
 use Rattle.trace.specs.RoundTrip.{EventsReadBack, HeadersReadBack, EventsAreWritten, HeadersAreWritten}
 use Rattle.number.proofs.Both.{and_right}
-use Rattle.number.proofs.ReplyLaws.{need-accepts, thenRead-accepts, of_read}
+use Rattle.number.proofs.ReplyLaws.{need-accepts, then_read_accepts, of_read}
 use Rattle.number.proofs.RoundTrip.{Reads, reads_none, reads_one, written-reads, reads-written}
 
 -- ---- events
@@ -55,9 +55,9 @@ EventReads s e rest = Reads s (event_numbers e) rest
 pub event_reads : (s : List ℕ) {rest : List ℕ} {e : Event} → read_event s ≡ accept (got e rest) → Reads s (event_numbers e) rest
 unfolding read_event
 event_reads s {rest} {e} h₀ =
-    let (kind, s₁, a, h₁) = thenRead-accepts (read_number s) read_kind h₀ in
+    let (kind, s₁, a, h₁) = then_read_accepts (read_number s) read_kind h₀ in
     let (t, h₂) = need-accepts (leb kind 6) bad_kind _ h₁ in
-    let (x, s₂, b, h₃) = thenRead-accepts (read_number s₁) _ h₂ in
+    let (x, s₂, b, h₃) = then_read_accepts (read_number s₁) _ h₂ in
     kinds kind x s₁ s₂ t a b (has_second kind) refl h₃
   where
     kinds : (kind x : ℕ) (s₁ s₂ : List ℕ) → leb kind 6 ≡ true → read_number s ≡ accept (got kind s₁)
@@ -66,7 +66,7 @@ event_reads s {rest} {e} h₀ =
         → pick t (then_read (read_number s₂) λ y s₃. accept (got (event_of kind x y) s₃)) (accept (got (event_of kind x 0) s₂)) ≡ accept (got e rest)
         → Reads s (event_numbers e) rest
     kinds kind x s₁ s₂ h a b true k f =
-        let (y, s₃, c, g) = thenRead-accepts (read_number s₂) _ f in
+        let (y, s₃, c, g) = then_read_accepts (read_number s₂) _ f in
         of_read (EventReads s) g (rw (numbers_of_two kind x y k) (reads_one a (reads_one b (reads_one c reads_none))))
     kinds kind x s₁ s₂ h a b false k f = of_read (EventReads s) f (rw (numbers_of_one kind x h k) (reads_one a (reads_one b reads_none)))
 
@@ -84,10 +84,10 @@ reads-header h (reads_one a (reads_one b (reads_one c (reads_one d reads_none)))
 pub header-reads : (s : List ℕ) {rest : List ℕ} {h : Header} → read_header s ≡ accept (got h rest) → Reads s (header_numbers h) rest
 unfolding read_header
 header-reads s e₀ =
-    let (loads, s₁, a, e₁) = thenRead-accepts (read_number s) _ e₀ in
-    let (stores, s₂, b, e₂) = thenRead-accepts (read_number s₁) _ e₁ in
-    let (serial, s₃, c, e₃) = thenRead-accepts (read_number s₂) _ e₂ in
-    let (words, s₄, d, e₄) = thenRead-accepts (read_number s₃) _ e₃ in
+    let (loads, s₁, a, e₁) = then_read_accepts (read_number s) _ e₀ in
+    let (stores, s₂, b, e₂) = then_read_accepts (read_number s₁) _ e₁ in
+    let (serial, s₃, c, e₃) = then_read_accepts (read_number s₂) _ e₂ in
+    let (words, s₄, d, e₄) = then_read_accepts (read_number s₃) _ e₃ in
     of_read (λ h rest. Reads s (header_numbers h) rest) e₄ (reads_one a (reads_one b (reads_one c (reads_one d reads_none))))
 
 pub headers_read_back : HeadersReadBack

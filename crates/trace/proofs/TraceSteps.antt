@@ -13,7 +13,7 @@ use Rattle.number.specs.Number.{Got, got, place_of, reading, read_in}
 use Rattle.trace.specs.Event.{read_event, Yield, yielded, at_end, event_read_in, event_in, event_at, read_header}
 use Rattle.trace.specs.Trace.{with_first, read_events, read_trace}
 use Rattle.trace.specs.RoundTrip.{Yields, ends, yields, SteppedThrough, TracesStep, SteppedAreWritten, TracesStepBack}
-use Rattle.number.proofs.ReplyLaws.{refused-accepted, andThen-accepts, thenRead-accepts}
+use Rattle.number.proofs.ReplyLaws.{refused-accepted, and_then_accepts, then_read_accepts}
 use Rattle.number.proofs.NumberLaws.{place_drop}
 use Rattle.number.proofs.RoundTrip.{left_place, reads_left}
 use Rattle.trace.proofs.RoundTrip.{header-reads}
@@ -29,7 +29,7 @@ pub record HeaderGot (s : List ℕ) (h : Header) (place : ℕ) : Type 0 where
 
 pub header-got : (s : List ℕ) {h : Header} {place : ℕ} → read_in s (read_header s) ≡ accept (reading h place) → HeaderGot s h place
 header-got s {h} {place} e =
-    let (x, rest, d, f) = thenRead-accepts (read_header s) (λ a l. accept (reading a (place_of s l))) e in
+    let (x, rest, d, f) = then_read_accepts (read_header s) (λ a l. accept (reading a (place_of s l))) e in
     let p : x ≡ h = cc in
     let y : place_of s rest ≡ place = cc in
     let r : rest ≡ drop place s = header_place s d ∙ ap (λ (k : ℕ). drop k s) y in
@@ -105,7 +105,7 @@ yields_all s [] place h = go (event_at s place) refl (step_there s place)
     go : (r : Reply Yield) → event_at s place ≡ r → Step s place r → Yields s place []
     go (accept at_end) d w = ends d
     go (accept (yielded e next)) d (event_there w) =
-        let (l, a, b) = andThen-accepts (read_events (drop next s)) (λ m. accept (e ∷ m)) (sym w.is ∙ h) in
+        let (l, a, b) = and_then_accepts (read_events (drop next s)) (λ m. accept (e ∷ m)) (sym w.is ∙ h) in
         let z : ◌≡◌ {A = ℕ} 0 1 = cc in
         absurd (omega arith)
     go (refuse k) d (fault_there w) = refused-accepted (sym w ∙ h)
@@ -118,7 +118,7 @@ yields_all s (e ∷ es) place h = go (event_at s place) refl (step_there s place
         let z : ◌≡◌ {A = ℕ} 0 1 = cc in
         absurd (omega arith)
     go (accept (yielded x next)) d (event_there w) ih =
-        let (l, a, b) = andThen-accepts (read_events (drop next s)) (λ m. accept (x ∷ m)) (sym w.is ∙ h) in
+        let (l, a, b) = and_then_accepts (read_events (drop next s)) (λ m. accept (x ∷ m)) (sym w.is ∙ h) in
         let p : x ≡ e = cc in
         let q : l ≡ es = cc in
         yields (d ∙ ap (λ (y : Event). accept (yielded y next)) p) (ih next (a ∙ ap accept q))

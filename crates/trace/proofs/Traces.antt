@@ -14,7 +14,7 @@ use Rattle.number.specs.Number.{Got, got, then_read, bytes_of, Fit}
 use Rattle.trace.specs.Event.{event_numbers, read_event, events_bytes, header_numbers, read_header}
 use Rattle.trace.specs.Trace.{Trace, with_first, events_up_to, read_events, read_trace, trace_numbers, trace_bytes}
 use Rattle.trace.specs.RoundTrip.{TracesAreWritten, EqualTracesEqualBytes, TracesReadBack}
-use Rattle.number.proofs.ReplyLaws.{refused-accepted, andThen-accepts, thenRead-accepts}
+use Rattle.number.proofs.ReplyLaws.{refused-accepted, and_then_accepts, then_read_accepts}
 use Rattle.number.proofs.SpliceLaws.{bytes_append}
 use Rattle.number.proofs.RoundTrip.{Left, Reads, reads_none, reads_append, reads-split, written-reads, reads-written, reads_left}
 use Rattle.trace.proofs.RoundTrip.{reads_event, event_reads, reads-header, header-reads}
@@ -92,7 +92,7 @@ unfolding events_up_to
 events_read_lem zero [] es h = none_read es h
 events_read_lem zero (b ∷ s) es h = refused-accepted h
 events_read_lem (suc most) [] es h = none_read es h
-events_read_lem (suc most) (b ∷ s) es h = go (events_read_lem most) (thenRead-accepts (read_event (b ∷ s)) (λ e rest. with_first e (events_up_to most rest)) h)
+events_read_lem (suc most) (b ∷ s) es h = go (events_read_lem most) (then_read_accepts (read_event (b ∷ s)) (λ e rest. with_first e (events_up_to most rest)) h)
   where
     more : {l : List Event} → l ≡ es → Reads (b ∷ s) (flat_map event_numbers l) [] → Reads (b ∷ s) (flat_map event_numbers es) []
     more d w = rw d at w
@@ -101,7 +101,7 @@ events_read_lem (suc most) (b ∷ s) es h = go (events_read_lem most) (thenRead-
         → (e : Event) × (rest : List ℕ) × (read_event (b ∷ s) ≡ accept (got e rest)) × (with_first e (events_up_to most rest) ≡ accept es)
         → Reads (b ∷ s) (flat_map event_numbers es) []
     go ih (e, rest, a, h₁) =
-        let (fs, c, h₂) = andThen-accepts (events_up_to most rest) (λ l. accept (e ∷ l)) h₁ in
+        let (fs, c, h₂) = and_then_accepts (events_up_to most rest) (λ l. accept (e ∷ l)) h₁ in
         let d : e ∷ fs ≡ es = cc in
         more d (reads_append (event_reads (b ∷ s) a) (ih rest fs c))
 
@@ -131,8 +131,8 @@ trace_of_parts s rest h es a b = rw (a, b)
 pub trace-parts : (s : List ℕ) (t : Trace) → read_trace s ≡ accept t → TraceParts s t
 unfolding read_trace
 trace-parts s t e₀ =
-    let (h, rest, a, e₁) = thenRead-accepts (read_header s) _ e₀ in
-    let (es, b, e₂) = andThen-accepts (read_events rest) (λ l. accept (trace_of h l)) e₁ in
+    let (h, rest, a, e₁) = then_read_accepts (read_header s) _ e₀ in
+    let (es, b, e₂) = and_then_accepts (read_events rest) (λ l. accept (trace_of h l)) e₁ in
     let x : trace_of h es ≡ t = cc in
     made x (record { rest = rest; header = a; events = b })
   where

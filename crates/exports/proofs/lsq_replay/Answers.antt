@@ -13,31 +13,31 @@ use Rattle.exports.proofs.lsq_replay.Goals as goal
 pub returns-then-read-ne0 : goal.returns-then-read-ne0
 returns-then-read-ne0 c =
     let bytes_at : List ℕ = c.args.table.now in
-    let traceAt : List ℕ = c.args.trace.now in
+    let trace_at : List ℕ = c.args.trace.now in
     let lent_at : Lent = let a = c.args in
     lent a.memory.now a.counts.now a.answers.now a.given.now a.values.now in
     let l = lent_at in
-    answered-refused l (lent-table bytes_at traceAt l
+    answered-refused l (lent-table bytes_at trace_at l
     (table-refused bytes_at c.read_table-read.result c.read_table-read.ensures c.if-read-ne0.true))
 
 pub returns-then-counts-lt2 : goal.returns-then-counts-lt2
 returns-then-counts-lt2 c =
     let bytes_at : List ℕ = c.args.table.now in
-    let traceAt : List ℕ = c.args.trace.now in
+    let trace_at : List ℕ = c.args.trace.now in
     let lent_at : Lent = let a = c.args in
     lent a.memory.now a.counts.now a.answers.now a.given.now a.values.now in
     let table-right : read_table bytes_at ≡ accept (groups_of c.read_table-read.result.table) =
     table_given bytes_at c.read_table-read.result c.read_table-read.ensures c.if-read-ne0.false in
     let l = lent_at in
-    answered-refused l (lent-short bytes_at traceAt l table-right c.if-counts-lt2.true)
+    answered-refused l (lent-short bytes_at trace_at l table-right c.if-counts-lt2.true)
 
 pub returns : goal.returns
 returns c =
     let bytes_at : List ℕ = c.args.table.now in
-    let traceAt : List ℕ = c.args.trace.now in
+    let trace_at : List ℕ = c.args.trace.now in
     let lent_at : Lent = let a = c.args in
     lent a.memory.now a.counts.now a.answers.now a.given.now a.values.now in
     let table-right : read_table bytes_at ≡ accept (groups_of c.read_table-read.result.table) =
     table_given bytes_at c.read_table-read.result c.read_table-read.ensures c.if-read-ne0.false in
     let l = lent_at in
-    answered-lent bytes_at traceAt l table-right c.if-counts-lt2.false c.replay-done.result c.replay-done.ensures
+    answered-lent bytes_at trace_at l table-right c.if-counts-lt2.false c.replay-done.result c.replay-done.ensures

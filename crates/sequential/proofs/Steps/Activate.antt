@@ -24,7 +24,7 @@ use Rattle.sequential.specs.Calls.{Activate}
 use Rattle.sequential.specs.Answers.{Machine, Answered}
 use Rattle.sequential.specs.Plain.{rows_of}
 use Rattle.sequential.specs.Demand3.{told, taken_at}
-use Rattle.sequential.proofs.Log.{LogEntry, access_of, fresh, loads, stores, side, own_in, loads-stores, stores-loads, ownIn-append}
+use Rattle.sequential.proofs.Log.{LogEntry, access_of, fresh, loads, stores, side, own_in, loads-stores, stores-loads, own_in_append}
 use Rattle.sequential.proofs.Window.{shown, window-append}
 use Rattle.sequential.proofs.CellLog.{cells_added}
 use Rattle.sequential.proofs.Rows.{given, value_taken, has_none, place_for, row-append}
@@ -114,7 +114,7 @@ module _ (groups : List GroupPairs) (memory : List ℕ) (answered : List Answere
           (window-append stores loads stores-loads log h.windows.theirs h.windows.ours (map fresh (order g)));
     };
     right = λ K.
-        rw (ownIn-append K log (map fresh (order g)))
+        rw (own_in_append K log (map fresh (order g)))
         (all_join (right_entry K q.memory_length) (own_in K log) (own_in K (map fresh (order g))) (h.right K) (fresh_right K q.memory_length (order g)));
     cells = cells_added m memory log (order g) h.cells;
   }

@@ -26,7 +26,7 @@ use Rattle.sequential.specs.Calls.{Give}
 use Rattle.sequential.specs.Answers.{Machine, Answered}
 use Rattle.sequential.specs.Plain.{cons_option, same_kind, rows_of}
 use Rattle.sequential.specs.Demand3.{told, taken_at}
-use Rattle.sequential.proofs.Log.{LogEntry, put, opposed, own_in, ownIn-append, own_put}
+use Rattle.sequential.proofs.Log.{LogEntry, put, opposed, own_in, own_in_append, own_put}
 use Rattle.sequential.proofs.Window.{Located, locate, before-log}
 use Rattle.sequential.proofs.Lanes.{cell_at}
 use Rattle.sequential.proofs.Views.{view}
@@ -89,7 +89,7 @@ module _ (argument : Argument) (p x : ℕ) where
     post : List LogEntry
     place : Located K (opposite K) log (side_of K q).entries (side_of (opposite K) q).entries
         (first_place (lacks argument p) (side_of K q).entries) pre it post
-    samePort : eqb it.port p ≡ true
+    same_port : eqb it.port p ≡ true
     empty : argument_in argument it ≡ none
     earlier : all_of (λ e. not (lacks argument p e)) (own_in K pre) ≡ true
 
@@ -115,13 +115,13 @@ module _ (argument : Argument) (p x : ℕ) where
           it = it;
           post = post;
           place = l;
-          samePort = and_left (eqb it.port p) (not (is_some (argument_in argument it))) passes;
+          same_port = and_left (eqb it.port p) (not (is_some (argument_in argument it))) passes;
           empty = is_none (argument_in argument it) (and_right (eqb it.port p) (not (is_some (argument_in argument it))) passes);
           earlier =
               before-log l.before (λ d. not (lacks argument p d)) (λ n d. rw (lacks-blind n d)) (right_entry K q.memory_length)
               (λ d r f. over d (nothing-lacking argument q.memory_length d r f))
               (all_left (right_entry K q.memory_length) (own_in K pre) (own_in K (put K it ∷ post))
-              (rw (l.log_is, ownIn-append K pre (put K it ∷ post)) at rights))
+              (rw (l.log_is, own_in_append K pre (put K it ∷ post)) at rights))
               (first-before (lacks argument p) held);
         }
           where
@@ -207,12 +207,12 @@ give-keeps groups memory answered m st argument port x low any =
           holds-anew st.holds (with_argument argument x) (before-kept argument x) m.memory refl (kind_of argument) w.place
           (right_given argument m.queue.memory_length x w.it low
           (all_middle (right_entry (kind_of argument) m.queue.memory_length) (own_in (kind_of argument) w.pre) (own_in (kind_of argument) w.post) w.it
-          (rw (w.place.log_is, ownIn-append (kind_of argument) w.pre (put (kind_of argument) w.it ∷ w.post), own_put (kind_of argument) w.it) at
+          (rw (w.place.log_is, own_in_append (kind_of argument) w.pre (put (kind_of argument) w.it ∷ w.post), own_put (kind_of argument) w.it) at
           (st.holds.right (kind_of argument)))))
           (cells-moved m.memory memory w.pre (put (kind_of argument) w.it) (put (kind_of argument) (with_argument argument x w.it)) w.post
           (λ b j. given_moves argument x w.it w.empty (cell_at m.memory b j) b j (map (view b j) w.pre))
           (rw w.place.log_is at st.holds.cells));
       seen =
-          seen-given argument port x groups answered w.pre w.it w.post w.samePort w.empty w.earlier
+          seen-given argument port x groups answered w.pre w.it w.post w.same_port w.empty w.earlier
           (subst (LogSeen groups answered) w.place.log_is st.seen);
     }

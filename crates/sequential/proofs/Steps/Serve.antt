@@ -22,7 +22,7 @@ use Rattle.queue.specs.declared.arguments.Argument.TheVariants.{LoadAddress, Sto
 use Rattle.sequential.specs.Answers.{Machine, Answered}
 use Rattle.sequential.specs.Plain.{Rows, rows_of}
 use Rattle.sequential.specs.Demand3.{told, taken_at}
-use Rattle.sequential.proofs.Log.{LogEntry, of_load, loads, stores, own_in, loads-stores, placed_entry, ownIn-append}
+use Rattle.sequential.proofs.Log.{LogEntry, of_load, loads, stores, own_in, loads-stores, placed_entry, own_in_append}
 use Rattle.sequential.proofs.Window.{Located, Before, locate, past-passes, shown}
 use Rattle.sequential.proofs.Views.{load_view}
 use Rattle.sequential.proofs.CellLog.{CellsHold, cells-served}
@@ -61,7 +61,7 @@ module _ {q : Contents} {m memory : List ℕ} {log : List LogEntry} (h : Holds q
   right-it : right_load q.memory_length it ≡ true
   right-it =
       all_middle (right_load q.memory_length) (own_in loads pre) (own_in loads post) it
-      (rw (l.log_is, ownIn-append loads pre (of_load it ∷ post)) at (h.right loads))
+      (rw (l.log_is, own_in_append loads pre (of_load it ∷ post)) at (h.right loads))
 
   pub queued-in-range : address_right q.memory_length it.address ≡ true
   queued-in-range = load_in_range q.memory_length it right-it
@@ -71,7 +71,7 @@ module _ {q : Contents} {m memory : List ℕ} {log : List LogEntry} (h : Holds q
   queued-source a =
       source-log l.before' q.memory_length
       (all_left (right_store q.memory_length) (own_in stores pre) (own_in stores post)
-      (rw (l.log_is, ownIn-append stores pre (of_load it ∷ post)) at (h.right stores))) a
+      (rw (l.log_is, own_in_append stores pre (of_load it ∷ post)) at (h.right stores))) a
 
   module _ (s : Serving q m (with_before l.number it)) where
     abbrev a : ℕ

@@ -21,7 +21,7 @@ use Rattle.sequential.specs.Calls.{Take}
 use Rattle.sequential.specs.Answers.{Machine, Answered}
 use Rattle.sequential.specs.Plain.{rows_of}
 use Rattle.sequential.specs.Demand3.{told, taken_at}
-use Rattle.sequential.proofs.Log.{LogEntry, of_load, of_store, loads, stores, own_in, loads-stores, ownIn-append, own}
+use Rattle.sequential.proofs.Log.{LogEntry, of_load, of_store, loads, stores, own_in, loads-stores, own_in_append, own}
 use Rattle.sequential.proofs.Window.{Located, locate, before-log}
 use Rattle.sequential.proofs.CellLog.{cells_same}
 use Rattle.sequential.proofs.Rows.{given, value_taken, place_for, lacking, row_of_port, none_waits_lem}
@@ -80,11 +80,11 @@ module _ (groups : List GroupPairs) (memory : List ℕ) (answered : List Answere
       fresh : it.finished ≡ false
       fresh = not-true it.finished (and_right (eqb it.port port) (not it.finished) first)
 
-      rightLoads : all_of (right_load q.memory_length) (own_in loads pre ++ it ∷ own_in loads post) ≡ true
-      rightLoads = rw (l.log_is, ownIn-append loads pre (of_load it ∷ post)) at (h.right loads)
+      right_loads : all_of (right_load q.memory_length) (own_in loads pre ++ it ∷ own_in loads post) ≡ true
+      right_loads = rw (l.log_is, own_in_append loads pre (of_load it ∷ post)) at (h.right loads)
 
       right-it : right_load q.memory_length it ≡ true
-      right-it = all_middle (right_load q.memory_length) (own_in loads pre) (own_in loads post) it rightLoads
+      right-it = all_middle (right_load q.memory_length) (own_in loads pre) (own_in loads post) it right_loads
 
       right : right_load q.memory_length (mark_finished it) ≡ true
       right = and_both {a = is_some it.word} (rw has)
@@ -96,16 +96,16 @@ module _ (groups : List GroupPairs) (memory : List ℕ) (answered : List Answere
       filled : value_taken port (of_load (mark_finished it)) ≡ some (some v)
       filled = taken_place it port v same-port has
 
-      rightBefore : all_of (right_load q.memory_length) (own_in loads pre) ≡ true
-      rightBefore = all_left (right_load q.memory_length) (own_in loads pre) (it ∷ own_in loads post) rightLoads
+      right_before : all_of (right_load q.memory_length) (own_in loads pre) ≡ true
+      right_before = all_left (right_load q.memory_length) (own_in loads pre) (it ∷ own_in loads post) right_loads
 
       none-waiting : all_of (λ d. not (lacking (value_taken port d))) pre ≡ true
       none-waiting =
           none_waits_lem loads (value_taken port) store-waits-not pre
           (all-weaken₂ (λ x. not (untaken port x)) (right_load q.memory_length) (λ x. not (lacking (value_taken port (of_load x))))
           (waits_not q.memory_length port) (own_in loads pre)
-          (before-log l.before (λ x. not (untaken port x)) (λ n x. refl) (right_load q.memory_length) (λ x t f. finished-taken x f) rightBefore
-          earlier) rightBefore)
+          (before-log l.before (λ x. not (untaken port x)) (λ n x. refl) (right_load q.memory_length) (λ x t f. finished-taken x f) right_before
+          earlier) right_before)
         where
           store-waits-not : (e : LogEntry) → own loads e ≡ none → not (lacking (value_taken port e)) ≡ true
           store-waits-not (of_load x) e = let z : false ≡ true = cc in false-true z

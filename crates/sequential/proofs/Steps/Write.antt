@@ -20,7 +20,7 @@ use Rattle.sequential.specs.Calls.{Write}
 use Rattle.sequential.specs.Answers.{Machine, Answered}
 use Rattle.sequential.specs.Plain.{rows_of}
 use Rattle.sequential.specs.Demand3.{told, taken_at}
-use Rattle.sequential.proofs.Log.{LogEntry, of_store, loads, stores, own_in, stores-loads, ownIn-append}
+use Rattle.sequential.proofs.Log.{LogEntry, of_store, loads, stores, own_in, stores-loads, own_in_append}
 use Rattle.sequential.proofs.Window.{Located, turned, locate, before-log}
 use Rattle.sequential.proofs.Views.{store_view}
 use Rattle.sequential.proofs.CellLog.{CellsHold, cells-written}
@@ -64,29 +64,29 @@ module _ (groups : List GroupPairs) (memory : List ℕ) (answered : List Answere
       unwritten : it.finished ≡ false
       unwritten = not-true it.finished s.may.unwritten
 
-      rightStores : all_of (right_store q.memory_length) (own_in stores pre ++ it ∷ own_in stores post) ≡ true
-      rightStores = rw (l.log_is, ownIn-append stores pre (of_store it ∷ post)) at (h.right stores)
+      right_stores : all_of (right_store q.memory_length) (own_in stores pre ++ it ∷ own_in stores post) ≡ true
+      right_stores = rw (l.log_is, own_in_append stores pre (of_store it ∷ post)) at (h.right stores)
 
-      rightLoads : all_of (right_load q.memory_length) (own_in loads pre ++ own_in loads post) ≡ true
-      rightLoads = rw (l.log_is, ownIn-append loads pre (of_store it ∷ post)) at (h.right loads)
+      right_loads : all_of (right_load q.memory_length) (own_in loads pre ++ own_in loads post) ≡ true
+      right_loads = rw (l.log_is, own_in_append loads pre (of_store it ∷ post)) at (h.right loads)
 
       right : right_store q.memory_length (mark_finished it) ≡ true
       right =
           and_both {a = is_some it.address && is_some it.word} (rw (s.may.addressed, s.may.worded))
-          (store_in_range q.memory_length it (all_middle (right_store q.memory_length) (own_in stores pre) (own_in stores post) it rightStores))
+          (store_in_range q.memory_length it (all_middle (right_store q.memory_length) (own_in stores pre) (own_in stores post) it right_stores))
 
       loads_apart : all_of (no_conflict served a) (own_in loads pre) ≡ true
       loads_apart =
           before-log l.before' (no_conflict served a) (λ n x. refl) (right_load q.memory_length)
           (λ x t f. or_left (is_some x.word) (is_apart (touch a x.address))
           (implied x.finished (is_some x.word) (taken-served q.memory_length x t) f))
-          (all_left (right_load q.memory_length) (own_in loads pre) (own_in loads post) rightLoads) s.may.loads_apart
+          (all_left (right_load q.memory_length) (own_in loads pre) (own_in loads post) right_loads) s.may.loads_apart
 
       stores_apart : all_of (no_conflict written a) (own_in stores pre) ≡ true
       stores_apart =
           before-log l.before (no_conflict written a) (λ n x. refl) (right_store q.memory_length)
           (λ x t f. or_left x.finished (is_apart (touch a x.address)) f)
-          (all_left (right_store q.memory_length) (own_in stores pre) (it ∷ own_in stores post) rightStores) s.may.stores_apart
+          (all_left (right_store q.memory_length) (own_in stores pre) (it ∷ own_in stores post) right_stores) s.may.stores_apart
 
       cells : CellsHold (set m a w) memory (pre ++ of_store (mark_finished it) ∷ post)
       cells =

@@ -42,9 +42,9 @@ play_events-requires c =
 pub returns-in-Events : goal.returns-in-Events
 returns-in-Events c =
     let lent : Buffers = buffers c.args.answers.now c.args.given.now c.args.values.now in
-    let eventsAt : Reply (List Event) = events_from c.args.trace.now c.open_trace-opened.result.at in
+    let events_at : Reply (List Event) = events_from c.args.trace.now c.open_trace-opened.result.at in
     let opened : let a = c.args in trace_files (groups_of a.table) a.trace.now ≡
-    (start_files (start_of (contents_of c.open_trace-opened.result.queue) eventsAt)) = let gs = groups_of c.args.table in
+    (start_files (start_of (contents_of c.open_trace-opened.result.queue) events_at)) = let gs = groups_of c.args.table in
     let trace = c.args.trace.now in
     trace-short gs trace c.if-trace-gt-MOST_BYTES.false
     ∙ ap start_files (prepare-opened gs trace c.open_trace-opened.result c.open_trace-opened.ensures c.if-opened-ne0.false) in
@@ -58,9 +58,9 @@ returns-in-Events c =
 pub returns-in-BadEvent : goal.returns-in-BadEvent
 returns-in-BadEvent c =
     let lent : Buffers = buffers c.args.answers.now c.args.given.now c.args.values.now in
-    let eventsAt : Reply (List Event) = events_from c.args.trace.now c.open_trace-opened.result.at in
+    let events_at : Reply (List Event) = events_from c.args.trace.now c.open_trace-opened.result.at in
     let opened : let a = c.args in trace_files (groups_of a.table) a.trace.now ≡
-    (start_files (start_of (contents_of c.open_trace-opened.result.queue) eventsAt)) = let gs = groups_of c.args.table in
+    (start_files (start_of (contents_of c.open_trace-opened.result.queue) events_at)) = let gs = groups_of c.args.table in
     let trace = c.args.trace.now in
     trace-short gs trace c.if-trace-gt-MOST_BYTES.false
     ∙ ap start_files (prepare-opened gs trace c.open_trace-opened.result c.open_trace-opened.ensures c.if-opened-ne0.false) in

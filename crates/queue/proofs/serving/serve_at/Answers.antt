@@ -26,14 +26,14 @@ returns-then-loads-place c t =
 
 pub bounds-load_entries-at : goal.bounds-load_entries-at
 bounds-load_entries-at c =
-    let queueIn : Queue = (queue_of (frame_with c.requires.0.table c.args.outline) c.args.load_entries.now c.args.store_entries.now) in
-    let few : c.args.outline.loads.count ≤ 64 = count_most queueIn c.requires.0.right Kind.Load in
+    let queue_in : Queue = (queue_of (frame_with c.requires.0.table c.args.outline) c.args.load_entries.now c.args.store_entries.now) in
+    let few : c.args.outline.loads.count ≤ 64 = count_most queue_in c.requires.0.right Kind.Load in
     let room : c.args.outline.loads.count ≤ length c.args.load_entries.now = omega (arith, few, c.requires.0.loads_whole) in
     le_trans c.if-loads-place.false room
 
 pub returns-then-load : goal.returns-then-load
 returns-then-load c t =
-    let queueIn : Queue = (queue_of (frame_with c.requires.0.table c.args.outline) c.args.load_entries.now c.args.store_entries.now) in
+    let queue_in : Queue = (queue_of (frame_with c.requires.0.table c.args.outline) c.args.load_entries.now c.args.store_entries.now) in
     let before : List Entry = entries_held c.unpack-load.result.before c.args.store_entries.now in
     let may : (t : Table) → serve_at (contents_of
     ((queue_of (frame_with t c.args.outline) c.args.load_entries.now c.args.store_entries.now))) c.args.memory.now c.args.place ≡
@@ -42,7 +42,7 @@ returns-then-load c t =
     c.args.place v)) = λ t. serve-held
     ((queue_of (frame_with t c.args.outline) c.args.load_entries.now c.args.store_entries.now)) c.args.memory.now c.args.place
     c.if-loads-place.false
-    (before-held queueIn c.requires.0.right Kind.Load c.args.place c.if-loads-place.false)
+    (before-held queue_in c.requires.0.right Kind.Load c.args.place c.if-loads-place.false)
     ∙ ap (λ (e : EntryStruct). (and_then (may_serve c.args.memory.now (entries_held e.before c.args.store_entries.now) (entry_of e)) λ v.
     accept (served_with (contents_of ((queue_of (frame_with t c.args.outline) c.args.load_entries.now c.args.store_entries.now)))
     c.args.place v)))
@@ -53,7 +53,7 @@ returns-then-load c t =
 
 pub returns-then-not-load : goal.returns-then-not-load
 returns-then-not-load c t =
-    let queueIn : Queue = (queue_of (frame_with c.requires.0.table c.args.outline) c.args.load_entries.now c.args.store_entries.now) in
+    let queue_in : Queue = (queue_of (frame_with c.requires.0.table c.args.outline) c.args.load_entries.now c.args.store_entries.now) in
     let before : List Entry = entries_held c.unpack-load.result.before c.args.store_entries.now in
     let may : (t : Table) → serve_at (contents_of
     ((queue_of (frame_with t c.args.outline) c.args.load_entries.now c.args.store_entries.now))) c.args.memory.now c.args.place ≡
@@ -62,7 +62,7 @@ returns-then-not-load c t =
     c.args.place v)) = λ t. serve-held
     ((queue_of (frame_with t c.args.outline) c.args.load_entries.now c.args.store_entries.now)) c.args.memory.now c.args.place
     c.if-loads-place.false
-    (before-held queueIn c.requires.0.right Kind.Load c.args.place c.if-loads-place.false)
+    (before-held queue_in c.requires.0.right Kind.Load c.args.place c.if-loads-place.false)
     ∙ ap (λ (e : EntryStruct). (and_then (may_serve c.args.memory.now (entries_held e.before c.args.store_entries.now) (entry_of e)) λ v.
     accept (served_with (contents_of ((queue_of (frame_with t c.args.outline) c.args.load_entries.now c.args.store_entries.now)))
     c.args.place v)))
@@ -74,37 +74,37 @@ returns-then-not-load c t =
 
 pub source_of-requires : goal.source_of-requires
 source_of-requires c =
-    let queueIn : Queue = (queue_of (frame_with c.requires.0.table c.args.outline) c.args.load_entries.now c.args.store_entries.now) in
+    let queue_in : Queue = (queue_of (frame_with c.requires.0.table c.args.outline) c.args.load_entries.now c.args.store_entries.now) in
     let before-few : c.unpack-load.result.before ≤ c.args.outline.stores.count =
     subst (λ (e : EntryStruct). e.before ≤ c.args.outline.stores.count) (sym c.unpack-load.ensures)
-    (before-held queueIn c.requires.0.right Kind.Load c.args.place c.if-loads-place.false) in
-    le_trans before-few (omega (arith, count_most queueIn c.requires.0.right Kind.Store, c.requires.0.stores_whole))
+    (before-held queue_in c.requires.0.right Kind.Load c.args.place c.if-loads-place.false) in
+    le_trans before-few (omega (arith, count_most queue_in c.requires.0.right Kind.Store, c.requires.0.stores_whole))
 
 pub served-requires : goal.served-requires
 served-requires c =
-    let queueIn : Queue = (queue_of (frame_with c.requires.0.table c.args.outline) c.args.load_entries.now c.args.store_entries.now) in
-    let few : c.args.outline.loads.count ≤ 64 = count_most queueIn c.requires.0.right Kind.Load in
+    let queue_in : Queue = (queue_of (frame_with c.requires.0.table c.args.outline) c.args.load_entries.now c.args.store_entries.now) in
+    let few : c.args.outline.loads.count ≤ 64 = count_most queue_in c.requires.0.right Kind.Load in
     let room : c.args.outline.loads.count ≤ length c.args.load_entries.now = omega (arith, few, c.requires.0.loads_whole) in
     le_trans c.if-loads-place.false room
 
 pub bounds-memory-load : goal.bounds-memory-load
 bounds-memory-load c =
-    let queueIn : Queue = (queue_of (frame_with c.requires.0.table c.args.outline) c.args.load_entries.now c.args.store_entries.now) in
+    let queue_in : Queue = (queue_of (frame_with c.requires.0.table c.args.outline) c.args.load_entries.now c.args.store_entries.now) in
     let in_memory : c.unpack-load.result.addressed ≡ true → c.unpack-load.result.address < length c.args.memory.now = λ a. rw c.requires.1
     (subst (λ (e : EntryStruct). e.addressed ≡ true → e.address < c.args.outline.memory_length) (sym c.unpack-load.ensures)
-    (address-low queueIn c.requires.0.right Kind.Load c.args.place c.if-loads-place.false) a) in
+    (address-low queue_in c.requires.0.right Kind.Load c.args.place c.if-loads-place.false) a) in
     in_memory (not-false c.unpack-load.result.addressed c.if-not-load.false)
 
 pub served-requires-in-Memory : goal.served-requires-in-Memory
 served-requires-in-Memory c =
-    let queueIn : Queue = (queue_of (frame_with c.requires.0.table c.args.outline) c.args.load_entries.now c.args.store_entries.now) in
-    let few : c.args.outline.loads.count ≤ 64 = count_most queueIn c.requires.0.right Kind.Load in
+    let queue_in : Queue = (queue_of (frame_with c.requires.0.table c.args.outline) c.args.load_entries.now c.args.store_entries.now) in
+    let few : c.args.outline.loads.count ≤ 64 = count_most queue_in c.requires.0.right Kind.Load in
     let room : c.args.outline.loads.count ≤ length c.args.load_entries.now = omega (arith, few, c.requires.0.loads_whole) in
     le_trans c.if-loads-place.false room
 
 pub returns-in-Unknown : goal.returns-in-Unknown
 returns-in-Unknown c t =
-    let queueIn : Queue = (queue_of (frame_with c.requires.0.table c.args.outline) c.args.load_entries.now c.args.store_entries.now) in
+    let queue_in : Queue = (queue_of (frame_with c.requires.0.table c.args.outline) c.args.load_entries.now c.args.store_entries.now) in
     let before : List Entry = entries_held c.unpack-load.result.before c.args.store_entries.now in
     let may : (t : Table) → serve_at (contents_of
     ((queue_of (frame_with t c.args.outline) c.args.load_entries.now c.args.store_entries.now))) c.args.memory.now c.args.place ≡
@@ -113,7 +113,7 @@ returns-in-Unknown c t =
     c.args.place v)) = λ t. serve-held
     ((queue_of (frame_with t c.args.outline) c.args.load_entries.now c.args.store_entries.now)) c.args.memory.now c.args.place
     c.if-loads-place.false
-    (before-held queueIn c.requires.0.right Kind.Load c.args.place c.if-loads-place.false)
+    (before-held queue_in c.requires.0.right Kind.Load c.args.place c.if-loads-place.false)
     ∙ ap (λ (e : EntryStruct). (and_then (may_serve c.args.memory.now (entries_held e.before c.args.store_entries.now) (entry_of e)) λ v.
     accept (served_with (contents_of ((queue_of (frame_with t c.args.outline) c.args.load_entries.now c.args.store_entries.now)))
     c.args.place v)))
@@ -134,7 +134,7 @@ returns-in-Unknown c t =
 
 pub returns-in-NoData : goal.returns-in-NoData
 returns-in-NoData c t =
-    let queueIn : Queue = (queue_of (frame_with c.requires.0.table c.args.outline) c.args.load_entries.now c.args.store_entries.now) in
+    let queue_in : Queue = (queue_of (frame_with c.requires.0.table c.args.outline) c.args.load_entries.now c.args.store_entries.now) in
     let before : List Entry = entries_held c.unpack-load.result.before c.args.store_entries.now in
     let may : (t : Table) → serve_at (contents_of
     ((queue_of (frame_with t c.args.outline) c.args.load_entries.now c.args.store_entries.now))) c.args.memory.now c.args.place ≡
@@ -143,7 +143,7 @@ returns-in-NoData c t =
     c.args.place v)) = λ t. serve-held
     ((queue_of (frame_with t c.args.outline) c.args.load_entries.now c.args.store_entries.now)) c.args.memory.now c.args.place
     c.if-loads-place.false
-    (before-held queueIn c.requires.0.right Kind.Load c.args.place c.if-loads-place.false)
+    (before-held queue_in c.requires.0.right Kind.Load c.args.place c.if-loads-place.false)
     ∙ ap (λ (e : EntryStruct). (and_then (may_serve c.args.memory.now (entries_held e.before c.args.store_entries.now) (entry_of e)) λ v.
     accept (served_with (contents_of ((queue_of (frame_with t c.args.outline) c.args.load_entries.now c.args.store_entries.now)))
     c.args.place v)))
@@ -164,8 +164,8 @@ returns-in-NoData c t =
 
 pub returns-in-Forwarded : goal.returns-in-Forwarded
 returns-in-Forwarded c t =
-    let queueIn : Queue = (queue_of (frame_with c.requires.0.table c.args.outline) c.args.load_entries.now c.args.store_entries.now) in
-    let few : c.args.outline.loads.count ≤ 64 = count_most queueIn c.requires.0.right Kind.Load in
+    let queue_in : Queue = (queue_of (frame_with c.requires.0.table c.args.outline) c.args.load_entries.now c.args.store_entries.now) in
+    let few : c.args.outline.loads.count ≤ 64 = count_most queue_in c.requires.0.right Kind.Load in
     let before : List Entry = entries_held c.unpack-load.result.before c.args.store_entries.now in
     let may : (t : Table) → serve_at (contents_of
     ((queue_of (frame_with t c.args.outline) c.args.load_entries.now c.args.store_entries.now))) c.args.memory.now c.args.place ≡
@@ -174,7 +174,7 @@ returns-in-Forwarded c t =
     c.args.place v)) = λ t. serve-held
     ((queue_of (frame_with t c.args.outline) c.args.load_entries.now c.args.store_entries.now)) c.args.memory.now c.args.place
     c.if-loads-place.false
-    (before-held queueIn c.requires.0.right Kind.Load c.args.place c.if-loads-place.false)
+    (before-held queue_in c.requires.0.right Kind.Load c.args.place c.if-loads-place.false)
     ∙ ap (λ (e : EntryStruct). (and_then (may_serve c.args.memory.now (entries_held e.before c.args.store_entries.now) (entry_of e)) λ v.
     accept (served_with (contents_of ((queue_of (frame_with t c.args.outline) c.args.load_entries.now c.args.store_entries.now)))
     c.args.place v)))
@@ -196,8 +196,8 @@ returns-in-Forwarded c t =
 
 pub returns-in-Memory : goal.returns-in-Memory
 returns-in-Memory c t =
-    let queueIn : Queue = (queue_of (frame_with c.requires.0.table c.args.outline) c.args.load_entries.now c.args.store_entries.now) in
-    let few : c.args.outline.loads.count ≤ 64 = count_most queueIn c.requires.0.right Kind.Load in
+    let queue_in : Queue = (queue_of (frame_with c.requires.0.table c.args.outline) c.args.load_entries.now c.args.store_entries.now) in
+    let few : c.args.outline.loads.count ≤ 64 = count_most queue_in c.requires.0.right Kind.Load in
     let before : List Entry = entries_held c.unpack-load.result.before c.args.store_entries.now in
     let may : (t : Table) → serve_at (contents_of
     ((queue_of (frame_with t c.args.outline) c.args.load_entries.now c.args.store_entries.now))) c.args.memory.now c.args.place ≡
@@ -206,7 +206,7 @@ returns-in-Memory c t =
     c.args.place v)) = λ t. serve-held
     ((queue_of (frame_with t c.args.outline) c.args.load_entries.now c.args.store_entries.now)) c.args.memory.now c.args.place
     c.if-loads-place.false
-    (before-held queueIn c.requires.0.right Kind.Load c.args.place c.if-loads-place.false)
+    (before-held queue_in c.requires.0.right Kind.Load c.args.place c.if-loads-place.false)
     ∙ ap (λ (e : EntryStruct). (and_then (may_serve c.args.memory.now (entries_held e.before c.args.store_entries.now) (entry_of e)) λ v.
     accept (served_with (contents_of ((queue_of (frame_with t c.args.outline) c.args.load_entries.now c.args.store_entries.now)))
     c.args.place v)))

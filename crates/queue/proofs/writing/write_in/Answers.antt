@@ -13,8 +13,8 @@ use Rattle.queue.proofs.writing.write_in.Goals as goal
 pub returns-then-not-sound_in : goal.returns-then-not-sound_in
 returns-then-not-sound_in c =
     let frame : Frame = let a = c.args in frame_of a.outline a.groups.now a.load_places.now a.store_places.now in
-    let queueIn : Queue = queue_of frame c.args.load_entries.now c.args.store_entries.now in
-    let q = queueIn in
+    let queue_in : Queue = queue_of frame c.args.load_entries.now c.args.store_entries.now in
+    let q = queue_in in
     rw (unfit q (write (contents_of q) c.args.memory.now c.args.serial) c.sound_in.ensures (ap not c.if-not-sound_in.true)
     (write-unsound q c.args.memory.now c.args.serial))
     (record {
@@ -25,10 +25,10 @@ returns-then-not-sound_in c =
 pub returns-then-memory-outline : goal.returns-then-memory-outline
 returns-then-memory-outline c =
     let frame : Frame = let a = c.args in frame_of a.outline a.groups.now a.load_places.now a.store_places.now in
-    let queueIn : Queue = queue_of frame c.args.load_entries.now c.args.store_entries.now in
-    let queue : Queue = queueIn in
+    let queue_in : Queue = queue_of frame c.args.load_entries.now c.args.store_entries.now in
+    let queue : Queue = queue_in in
     let good : PartsFit queue = fit queue c.sound_in.ensures (ap not c.if-not-sound_in.false) in
-    rw (good.full, write-memory queueIn c.args.memory.now c.args.serial good.right c.if-memory-outline.true)
+    rw (good.full, write-memory queue_in c.args.memory.now c.args.serial good.right c.if-memory-outline.true)
     (record {
       outcome = ap ((λ t. handed (outcome_of frame t c.args.load_entries.now c.args.store_entries.now)))
           c.refused-then-memory-outline.ensures;
@@ -38,8 +38,8 @@ returns-then-memory-outline c =
 pub write_at-requires : goal.write_at-requires
 write_at-requires c =
     let frame : Frame = let a = c.args in frame_of a.outline a.groups.now a.load_places.now a.store_places.now in
-    let queueIn : Queue = queue_of frame c.args.load_entries.now c.args.store_entries.now in
-    let queue : Queue = queueIn in
+    let queue_in : Queue = queue_of frame c.args.load_entries.now c.args.store_entries.now in
+    let queue : Queue = queue_in in
     let good : PartsFit queue = fit queue c.sound_in.ensures (ap not c.if-not-sound_in.false) in (
       record {
         table = frame.table;
@@ -54,8 +54,8 @@ write_at-requires c =
 pub returns : goal.returns
 returns c =
     let frame : Frame = let a = c.args in frame_of a.outline a.groups.now a.load_places.now a.store_places.now in
-    let queueIn : Queue = queue_of frame c.args.load_entries.now c.args.store_entries.now in
-    let queue : Queue = queueIn in
+    let queue_in : Queue = queue_of frame c.args.load_entries.now c.args.store_entries.now in
+    let queue : Queue = queue_in in
     let good : PartsFit queue = fit queue c.sound_in.ensures (ap not c.if-not-sound_in.false) in
-    rw (good.full, write-place queueIn c.args.memory.now c.args.serial good.right c.if-memory-outline.false, ← c.place_of-place.ensures)
+    rw (good.full, write-place queue_in c.args.memory.now c.args.serial good.right c.if-memory-outline.false, ← c.place_of-place.ensures)
     (c.write_at.ensures frame.table)

@@ -1,5 +1,6 @@
 -- Entries put behind those that a side holds.
-use Rattle.std.proofs.Common.{◌≡◌, ℕ, zero, suc, ◌+◌, ◌<◌, ◌≤◌, List, [], ◌∷◌, ◌++◌, map, length, get_or, take, set, refl, ap, ◌∙◌, le_trans, le-add_right, add-one, arith}
+use Rattle.std.proofs.Common.{◌≡◌, ℕ, zero, suc, ◌+◌, ◌<◌, ◌≤◌, List, [], ◌∷◌, ◌++◌, map, length, get_or, take, set}
+use Rattle.std.proofs.Common.{refl, ap, ◌∙◌, le_trans, le-add_right, add-one, arith}
 use mathlib.Core.List.{map-append}
 use lib.ListN.{length-map, get_or-map}
 use lib.Seq.{paste, paste-zero, paste-suc, take-paste, length-paste}
@@ -31,8 +32,10 @@ module _ {A B : Type 0} {f : A → B} {d : List B} {n : ℕ} {s : List A} where
         rw (w.is, e, take-paste d n (map f s) k hd q, take-map f k s)
 
 -- what the side then holds: `new` is what an entry made by `f` holds, of each that was put there
-pub mapped_appended : {A B C : Type 0} (h : B → C) (blank : B) (f : A → B) (new : A → C) (z : A) {d : List B} {n : ℕ} {s : List A} {j : ℕ} {l : List B}
-    → Pasted f d n s j l → (k : ℕ) → j ≡ k → n + k ≤ length d → k ≤ length s → ((i : ℕ) → i < k → h (f (get_or s i z)) ≡ new (get_or s i z))
+pub mapped_appended : {A B C : Type 0} (h : B → C) (blank : B) (f : A → B) (new : A → C) (z : A)
+    {d : List B} {n : ℕ} {s : List A} {j : ℕ} {l : List B}
+    → Pasted f d n s j l → (k : ℕ) → j ≡ k → n + k ≤ length d → k ≤ length s
+    → ((i : ℕ) → i < k → h (f (get_or s i z)) ≡ new (get_or s i z))
     → map h (held blank (n + k) l) ≡ map h (held blank n d) ++ map new (take k s)
 mapped_appended {A} {B} {C} h blank f new z {d} {n} {s} {j} {l} w k q hd hs e =
     let long : length l ≡ length d = rw (w.is, q) (length-paste d n (map f s) k hd (rw (length-map s f) hs)) in
@@ -40,7 +43,8 @@ mapped_appended {A} {B} {C} h blank f new z {d} {n} {s} {j} {l} w k q hd hs e =
     rw (held-few blank (n + k) l hl, held-few blank n d (le_trans (le-add_right n k) hd), pasted-front w k q (le_trans (le-add_right n k) hd) hs)
     (map-append h (take n d) (map f (take k s)) ∙ ap (λ (t : List C). map h (take n d) ++ t) (same k s e))
   where
-    same : (m : ℕ) (xs : List A) → ((i : ℕ) → i < m → h (f (get_or xs i z)) ≡ new (get_or xs i z)) → map h (map f (take m xs)) ≡ map new (take m xs)
+    same : (m : ℕ) (xs : List A) → ((i : ℕ) → i < m → h (f (get_or xs i z)) ≡ new (get_or xs i z))
+        → map h (map f (take m xs)) ≡ map new (take m xs)
     same zero xs e = refl
     same (suc m) [] e = refl
     same (suc m) (x ∷ xs) e = rw (e 0 (omega arith), same m xs (λ i k. e (suc i) (omega arith)))

@@ -98,7 +98,7 @@ module _ {A : Type 0} where
       go true h = omega arith
       go false h = h
 
-  -- ---- frontWhile, afterWhile
+  -- ---- front_while, after_while
 
   pub all_front_while : (p : A → Bool) (xs : List A) → all_of p (front_while p xs) ≡ true
   all_front_while p [] = refl

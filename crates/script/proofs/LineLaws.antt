@@ -23,7 +23,8 @@ pub until_here : (byte : ℕ) (l : List ℕ) (i : ℕ) → i < length l → get_
 unfolding until
 until_here byte l i h e = rw (drop-cons l i 0, eq-eqb _ _ e)
 
-pub until_next : (byte : ℕ) (l : List ℕ) (i : ℕ) → i < length l → (get_or l i 0 ≡ byte → ⊥) → until byte (drop i l) ≡ suc (until byte (drop (i + 1) l))
+pub until_next : (byte : ℕ) (l : List ℕ) (i : ℕ) → i < length l → (get_or l i 0 ≡ byte → ⊥)
+    → until byte (drop i l) ≡ suc (until byte (drop (i + 1) l))
 unfolding until
 until_next byte l i h e = rw (add-one, drop-cons l i 0, ne_eqb _ _ e)
 
@@ -32,7 +33,8 @@ unfolding until
 until_end byte l i h = rw (drop_of_length-le l h)
 
 -- one byte more, and no more bytes
-pub number_steps_next : (r : Numbers) (l : List ℕ) (i : ℕ) → i < length l → number_steps r (drop i l) ≡ number_steps (number_step r (get_or l i 0)) (drop (suc i) l)
+pub number_steps_next : (r : Numbers) (l : List ℕ) (i : ℕ) → i < length l
+    → number_steps r (drop i l) ≡ number_steps (number_step r (get_or l i 0)) (drop (suc i) l)
 unfolding number_steps
 number_steps_next r l i h = rw (drop-cons l i 0)
 
@@ -40,7 +42,8 @@ pub number_steps_end : (r : Numbers) (l : List ℕ) (i : ℕ) → length l ≤ i
 unfolding number_steps
 number_steps_end r l i h = rw (drop_of_length-le l h)
 
-pub byte_steps_next : (r : Bytes) (l : List ℕ) (i : ℕ) → i < length l → byte_steps r (drop i l) ≡ byte_steps (byte_step r (get_or l i 0)) (drop (suc i) l)
+pub byte_steps_next : (r : Bytes) (l : List ℕ) (i : ℕ) → i < length l
+    → byte_steps r (drop i l) ≡ byte_steps (byte_step r (get_or l i 0)) (drop (suc i) l)
 unfolding byte_steps
 byte_steps_next r l i h = rw (drop-cons l i 0)
 
@@ -104,5 +107,6 @@ module _ (shapes : List ℕ) (command : ℕ) (r : Numbers) (right : r.right ≡ 
       → fits_at shapes (command * 8) r i ≡ false → taken shapes command r ≡ false
   taken_not i h e f = taken-fits ∙ sym e ∙ fit_next shapes (command * 8) r i h ∙ rw f refl
 
-  pub taken-all : (i : ℕ) → 8 ≤ i → fit_from shapes (command * 8) r i (8 - i) ≡ fit_from shapes (command * 8) r 0 8 → taken shapes command r ≡ true
+  pub taken-all : (i : ℕ) → 8 ≤ i → fit_from shapes (command * 8) r i (8 - i) ≡ fit_from shapes (command * 8) r 0 8
+      → taken shapes command r ≡ true
   taken-all i h e = taken-fits ∙ sym e ∙ fit_end shapes (command * 8) r i h

@@ -5,13 +5,11 @@ use Rattle.number.proofs.SpliceLaws.{put-at}
 use Rattle.number.proofs.PutLaws.{puts-length, put_byte, decimal-few, both, both_end, both_long}
 use Rattle.printed.proofs.put.put_item.Goals as goal
 
--- src/put.rt:48:9
 pub put_digits-place-requires : goal.put_digits-place-requires
 put_digits-place-requires c =
     let w = put-at (omega (arith, c.requires)) c.put_bytes-place.ensures in
     omega (arith, c.requires, w.ends, puts-length w (omega (arith, c.requires)), decimal-few c.args.n)
 
--- src/put.rt:49:5
 pub bounds-out-place : goal.bounds-out-place
 bounds-out-place c =
     let w = put-at (omega (arith, c.requires)) c.put_bytes-place.ensures in
@@ -19,7 +17,6 @@ bounds-out-place c =
     let few = decimal-few c.args.n in
     omega (arith, c.requires, both_end w v (omega (arith, c.requires)), both_long w v (omega (arith, c.requires)))
 
--- src/put.rt:43:1
 pub returns : goal.returns
 returns c =
     let w = put-at (omega (arith, c.requires)) c.put_bytes-place.ensures in

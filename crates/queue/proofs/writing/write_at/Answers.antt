@@ -19,6 +19,26 @@ use Rattle.queue.proofs.EntryLaws.{finished_number}
 use Rattle.queue.proofs.SoundLaws.{count_most, before-held, address-low}
 use Rattle.queue.proofs.WriteLaws.{refused_number, Puts, may-puts, write-none, write-held}
 use Rattle.queue.proofs.writing.write_at.Goals as goal
+use Rattle.queue.proofs.writing.write_at.Goals.{After-write_fault-answer}
+
+-- the store at the place, and what the rule says of it
+abbrev queue : After-write_fault-answer → Queue
+queue c = (queue_of (frame_with c.requires.0.table c.args.outline) c.args.load_entries.now c.args.store_entries.now)
+
+abbrev store : After-write_fault-answer → EntryStruct
+store c = unpacked (get_or c.args.store_entries.now c.args.place 0)
+
+before_few : (c : After-write_fault-answer) → (store c).before ≤ c.args.outline.loads.count
+before_few c = before-held (queue c) c.requires.0.right Kind.Store c.args.place c.if-stores-place.false
+
+held : (c : After-write_fault-answer) → (t : Table) → write_at
+    (contents_of ((queue_of (frame_with t c.args.outline) c.args.load_entries.now c.args.store_entries.now))) c.args.memory.now
+    c.args.place ≡ and_then (may_write_at c.args.load_entries.now c.args.store_entries.now c.args.place) λ p. accept
+    (written_with (contents_of ((queue_of (frame_with t c.args.outline) c.args.load_entries.now c.args.store_entries.now)))
+    c.args.memory.now c.args.place p)
+held c = λ t. write-held
+    ((queue_of (frame_with t c.args.outline) c.args.load_entries.now c.args.store_entries.now)) c.args.memory.now c.args.place
+    c.if-stores-place.false (before_few c)
 
 pub returns-then-stores-place : goal.returns-then-stores-place
 returns-then-stores-place c table =
@@ -45,19 +65,9 @@ write_fault-answer-requires c =
 
 pub returns-then-answer-ne0 : goal.returns-then-answer-ne0
 returns-then-answer-ne0 c table =
-    let queue : Queue = (queue_of (frame_with c.requires.0.table c.args.outline) c.args.load_entries.now c.args.store_entries.now) in
-    let store : EntryStruct = unpacked (get_or c.args.store_entries.now c.args.place 0) in
-    let before-few : store.before ≤ c.args.outline.loads.count =
-    before-held queue c.requires.0.right Kind.Store c.args.place c.if-stores-place.false in
-    let held : (t : Table) → write_at (contents_of
-    ((queue_of (frame_with t c.args.outline) c.args.load_entries.now c.args.store_entries.now))) c.args.memory.now c.args.place
-    ≡ and_then (may_write_at c.args.load_entries.now c.args.store_entries.now c.args.place) λ p. accept
-    (written_with (contents_of ((queue_of (frame_with t c.args.outline) c.args.load_entries.now c.args.store_entries.now)))
-    c.args.memory.now c.args.place p) = λ t. write-held
-    ((queue_of (frame_with t c.args.outline) c.args.load_entries.now c.args.store_entries.now)) c.args.memory.now c.args.place
-    c.if-stores-place.false before-few in
+    let p = (goal.at.returns-then-answer-ne0 c).After-write_fault-answer in
     rw (
-      held table,
+      (held p) table,
       refused_number (may_write_at c.args.load_entries.now c.args.store_entries.now c.args.place)
           (λ z. c.if-answer-ne0.true (c.write_fault-answer.ensures ∙ z)),
       ← c.write_fault-answer.ensures,
@@ -106,25 +116,15 @@ retire-left-requires c =
 
 pub returns : goal.returns
 returns c table =
-    let queue : Queue = (queue_of (frame_with c.requires.0.table c.args.outline) c.args.load_entries.now c.args.store_entries.now) in
-    let store : EntryStruct = unpacked (get_or c.args.store_entries.now c.args.place 0) in
+    let p = (goal.at.returns c).After-write_fault-answer in
     let stores_room : c.args.outline.stores.count ≤ length c.args.store_entries.now =
-    omega (arith, count_most queue c.requires.0.right Kind.Store, c.requires.0.stores_whole) in
-    let before-few : store.before ≤ c.args.outline.loads.count =
-    before-held queue c.requires.0.right Kind.Store c.args.place c.if-stores-place.false in
-    let held : (t : Table) → write_at (contents_of
-    ((queue_of (frame_with t c.args.outline) c.args.load_entries.now c.args.store_entries.now))) c.args.memory.now c.args.place
-    ≡ and_then (may_write_at c.args.load_entries.now c.args.store_entries.now c.args.place) λ p. accept
-    (written_with (contents_of ((queue_of (frame_with t c.args.outline) c.args.load_entries.now c.args.store_entries.now)))
-    c.args.memory.now c.args.place p) = λ t. write-held
-    ((queue_of (frame_with t c.args.outline) c.args.load_entries.now c.args.store_entries.now)) c.args.memory.now c.args.place
-    c.if-stores-place.false before-few in
-    let puts : Puts (entries_held store.before c.args.load_entries.now) (entries_held c.args.place c.args.store_entries.now) store =
-    may-puts (entries_held store.before c.args.load_entries.now) (entries_held c.args.place c.args.store_entries.now) store
+    omega (arith, count_most (queue p) c.requires.0.right Kind.Store, c.requires.0.stores_whole) in
+    let puts : Puts (entries_held (store p).before c.args.load_entries.now) (entries_held c.args.place c.args.store_entries.now) (store p) =
+    may-puts (entries_held (store p).before c.args.load_entries.now) (entries_held c.args.place c.args.store_entries.now) (store p)
     (sym c.write_fault-answer.ensures ∙ c.if-answer-ne0.false) in
-    let put : entry_in c.pack.result ≡ mark_finished (entry_of store) = finished_number (get_or c.args.store_entries.now c.args.place 0)
+    let put : entry_in c.pack.result ≡ mark_finished (entry_of (store p)) = finished_number (get_or c.args.store_entries.now c.args.place 0)
     (c.pack.ensures ∙ ap (λ (e : EntryStruct). number_of (set_finished e)) c.unpack-store.ensures) in
-    rw (held table, puts.put, c.accepted.ensures)
+    rw ((held p) table, puts.put, c.accepted.ensures)
     (record {
       outcome = record {
         answer = refl {a = 0};

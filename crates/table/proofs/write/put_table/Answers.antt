@@ -14,79 +14,75 @@ use Rattle.table.proofs.CheckLaws.{groups-size, group-inside, group_at_lem}
 use Rattle.number.proofs.SpliceLaws.{put-at, NumbersPut, put_none, put_two, put-more, put-length}
 use Rattle.table.proofs.WriteLaws.{flat_next, flat_room, table-size, put-table}
 use Rattle.table.proofs.write.put_table.Goals as goal
+use Rattle.table.proofs.write.put_table.Goals.{After-put_number-place}
+
+-- both leading numbers have been put, and there is room for the groups
+abbrev table_of : After-put_number-place → Table
+table_of c = record {
+  count = c.args.count;
+  groups = c.args.groups.now;
+  loads = c.args.loads.now;
+  stores
+      = c.args.stores.now;
+}
+
+space : (c : After-put_number-place) → length (number_bytes 2) + length (number_bytes c.args.count) + length
+    (bytes_of (flat_map group_numbers (groups_of (table_of c)))) ≤ length c.args.out.now
+space c = omega
+    (arith, table-size (groups_of (table_of c)) c.args.count (groups-size (table_of c)), c.requires.1)
+
+fields_put : (c : After-put_number-place) → Puts c.args.out.now 0
+    (number_bytes 2) c.put_number-after_fields.result c.put_number-after_fields.new.out
+fields_put c = put-at (omega (arith, (space c))) c.put_number-after_fields.ensures
+
+count_put : (c : After-put_number-place) → Puts c.put_number-after_fields.new.out c.put_number-after_fields.result
+    (number_bytes c.args.count) c.put_number-place.result c.put_number-place.new.out
+count_put c = put-at
+    (omega (arith, (space c), (fields_put c).ends, c.put_number-after_fields.auto.out)) c.put_number-place.ensures
+
+head_end : (c : After-put_number-place) → (c.put_number-place.result ≡ length (number_bytes 2) + length (number_bytes c.args.count)) ×
+    (length c.put_number-place.new.out ≡ length c.args.out.now)
+head_end c = (
+  omega (arith, (fields_put c).ends, (count_put c).ends),
+  omega
+      (arith, c.put_number-after_fields.auto.out, c.put_number-place.auto.out),
+)
+
+head_put : (c : After-put_number-place) → NumbersPut c.args.out.now 0
+    (2 ∷ c.args.count ∷ []) c.put_number-place.new.out c.put_number-place.result
+head_put c = put_two put_none 2 c.args.count (omega (arith, (space c))) (fields_put c).is (fields_put c).ends (count_put c).is
+    (count_put c).ends
 
 pub put_group-place-requires : goal.put_group-place-requires
 put_group-place-requires c =
-    let table_of : Table = record {
-      count = c.args.count;
-      groups = c.args.groups.now;
-      loads = c.args.loads.now;
-      stores
-          = c.args.stores.now;
-    } in
-    let table_at : Table = table_of in
-    let space : length (number_bytes 2) + length (number_bytes c.args.count) + length
-    (bytes_of (flat_map group_numbers (groups_of table_of))) ≤ length c.args.out.now = omega
-    (arith, table-size (groups_of table_of) c.args.count (groups-size table_of), c.requires.1) in
-    let fields-put : Puts c.args.out.now 0 (number_bytes 2) c.put_number-after_fields.result c.put_number-after_fields.new.out =
-    put-at (omega (arith, space)) c.put_number-after_fields.ensures in
-    let count-put : Puts c.put_number-after_fields.new.out c.put_number-after_fields.result
-    (number_bytes c.args.count) c.put_number-place.result c.put_number-place.new.out = put-at
-    (omega (arith, space, fields-put.ends, c.put_number-after_fields.auto.out)) c.put_number-place.ensures in
-    let head-end : (c.put_number-place.result ≡ length (number_bytes 2) + length (number_bytes c.args.count)) ×
-    (length c.put_number-place.new.out ≡ length c.args.out.now) = (
-      omega (arith, fields-put.ends, count-put.ends),
-      omega
-          (arith, c.put_number-after_fields.auto.out, c.put_number-place.auto.out),
-    ) in
-    let group_of : GroupPairs = let t = table_at in
+    let p = (goal.at.put_group-place-requires c).After-put_number-place in
+    let group_of : GroupPairs = let t = (table_of p) in
     pairs_of t.loads t.stores c.group_at-group.result in
-    let this : get_or (groups_of table_at) c.loop-i.i group_of ≡ group_of =
-    group_at_lem table_at c.requires.0 c.loop-i.i c.loop-i-test.true group_of c.group_at-group.ensures in
-    let inside : c.loop-i.i < length (groups_of table_at) = omega (arith, groups-size table_at, c.loop-i-test.true) in
+    let this : get_or (groups_of (table_of p)) c.loop-i.i group_of ≡ group_of =
+    group_at_lem (table_of p) c.requires.0 c.loop-i.i c.loop-i-test.true group_of c.group_at-group.ensures in
+    let inside : c.loop-i.i < length (groups_of (table_of p)) = omega (arith, groups-size (table_of p), c.loop-i-test.true) in
     let room : c.put_number-place.result +
-    (length (bytes_of (flat_map group_numbers (take c.loop-i.i (groups_of table_at)))) + length
+    (length (bytes_of (flat_map group_numbers (take c.loop-i.i (groups_of (table_of p))))) + length
     (bytes_of (group_numbers group_of))) ≤ length c.put_number-place.new.out = let f = rw this at
-    (flat_room group_numbers (groups_of table_at) c.loop-i.i group_of inside) in
-    omega (arith, f, space, head-end.0, head-end.1) in
+    (flat_room group_numbers (groups_of (table_of p)) c.loop-i.i group_of inside) in
+    omega (arith, f, (space p), (head_end p).0, (head_end p).1) in
     let w = c.loop-i.invariant.1 in
     (group-inside _ _ c.group_at-group.ensures, omega (arith, room, w.ends, put-length w (omega (arith, room))))
 
 pub loop-i-preserved : goal.loop-i-preserved
 loop-i-preserved c =
-    let table_of : Table = record {
-      count = c.args.count;
-      groups = c.args.groups.now;
-      loads = c.args.loads.now;
-      stores
-          = c.args.stores.now;
-    } in
-    let table_at : Table = table_of in
-    let space : length (number_bytes 2) + length (number_bytes c.args.count) + length
-    (bytes_of (flat_map group_numbers (groups_of table_of))) ≤ length c.args.out.now = omega
-    (arith, table-size (groups_of table_of) c.args.count (groups-size table_of), c.requires.1) in
-    let fields-put : Puts c.args.out.now 0 (number_bytes 2) c.put_number-after_fields.result c.put_number-after_fields.new.out =
-    put-at (omega (arith, space)) c.put_number-after_fields.ensures in
-    let count-put : Puts c.put_number-after_fields.new.out c.put_number-after_fields.result
-    (number_bytes c.args.count) c.put_number-place.result c.put_number-place.new.out = put-at
-    (omega (arith, space, fields-put.ends, c.put_number-after_fields.auto.out)) c.put_number-place.ensures in
-    let head-end : (c.put_number-place.result ≡ length (number_bytes 2) + length (number_bytes c.args.count)) ×
-    (length c.put_number-place.new.out ≡ length c.args.out.now) = (
-      omega (arith, fields-put.ends, count-put.ends),
-      omega
-          (arith, c.put_number-after_fields.auto.out, c.put_number-place.auto.out),
-    ) in
-    let group_of : GroupPairs = let t = table_at in
+    let p = (goal.at.loop-i-preserved c).After-put_number-place in
+    let group_of : GroupPairs = let t = (table_of p) in
     pairs_of t.loads t.stores c.group_at-group.result in
-    let this : get_or (groups_of table_at) c.loop-i.i group_of ≡ group_of =
-    group_at_lem table_at c.requires.0 c.loop-i.i c.loop-i-test.true group_of c.group_at-group.ensures in
-    let inside : c.loop-i.i < length (groups_of table_at) = omega (arith, groups-size table_at, c.loop-i-test.true) in
+    let this : get_or (groups_of (table_of p)) c.loop-i.i group_of ≡ group_of =
+    group_at_lem (table_of p) c.requires.0 c.loop-i.i c.loop-i-test.true group_of c.group_at-group.ensures in
+    let inside : c.loop-i.i < length (groups_of (table_of p)) = omega (arith, groups-size (table_of p), c.loop-i-test.true) in
     let room : c.put_number-place.result +
-    (length (bytes_of (flat_map group_numbers (take c.loop-i.i (groups_of table_at)))) + length
+    (length (bytes_of (flat_map group_numbers (take c.loop-i.i (groups_of (table_of p))))) + length
     (bytes_of (group_numbers group_of))) ≤ length c.put_number-place.new.out = let f = rw this at
-    (flat_room group_numbers (groups_of table_at) c.loop-i.i group_of inside) in
-    omega (arith, f, space, head-end.0, head-end.1) in
-    let q = flat_next group_numbers (groups_of table_at) c.loop-i.i group_of inside in (
+    (flat_room group_numbers (groups_of (table_of p)) c.loop-i.i group_of inside) in
+    omega (arith, f, (space p), (head_end p).0, (head_end p).1) in
+    let q = flat_next group_numbers (groups_of (table_of p)) c.loop-i.i group_of inside in (
       omega (arith, c.loop-i-test.true),
       rw (q, this) (put-more c.loop-i.invariant.1 (group_numbers group_of) (omega (arith, room)) c.put_group-place.ensures.is
           c.put_group-place.ensures.ends),
@@ -94,26 +90,9 @@ loop-i-preserved c =
 
 pub returns : goal.returns
 returns c =
-    let table_of : Table = record {
-      count = c.args.count;
-      groups = c.args.groups.now;
-      loads = c.args.loads.now;
-      stores
-          = c.args.stores.now;
-    } in
-    let table_at : Table = table_of in
-    let space : length (number_bytes 2) + length (number_bytes c.args.count) + length
-    (bytes_of (flat_map group_numbers (groups_of table_of))) ≤ length c.args.out.now = omega
-    (arith, table-size (groups_of table_of) c.args.count (groups-size table_of), c.requires.1) in
-    let fields-put : Puts c.args.out.now 0 (number_bytes 2) c.put_number-after_fields.result c.put_number-after_fields.new.out =
-    put-at (omega (arith, space)) c.put_number-after_fields.ensures in
-    let count-put : Puts c.put_number-after_fields.new.out c.put_number-after_fields.result
-    (number_bytes c.args.count) c.put_number-place.result c.put_number-place.new.out = put-at
-    (omega (arith, space, fields-put.ends, c.put_number-after_fields.auto.out)) c.put_number-place.ensures in
-    let head-put : NumbersPut c.args.out.now 0 (2 ∷ c.args.count ∷ []) c.put_number-place.new.out c.put_number-place.result =
-    put_two put_none 2 c.args.count (omega (arith, space)) fields-put.is fields-put.ends count-put.is count-put.ends in
+    let p = (goal.at.returns c).After-put_number-place in
     let done : NumbersPut c.put_number-place.new.out c.put_number-place.result
-    (flat_map group_numbers (groups_of table_at)) c.loop-i.out c.loop-i.place = rw
-    (take_all c.loop-i.i (groups_of table_at) (omega (arith, groups-size table_at, c.loop-i-test.false))) at
+    (flat_map group_numbers (groups_of (table_of p))) c.loop-i.out c.loop-i.place = rw
+    (take_all c.loop-i.i (groups_of (table_of p)) (omega (arith, groups-size (table_of p), c.loop-i-test.false))) at
     c.loop-i.invariant.1 in
-    put-table (groups_of table_of) (groups-size table_of) head-put done c.requires.1
+    put-table (groups_of (table_of p)) (groups-size (table_of p)) (head_put p) done c.requires.1

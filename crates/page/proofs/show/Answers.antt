@@ -14,5 +14,4 @@ slice_bounds-out-end g c = fits c.args.table.now c.args.trace.now c.page_buffer-
 
 pub slice_bounds-write_out-end : goal.slice_bounds-write_out-end
 slice_bounds-write_out-end g c =
-    sym (length-take-le _ _ (fits c.args.table.now c.args.trace.now c.page_buffer-out.result _ (search rules) (search rules)
-            (search rules)))
+    sym (length-take-le _ _ (fits c.args.table.now c.args.trace.now c.page_buffer-out.result _ (search rules) (search rules) (search rules)))

@@ -1,15 +1,12 @@
 -- Numbers. Document 01, "Bytes and tables": "A number is 32 bits without sign, in groups of seven bits, lowest group first;
 -- bit 7 of a byte means that another follows. .. the writer uses the fewest bytes." S-4 of document 02: "A number of more than one
 -- byte whose last byte is 00 is refused, in tables and traces."
-use Rattle.std.specs.Prelude.{ℕ, zero, suc, ◌+◌, ◌-◌, ◌*◌, ◌/◌, ◌%◌, ◌≤◌, ◌<◌, ◌^◌, max, ◌≡◌, Bool, true, not, ◌&&◌, List, [], ◌∷◌, ◌++◌, ◌↔◌, leb, ltb, eqb, length, take, drop}
+use Rattle.std.specs.Prelude.{ℕ, zero, suc, ◌+◌, ◌-◌, ◌*◌, ◌/◌, ◌%◌, ◌≤◌, ◌<◌, ◌^◌, max, ◌≡◌, Bool, true, not, ◌&&◌, Result, Ok, Err, List, [], ◌∷◌, ◌++◌, ◌↔◌, leb, ltb, eqb, length, take, drop}
 use Rattle.std.specs.Int.Count.{count_leading_zeros}
-use Rattle.number.specs.declared.NumberRead.{NumberRead}
-use Rattle.number.specs.declared.NumberRead.TheVariants.{Number, Refused}
-use Rattle.number.specs.declared.BytesWritten.{BytesWritten}
-use Rattle.number.specs.declared.BytesWritten.TheVariants.{Bytes, Unwritten}
+use Rattle.number.specs.declared.refusal.Refusal.{Refusal}
 use Rattle.number.specs.Basics.{pick, splice, all_of}
-use Rattle.number.specs.Reply.{Reply, refuse, accept, need, number}
-use Rattle.number.specs.Refusal.{ended, too_large, padded_number, too_short}
+use Rattle.number.specs.Reply.{Reply, refuse, accept, need, reply}
+use Rattle.number.specs.Refusal.{ended, too_large, padded_number, too_short, refusal_number}
 
 -- what was read, and the bytes after it
 pub data Got (A : Type 0) : Type 0 where
@@ -70,14 +67,13 @@ pub data Reading (A : Type 0) : Type 0 where
 abbrev pub read_in : {A : Type 0} → List ℕ → Reply (Got A) → Reply (Reading A)
 read_in s r = then_read r λ a rest. accept (reading a (place_of s rest))
 
--- the number and the values of each case of `NumberRead`
-abbrev pub number_reply : NumberRead → Reply (Reading ℕ)
-number_reply (Number n next) = accept (reading n next)
-number_reply (Refused k) = refuse k
+-- what a call that reads replies, by the number of its refusal; and a call that reads a number
+abbrev pub reading_reply : {A : Type 0} → Result (A × ℕ) Refusal → Reply (Reading A)
+reading_reply (Ok (a, next)) = accept (reading a next)
+reading_reply (Err e) = refuse (refusal_number e)
 
--- its number: 0 where a number was read
-abbrev pub number_refusal : NumberRead → ℕ
-number_refusal read = number (number_reply read)
+abbrev pub number_reply : Result (ℕ × ℕ) Refusal → Reply (Reading ℕ)
+number_reply = reading_reply
 
 -- "Significant bits are 32 less the leading zeros"; of a number of another width, that width less them.
 abbrev pub significant_bits_in : ℕ → ℕ → ℕ
@@ -103,10 +99,9 @@ abbrev pub bytes_of : List ℕ → List ℕ
 bytes_of [] = []
 bytes_of (n ∷ ns) = number_bytes n ++ bytes_of ns
 
--- the number of each case of `BytesWritten`, and how many bytes were written
-abbrev pub written_reply : BytesWritten → Reply ℕ
-written_reply (Bytes n) = accept n
-written_reply (Unwritten k) = refuse k
+-- what a writer replies: how many bytes were written
+abbrev pub written_reply : Result ℕ Refusal → Reply ℕ
+written_reply = reply
 
 -- what a writer answers, and the buffer that it leaves
 pub record Wrote : Type 0 where
@@ -114,7 +109,7 @@ pub record Wrote : Type 0 where
   pub buffer : List ℕ
 
 -- a writer's call: its answer, and the buffer as it is left
-abbrev pub HasWritten : Wrote → BytesWritten → List ℕ → Type 0
+abbrev pub HasWritten : Wrote → Result ℕ Refusal → List ℕ → Type 0
 HasWritten w r left = (written_reply r ≡ w.answer) × (left ≡ w.buffer)
 
 -- nothing is written

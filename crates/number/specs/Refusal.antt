@@ -1,6 +1,8 @@
 -- The refusal numbers of document 01, "Calls and their refusals" and "The printed run", and 41 to 44 of document 02:
 -- all that calls give. Accepted is 0. src/refusal.rt has the same names.
 use Rattle.std.specs.Prelude.{ℕ}
+use Rattle.number.specs.declared.refusal.Refusal.{Refusal}
+use Rattle.number.specs.declared.refusal.Refusal.TheVariants.{Ended, TooLarge, BadFields, BadGroupCount, BadCounts, BadPort, PortSeen, BadOffset, LeftOver, TooShort, BadLoadDepth, BadStoreDepth, BadMemoryLength, GroupTooLarge, NoGroup, NoPlace, NoPort, BadAddress, NoneWaits, NoSerial, AlreadyDone, NoAddress, EarlierStoreUnknown, NoData, WrongMemory, LoadConflict, StoreConflict, NoneUntaken, NotServed, BadKind, FileTooLong, Unsound, PageTooShort, PaddedNumber, Unlisted, Circle}
 
 -- the bytes end inside a number or before it
 abbrev pub ended : ℕ
@@ -145,3 +147,42 @@ unlisted = 43
 -- S-6: a circle of pairs
 abbrev pub circle : ℕ
 circle = 44
+
+-- ---- "When an answer is an enum, a definition gives this paper's number .. for each enum case."
+abbrev pub refusal_number : Refusal → ℕ
+refusal_number Ended = ended
+refusal_number TooLarge = too_large
+refusal_number BadFields = bad_fields
+refusal_number BadGroupCount = bad_group_count
+refusal_number BadCounts = bad_counts
+refusal_number BadPort = bad_port
+refusal_number PortSeen = port_seen
+refusal_number BadOffset = bad_offset
+refusal_number LeftOver = left_over
+refusal_number TooShort = too_short
+refusal_number BadLoadDepth = bad_load_depth
+refusal_number BadStoreDepth = bad_store_depth
+refusal_number BadMemoryLength = bad_memory_length
+refusal_number GroupTooLarge = group_too_large
+refusal_number NoGroup = no_group
+refusal_number NoPlace = no_place
+refusal_number NoPort = no_port
+refusal_number BadAddress = bad_address
+refusal_number NoneWaits = none_waits
+refusal_number NoSerial = no_serial
+refusal_number AlreadyDone = already_done
+refusal_number NoAddress = no_address
+refusal_number EarlierStoreUnknown = earlier_store_unknown
+refusal_number NoData = no_data
+refusal_number WrongMemory = wrong_memory
+refusal_number LoadConflict = load_conflict
+refusal_number StoreConflict = store_conflict
+refusal_number NoneUntaken = none_untaken
+refusal_number NotServed = not_served
+refusal_number BadKind = bad_kind
+refusal_number FileTooLong = file_too_long
+refusal_number Unsound = unsound
+refusal_number PageTooShort = page_too_short
+refusal_number PaddedNumber = padded_number
+refusal_number Unlisted = unlisted
+refusal_number Circle = circle

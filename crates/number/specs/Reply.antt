@@ -1,12 +1,19 @@
 -- What a call replies. "When an answer is an enum, a definition gives this paper's number and values for each enum case. The promises
 -- use this definition." A reply is 0 with what the call gives ("accepted is 0"), or the refusal number: "a refusal returns its number
 -- and no value". Rules are written in the order of checking, and none refuses with 0.
-use Rattle.std.specs.Prelude.{ℕ, Bool, true, false}
+use Rattle.std.specs.Prelude.{ℕ, Bool, true, false, Result, Ok, Err}
+use Rattle.number.specs.declared.refusal.Refusal.{Refusal}
+use Rattle.number.specs.Refusal.{refusal_number}
 use Rattle.std.proofs.Math.Option.{Option, none, some}
 
 pub data Reply (A : Type 0) : Type 0 where
   refuse : ℕ → Reply A
   accept : A → Reply A
+
+-- what a call that answers by a `Result` replies: "accepted is 0"
+abbrev pub reply : {A : Type 0} → Result A Refusal → Reply A
+reply (Ok a) = accept a
+reply (Err e) = refuse (refusal_number e)
 
 -- the refusal where the test fails, else what follows
 abbrev pub need : {A : Type 0} → Bool → ℕ → Reply A → Reply A

@@ -7,17 +7,3 @@ pub mod reading;
 pub mod refusal;
 pub mod texts;
 pub mod writing;
-
-// What reading a number answers: its value and the place after it, or the refusal number.
-#[derive(Clone, Copy)]
-pub enum NumberRead {
-    Number { value: u32, next: usize },
-    Refused(u8),
-}
-
-// What writing bytes answers: how many were written, or the refusal number.
-#[derive(Clone, Copy)]
-pub enum BytesWritten {
-    Bytes(usize),
-    Unwritten(u8),
-}

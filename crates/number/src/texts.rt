@@ -5,19 +5,10 @@ ghost use Rattle.number.specs.Number.{PutIfFits};
 pub fn put_bytes(out: &mut [u8], at: usize, bytes: &[u8]) -> usize
     ensures { PutIfFits out.old at bytes.now result out.new }
 {
-    let length = out.len();
-    if length < at {
+    if out.len() < at || out.len() - at < bytes.len() {
         return at;
     }
-    if length - at < bytes.len() {
-        return at;
-    }
-    let mut place = at;
-    let mut i: usize = 0;
-    while i < bytes.len() {
-        out[place] = bytes[i];
-        place += 1;
-        i += 1;
-    }
-    place
+    let end = at + bytes.len();
+    out[at..end].copy_from_slice(bytes);
+    end
 }

@@ -2,8 +2,7 @@
 ghost use Rattle.std.specs.Prelude.{◌≡◌, ◌+◌, ◌≤◌, length};
 ghost use Rattle.number.specs.Number.{number_bytes, byte_count, significant_bits, HasWritten, wrote, Puts, PutIfFits};
 
-use crate::BytesWritten;
-use crate::refusal::TOO_SHORT;
+use crate::refusal::Refusal;
 
 // How many bytes the writer uses for a number: up to seven of its significant bits go in each, and 0, which has none, takes one.
 pub fn number_length(value: u32) -> usize
@@ -49,13 +48,13 @@ pub fn put_number(out: &mut [u8], at: usize, value: u32) -> usize
 }
 
 // Writes a number at the front of a buffer, in the fewest bytes.
-pub fn write_number(value: u32, out: &mut [u8]) -> BytesWritten
+pub fn write_number(value: u32, out: &mut [u8]) -> Result<usize, Refusal>
     ensures { HasWritten (wrote (number_bytes value) out.old) result out.new }
 {
     let length = number_length(value);
     if out.len() < length {
-        return BytesWritten::Unwritten(TOO_SHORT);
+        return Err(Refusal::TooShort);
     }
     put_fitting(out, 0, value);
-    BytesWritten::Bytes(length)
+    Ok(length)
 }

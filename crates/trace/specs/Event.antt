@@ -1,18 +1,15 @@
 -- Events and traces. "A trace is load depth, store depth, first serial, memory length, then events to the end of the bytes.
 -- An event is one of seven kinds with its own numbers."
-use Rattle.std.specs.Prelude.{ℕ, Bool, List, [], ◌∷◌, ◌≡◌, eqb, leb, drop}
+use Rattle.std.specs.Prelude.{ℕ, Bool, Option, Some, None, Result, Ok, Err, List, [], ◌∷◌, ◌≡◌, eqb, leb, drop}
 use Rattle.trace.specs.declared.Event.{Event}
 use Rattle.trace.specs.declared.Event.TheVariants.{Activate, LoadAddress, StoreAddress, StoreData, Serve, Write, Take}
 use Rattle.trace.specs.declared.Header.{Header}
-use Rattle.trace.specs.declared.HeaderRead.{HeaderRead}
-use Rattle.trace.specs.declared.HeaderRead.TheVariants.{Leading, NoHeader}
-use Rattle.trace.specs.declared.EventRead.{EventRead}
-use Rattle.trace.specs.declared.EventRead.TheVariants.{Found, End, NoEvent}
 use Rattle.trace.specs.declared.Stepped.{Stepped}
 use Rattle.number.specs.Basics.{pick, flat_map, within}
-use Rattle.number.specs.Refusal.{bad_kind}
+use Rattle.number.specs.declared.refusal.Refusal.{Refusal}
+use Rattle.number.specs.Refusal.{bad_kind, refusal_number}
 use Rattle.number.specs.Reply.{Reply, refuse, accept, need, passed}
-use Rattle.number.specs.Number.{Got, got, then_read, read_number, place_of, Reading, reading, bytes_of, Wrote, wrote_if}
+use Rattle.number.specs.Number.{Got, got, then_read, read_number, place_of, Reading, reading_reply, bytes_of, Wrote, wrote_if}
 use Rattle.trace.specs.declared.reading.Reader.{Reader}
 
 -- "0 activate (group), 1 load address (port, address), 2 store address (port, address), 3 store data (port, word), 4 serve
@@ -60,11 +57,15 @@ pub data Yield : Type 0 where
   yielded : Event → ℕ → Yield
   at_end : Yield
 
--- the number and the values of each case of `EventRead`; the paper gives "end" no number, and here it is accepted
-abbrev pub event_reply : EventRead → Reply Yield
-event_reply (Found e next) = accept (yielded e next)
-event_reply End = accept at_end
-event_reply (NoEvent k) = refuse k
+-- what a call that reads an event replies; the paper gives "end" no number, and here it is accepted
+abbrev pub kind_reply : Result (Event × ℕ) Refusal → Reply Yield
+kind_reply (Ok (e, next)) = accept (yielded e next)
+kind_reply (Err e) = refuse (refusal_number e)
+
+abbrev pub event_reply : Result (Option (Event × ℕ)) Refusal → Reply Yield
+event_reply (Ok (Some (e, next))) = accept (yielded e next)
+event_reply (Ok None) = accept at_end
+event_reply (Err e) = refuse (refusal_number e)
 
 -- the reply of a call that reads an event in s
 abbrev pub event_read_in : List ℕ → Reply (Got Event) → Reply Yield
@@ -120,7 +121,6 @@ read_header s =
     then_read (read_number s₃) λ words s₄.
     accept (got (record { load_depth = loads; store_depth = stores; first = serial; memory_length = words }) s₄)
 
--- the number and the values of each case of `HeaderRead`
-abbrev pub header_reply : HeaderRead → Reply (Reading Header)
-header_reply (Leading h next) = accept (reading h next)
-header_reply (NoHeader k) = refuse k
+-- what a call that reads them replies
+abbrev pub header_reply : Result (Header × ℕ) Refusal → Reply (Reading Header)
+header_reply = reading_reply

@@ -3,4 +3,3 @@ pub mod Event
 pub mod Trace
 pub mod RoundTrip
 pub mod NumbersFirst
-pub mod Internal

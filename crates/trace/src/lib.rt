@@ -6,6 +6,8 @@
 pub mod reading;
 pub mod writing;
 
+use number::refusal::Refusal;
+
 // The four leading numbers of a trace: load depth, store depth, first serial, memory length.
 #[derive(Clone, Copy)]
 pub struct Header {
@@ -13,13 +15,6 @@ pub struct Header {
     pub store_depth: u32,
     pub first: u32,
     pub memory_length: u32,
-}
-
-// What reading them answers: the numbers and the place after them, or the refusal number.
-#[derive(Clone, Copy)]
-pub enum HeaderRead {
-    Leading(Header, usize),
-    NoHeader(u8),
 }
 
 // An event of a trace: its kind, with its own numbers.
@@ -34,17 +29,9 @@ pub enum Event {
     Take { port: u32 },
 }
 
-// What reading at a place of a trace answers: an event and the place after it, the end, or the refusal number.
-#[derive(Clone, Copy)]
-pub enum EventRead {
-    Found(Event, usize),
-    End,
-    NoEvent(u8),
-}
-
 // One step of a reader: what it yields, and where it stands then.
 #[derive(Clone, Copy)]
 pub struct Stepped {
-    pub read: EventRead,
+    pub read: Result<Option<(Event, usize)>, Refusal>,
     pub next: usize,
 }

@@ -1,56 +1,27 @@
 // Reading events and traces: a trace is four leading numbers, then events to the end of its bytes.
 ghost use Rattle.std.specs.Prelude.{◌≡◌, drop};
 ghost use Rattle.number.specs.Number.{read_in};
-ghost use Rattle.trace.specs.Event.{read_header, header_reply, event_of, read_kind, event_reply, event_read_in, event_at, place_after, Steps, moved_to};
+ghost use Rattle.trace.specs.Event.{read_header, header_reply, kind_reply, event_of, read_kind, event_reply, event_read_in, event_at, place_after, Steps, moved_to};
 
-use crate::{Event, EventRead, Header, HeaderRead, Stepped};
-use number::NumberRead;
-use number::reading::{number_refusal, read_number};
-use number::refusal::BAD_KIND;
+use crate::{Event, Header, Stepped};
+use number::reading::read_number;
+use number::refusal::Refusal;
 
-// Reads the four leading numbers of a trace.
-pub fn read_header(bytes: &[u8]) -> HeaderRead
+// Reads the four leading numbers of a trace, and says where they end.
+pub fn read_header(bytes: &[u8]) -> Result<(Header, usize), Refusal>
     ensures { header_reply result ≡ read_in bytes.now (read_header bytes.now) }
 {
-    let first = read_number(bytes, 0);
-    let NumberRead::Number {
-        value: load_depth,
-        next: place,
-    } = first
-    else {
-        return HeaderRead::NoHeader(number_refusal(first));
-    };
-    let second = read_number(bytes, place);
-    let NumberRead::Number {
-        value: store_depth,
-        next: place,
-    } = second
-    else {
-        return HeaderRead::NoHeader(number_refusal(second));
-    };
-    let third = read_number(bytes, place);
-    let NumberRead::Number {
-        value: serial,
-        next: place,
-    } = third
-    else {
-        return HeaderRead::NoHeader(number_refusal(third));
-    };
-    let fourth = read_number(bytes, place);
-    let NumberRead::Number {
-        value: memory_length,
-        next: place,
-    } = fourth
-    else {
-        return HeaderRead::NoHeader(number_refusal(fourth));
-    };
+    let (load_depth, place) = read_number(bytes, 0)?;
+    let (store_depth, place) = read_number(bytes, place)?;
+    let (first, place) = read_number(bytes, place)?;
+    let (memory_length, place) = read_number(bytes, place)?;
     let header = Header {
         load_depth,
         store_depth,
-        first: serial,
+        first,
         memory_length,
     };
-    HeaderRead::Leading(header, place)
+    Ok((header, place))
 }
 
 // The event of a kind and its numbers.
@@ -77,54 +48,31 @@ pub(crate) fn event_of(kind: u32, first: u32, second: u32) -> Event
     }
 }
 
-// Reads what follows an event's kind.
-fn read_kind(bytes: &[u8], kind: u32, at: usize) -> EventRead
-    ensures { event_reply result ≡ event_read_in bytes.now (read_kind kind (drop at bytes.now)) }
+// Reads what follows an event's kind, and says where it ends.
+fn read_kind(bytes: &[u8], kind: u32, at: usize) -> Result<(Event, usize), Refusal>
+    ensures { kind_reply result ≡ event_read_in bytes.now (read_kind kind (drop at bytes.now)) }
 {
     if 6 < kind {
-        return EventRead::NoEvent(BAD_KIND);
+        return Err(Refusal::BadKind);
     }
-    let read = read_number(bytes, at);
-    let NumberRead::Number {
-        value: first,
-        next: place,
-    } = read
-    else {
-        return EventRead::NoEvent(number_refusal(read));
-    };
-    if kind < 1 {
-        return EventRead::Found(event_of(kind, first, 0), place);
+    let (first, place) = read_number(bytes, at)?;
+    if kind < 1 || 3 < kind {
+        return Ok((event_of(kind, first, 0), place));
     }
-    if 3 < kind {
-        return EventRead::Found(event_of(kind, first, 0), place);
-    }
-    let read = read_number(bytes, place);
-    let NumberRead::Number {
-        value: second,
-        next: place,
-    } = read
-    else {
-        return EventRead::NoEvent(number_refusal(read));
-    };
-    EventRead::Found(event_of(kind, first, second), place)
+    let (second, place) = read_number(bytes, place)?;
+    Ok((event_of(kind, first, second), place))
 }
 
-// Reads the event at a place; a place past the end is the end.
-pub fn read_event(bytes: &[u8], at: usize) -> EventRead
+// Reads the event at a place, and says where it ends; `None` at the end of the bytes. A place past the end is the end.
+pub fn read_event(bytes: &[u8], at: usize) -> Result<Option<(Event, usize)>, Refusal>
     ensures { event_reply result ≡ event_at bytes.now at }
 {
     if bytes.len() <= at {
-        return EventRead::End;
+        return Ok(None);
     }
-    let read = read_number(bytes, at);
-    let NumberRead::Number {
-        value: kind,
-        next: place,
-    } = read
-    else {
-        return EventRead::NoEvent(number_refusal(read));
-    };
-    read_kind(bytes, kind, place)
+    let (kind, place) = read_number(bytes, at)?;
+    let found = read_kind(bytes, kind, place)?;
+    Ok(Some(found))
 }
 
 // One step of a reader that stands at a place: it moves past an event, and stays at the end or where it is refused.
@@ -132,11 +80,11 @@ pub fn step_at(bytes: &[u8], at: usize) -> Stepped
     ensures { Steps bytes.now at result }
 {
     let read = read_event(bytes, at);
-    match read {
-        EventRead::Found(_, next) => Stepped { read, next },
-        EventRead::End => Stepped { read, next: at },
-        EventRead::NoEvent(_) => Stepped { read, next: at },
-    }
+    let next = match read {
+        Ok(Some((_, next))) => next,
+        _ => at,
+    };
+    Stepped { read, next }
 }
 
 // A reader that stays attached to a lent trace.
@@ -148,7 +96,7 @@ pub struct Reader<'a> {
 
 impl<'a> Reader<'a> {
     // Yields one event, and moves past it; it stays at the end and where it is refused.
-    pub fn step(&mut self) -> EventRead
+    pub fn step(&mut self) -> Result<Option<(Event, usize)>, Refusal>
         ensures { (event_reply result ≡ event_at self.old.bytes.now self.old.at)
             × (self.new ≡ moved_to self.old
             (place_after self.old.at (event_at self.old.bytes.now self.old.at))) }

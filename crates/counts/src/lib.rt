@@ -9,7 +9,7 @@ use std::cmp::Ordering;
 
 // Loads served, and loads forwarded. (`repr(C)`: C hands the record in and gets it back.)
 #[repr(C)]
-#[derive(Clone, Copy, Debug, PartialEq, Eq, Default)]
+#[derive(Clone, Copy, PartialEq, Eq, Default)]
 pub struct Counts {
     pub loads: u32,
     pub forwarded: u32,

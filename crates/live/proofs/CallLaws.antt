@@ -16,31 +16,9 @@ use Rattle.live.specs.Internal.{told_of, told_served}
 use Rattle.live.specs.Calls as Live
 use Rattle.live.specs.Calls.{LiveTells, move_gives, take_gives, write_gives, serve_gives, memory_after}
 
-accepted-tells : {v : Option ℕ} {q : Contents} {o : Outcome} → Accepted v q o → Live.LiveAccepted (record { value = v; queue = q }) (told_of o)
-accepted-tells a = record {
-  answer = a.answer;
-  given = ap given_in a.gives;
-  value = ap word_in a.gives;
-  holds = a.holds;
-}
-
 -- what was handed back, as a live call tells it
 abbrev told_handed : Outcome → Live.LiveTold
 told_handed h = told_of h
-
-module _ (q : Queue) (o : Outcome) where
-  pub moves-tell : (rule : Reply Contents) → Moves q rule o → LiveTells q (and_then rule move_gives) (told_of o)
-  moves-tell (refuse n) e = ap told_handed e
-  moves-tell (accept c) a = accepted-tells a
-
-  pub takes-tell : (rule : Reply Taken) → Takes q rule o → LiveTells q (and_then rule take_gives) (told_of o)
-  takes-tell (refuse n) e = ap told_handed e
-  takes-tell (accept t) a = accepted-tells a
-
-  pub writes-tell : (lent left : List ℕ) (rule : Reply Written) → Writes q lent rule o left
-      → LiveTells q (and_then rule write_gives) (told_of o) × (left ≡ memory_after lent rule)
-  writes-tell lent left (refuse n) u = (ap told_handed u.outcome, u.memory_is)
-  writes-tell lent left (accept w) a = (accepted-tells a.outcome, a.memory_is)
 
 pub serves-tell : (q : Queue) (c : Counts) (o : Counted) (rule : Reply Served) → Serves q c rule o
     → LiveTells q (and_then rule serve_gives) (told_served o) × (o.counts ≡ after_serve c rule)

@@ -258,10 +258,11 @@ pub extern "C" fn lsq_serve_in(
     mut counts: Counts,
     serial: u32,
 ) -> LiveService
-    ensures { let q = queue_of frame loads.old stores.now in
+    ensures tells { let q = queue_of frame loads.old stores.now in
         let rule = on_parts loads.old stores.now (serve (contents_of q) memory.now serial) in
-        LiveTells q (and_then rule serve_gives) (told_service result (queue_of frame loads.new stores.now))
-        × (result.counts ≡ after_serve counts rule) }
+        LiveTells q (and_then rule serve_gives) (told_service result (queue_of frame loads.new stores.now)) }
+    ensures counts { let q = queue_of frame loads.old stores.now in
+        result.counts ≡ after_serve counts (on_parts loads.old stores.now (serve (contents_of q) memory.now serial)) }
 {
     let answer = serve_in(&frame, loads, stores, memory, &mut counts, serial);
     live_service(answer.map(Some), counts)
@@ -276,10 +277,11 @@ pub extern "C" fn lsq_write_in(
     memory: &mut [u32],
     serial: u32,
 ) -> LiveStep
-    ensures { let q = queue_of frame loads.old stores.old in
+    ensures tells { let q = queue_of frame loads.old stores.old in
         let rule = on_parts loads.old stores.old (write (contents_of q) memory.old serial) in
-        LiveTells q (and_then rule write_gives) (told_step frame result loads.new stores.new)
-        × (memory.new ≡ memory_after memory.old rule) }
+        LiveTells q (and_then rule write_gives) (told_step frame result loads.new stores.new) }
+    ensures memory { let q = queue_of frame loads.old stores.old in
+        memory.new ≡ memory_after memory.old (on_parts loads.old stores.old (write (contents_of q) memory.old serial)) }
 {
     let answer = write_in(&mut frame, loads, stores, memory, serial);
     live_step(answer.map(|()| None), &frame)

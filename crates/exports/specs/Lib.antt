@@ -2,4 +2,3 @@
 pub mod Prepared
 pub mod Replay
 pub mod Text
-pub mod Internal

@@ -6,21 +6,20 @@
 ghost use Rattle.std.specs.Prelude.{◌≡◌};
 ghost use Rattle.table.specs.TableBytes.{read_table, table_answer};
 ghost use Rattle.counts.specs.Counts.{share};
-ghost use Rattle.number.specs.Reply.{number};
+ghost use Rattle.number.specs.Reply.{number, reply};
+ghost use Rattle.replay.specs.Outcome.{prepared_as};
 ghost use Rattle.printed.specs.Outcome.{printed};
 ghost use Rattle.paged.specs.Recorded.{kept_after};
 ghost use Rattle.exports.specs.Text.{text_length};
 ghost use Rattle.exports.specs.Prepared.{prepared, event_count, memory_length};
 ghost use Rattle.exports.specs.Replay.{lent, replay_lent, lent_after};
-ghost use Rattle.exports.specs.Internal.{TellsPrepared};
 
-use counts::{Counts, share};
-use number::BytesWritten;
-use number::refusal::TOO_SHORT;
+use counts::Counts;
+use number::refusal::{Refusal, number_of};
 use paged::recording::record_replay;
 use printed::text::print;
 use replay::Prepared;
-use replay::preparing::{prepare, unprepared};
+use replay::preparing::prepare;
 use replay::replaying::replay;
 use shift::ShiftRecord;
 use table::read::read_table;
@@ -34,14 +33,10 @@ pub struct LentRecorded {
 }
 
 // Reads the table and makes the trace ready.
-fn make_ready(table: &[u8], trace: &[u8]) -> Prepared
-    ensures { TellsPrepared (prepared table.now trace.now) result }
+fn make_ready(table: &[u8], trace: &[u8]) -> Result<Prepared, Refusal>
+    ensures { reply result ≡ prepared_as (prepared table.now trace.now) }
 {
-    let read = read_table(table);
-    if read.answer != 0 {
-        return unprepared(read.answer);
-    }
-    let groups = read.table;
+    let groups = read_table(table)?;
     prepare(groups, trace)
 }
 
@@ -50,8 +45,7 @@ fn make_ready(table: &[u8], trace: &[u8]) -> Prepared
 pub extern "C" fn lsq_table_fault(table: &[u8]) -> u32
     ensures { result ≡ (table_answer (read_table table.now)).answer }
 {
-    let read = read_table(table);
-    read.answer as u32
+    number_of(&read_table(table)) as u32
 }
 
 // 0 where the trace can be played on the table; else the table's refusal, or that of the trace's leading numbers, of
@@ -60,8 +54,7 @@ pub extern "C" fn lsq_table_fault(table: &[u8]) -> u32
 pub extern "C" fn lsq_trace_fault(table: &[u8], trace: &[u8]) -> u32
     ensures { result ≡ number (prepared table.now trace.now) }
 {
-    let ready = make_ready(table, trace);
-    ready.answer as u32
+    number_of(&make_ready(table, trace)) as u32
 }
 
 // How many events the trace has: the length that a replay's buffers need. 0 where the trace cannot be played.
@@ -69,8 +62,10 @@ pub extern "C" fn lsq_trace_fault(table: &[u8], trace: &[u8]) -> u32
 pub extern "C" fn lsq_event_count(table: &[u8], trace: &[u8]) -> u64
     ensures { result ≡ event_count (prepared table.now trace.now) }
 {
-    let ready = make_ready(table, trace);
-    ready.events as u64
+    match make_ready(table, trace) {
+        Ok(ready) => ready.events as u64,
+        Err(_) => 0,
+    }
 }
 
 // The memory length that the trace asks for, in words. 0 where the trace cannot be played.
@@ -78,8 +73,10 @@ pub extern "C" fn lsq_event_count(table: &[u8], trace: &[u8]) -> u64
 pub extern "C" fn lsq_memory_length(table: &[u8], trace: &[u8]) -> u32
     ensures { result ≡ memory_length (prepared table.now trace.now) }
 {
-    let ready = make_ready(table, trace);
-    ready.memory_length as u32
+    match make_ready(table, trace) {
+        Ok(ready) => ready.memory_length as u32,
+        Err(_) => 0,
+    }
 }
 
 // Replays the trace on the memory and the counts as they are lent; `counts` holds loads, then forwarded. Where it answers 0,
@@ -103,23 +100,21 @@ pub extern "C" fn lsq_replay(
         (replay_lent table.now trace.now
         (lent memory.old counts.old answers.old given.old values.old)) }
 {
-    let read = read_table(table);
-    if read.answer != 0 {
-        return read.answer as u32;
-    }
+    let groups = match read_table(table) {
+        Ok(groups) => groups,
+        Err(refusal) => return refusal.number() as u32,
+    };
     if counts.len() < 2 {
-        return TOO_SHORT as u32;
+        return Refusal::TooShort.number() as u32;
     }
-    let groups = read.table;
-    let before = Counts {
+    let mut held = Counts {
         loads: counts[0],
         forwarded: counts[1],
     };
-    let done = replay(groups, trace, memory, before, answers, given, values);
-    let after = done.counts;
-    counts[0] = after.loads;
-    counts[1] = after.forwarded;
-    done.answer as u32
+    let done = replay(groups, trace, memory, &mut held, answers, given, values);
+    counts[0] = held.loads;
+    counts[1] = held.forwarded;
+    number_of(&done) as u32
 }
 
 // Replays the trace as `lsq_replay` does, and keeps the record of what it took. Where it answers 0 the record is that of the trace's
@@ -133,7 +128,7 @@ pub extern "C" fn lsq_replay_recorded(
     answers: &mut [u8],
     given: &mut [u8],
     values: &mut [u32],
-    kept: ShiftRecord,
+    mut kept: ShiftRecord,
 ) -> LentRecorded
     ensures { (record {
       answer = result.answer;
@@ -146,14 +141,10 @@ pub extern "C" fn lsq_replay_recorded(
         (lent memory.old counts.old answers.old given.old values.old))) }
 {
     let answer = lsq_replay(table, trace, memory, counts, answers, given, values);
-    if answer != 0 {
-        return LentRecorded { answer, kept };
+    if answer == 0 {
+        record_replay(trace, given, values, &mut kept);
     }
-    let after = record_replay(trace, given, values, kept);
-    LentRecorded {
-        answer,
-        kept: after,
-    }
+    LentRecorded { answer, kept }
 }
 
 // Writes the text that `play` prints of two files with these bytes at the front of a buffer, and answers how many bytes that
@@ -163,10 +154,9 @@ pub extern "C" fn lsq_text(table: &[u8], trace: &[u8], out: &mut [u8]) -> u64
     ensures { (result ≡ text_length (printed table.now trace.now out.old).answer)
         × (out.new ≡ (printed table.now trace.now out.old).buffer) }
 {
-    let written = print(table, trace, out);
-    match written {
-        BytesWritten::Bytes(n) => n as u64,
-        BytesWritten::Unwritten(_) => 0,
+    match print(table, trace, out) {
+        Ok(count) => count as u64,
+        Err(_) => 0,
     }
 }
 
@@ -175,5 +165,5 @@ pub extern "C" fn lsq_text(table: &[u8], trace: &[u8], out: &mut [u8]) -> u64
 pub extern "C" fn lsq_share(loads: u32, forwarded: u32) -> u64
     ensures { result ≡ share (record { loads = loads; forwarded = forwarded }) }
 {
-    share(Counts { loads, forwarded })
+    Counts { loads, forwarded }.share()
 }

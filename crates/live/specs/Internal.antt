@@ -3,12 +3,12 @@
 use Rattle.std.specs.Prelude as code
 use Rattle.std.specs.Prelude.{ℕ, Result}
 use Rattle.number.specs.declared.refusal.Refusal.{Refusal}
-use Rattle.number.specs.Reply.{Reply, refuse, accept, reply}
+use Rattle.number.specs.Reply.{Reply, refuse, accept, number, reply}
 use Rattle.counts.specs.declared.Counts.{Counts}
 use Rattle.queue.specs.declared.Frame.{Frame}
 use Rattle.queue.specs.Outcome.{Outcome, Counted}
 use Rattle.queue.specs.Parts.{OpenedFrame, opened_frame}
-use Rattle.replay.specs.Playing.{number_of, value_of, given_in, word_in}
+use Rattle.replay.specs.Playing.{value_of, given_in, word_in}
 use Rattle.live.specs.declared.calls.LiveOpened.{LiveOpened}
 use Rattle.live.specs.declared.calls.LiveStep.{LiveStep}
 use Rattle.live.specs.declared.calls.LiveService.{LiveService}
@@ -18,7 +18,7 @@ use Rattle.live.specs.Calls.{LiveTold}
 -- an answer of the code, and both sides, or the counts, that follow
 abbrev pub live_step : Result (code.Option ℕ) Refusal → Frame → LiveStep
 live_step answer frame = record {
-  answer = number_of answer;
+  answer = number (reply answer);
   given = given_in (value_of answer);
   value = word_in (value_of answer);
   loads = frame.loads;
@@ -26,7 +26,7 @@ live_step answer frame = record {
 }
 
 abbrev pub live_service : Result (code.Option ℕ) Refusal → Counts → LiveService
-live_service answer counts = record { answer = number_of answer; given = given_in (value_of answer); value = word_in (value_of answer); counts = counts }
+live_service answer counts = record { answer = number (reply answer); given = given_in (value_of answer); value = word_in (value_of answer); counts = counts }
 
 -- how many serials are ready
 abbrev pub live_ready_by : Reply ℕ → LiveReady

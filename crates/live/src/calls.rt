@@ -15,13 +15,13 @@ ghost use Rattle.queue.specs.declared.Kind.TheVariants.{Load as load, Store as s
 ghost use Rattle.queue.specs.Ready.{ready, Readies};
 ghost use Rattle.queue.specs.Outcome.{Moves};
 ghost use Rattle.queue.specs.Parts.{whole, on_parts, queue_of, answered};
-ghost use Rattle.number.specs.Reply.{and_then, reply, number};
+ghost use Rattle.number.specs.Reply.{and_then};
 ghost use Rattle.replay.specs.Playing.{after_serve};
 ghost use Rattle.live.specs.Calls.{LiveOpens, told_step, told_service, LiveTells, move_gives, take_gives, serve_gives, write_gives, memory_after, live_readied};
 ghost use Rattle.live.specs.Internal.{live_step, live_service, live_ready, frame_opened};
 
 use counts::Counts;
-use number::refusal::Refusal;
+use number::refusal::{Refusal, number_of};
 use queue::activation::activate_in;
 use queue::arguments::{Argument, give_in};
 use queue::opening::open_in;
@@ -31,7 +31,7 @@ use queue::sound::sound_in;
 use queue::taking::take_in;
 use queue::writing::write_in;
 use queue::{Frame, Kind, Side};
-use replay::playing::{number_of, value_given, value_word};
+use replay::playing::{value_given, value_word};
 use table::Table;
 use table::read::read_table;
 
@@ -78,7 +78,7 @@ fn live_step(answer: Result<Option<u32>, Refusal>, frame: &Frame) -> LiveStep
     ensures { result ≡ live_step answer frame.now }
 {
     LiveStep {
-        answer: number_of(answer) as u32,
+        answer: number_of(&answer) as u32,
         given: value_given(answer) as u32,
         value: value_word(answer),
         loads: frame.loads,
@@ -91,20 +91,10 @@ fn live_service(answer: Result<Option<u32>, Refusal>, counts: Counts) -> LiveSer
     ensures { result ≡ live_service answer counts }
 {
     LiveService {
-        answer: number_of(answer) as u32,
+        answer: number_of(&answer) as u32,
         given: value_given(answer) as u32,
         value: value_word(answer),
         counts,
-    }
-}
-
-// The number of an answer that gives nothing.
-fn live_answer(answer: Result<(), Refusal>) -> u32
-    ensures { result ≡ number (reply answer) }
-{
-    match answer {
-        Ok(()) => 0,
-        Err(refusal) => refusal.number() as u32,
     }
 }
 
@@ -213,7 +203,8 @@ pub extern "C" fn lsq_load_address_in(
         let rule = on_parts loads.old stores.now (load_address (contents_of q) port address) in
         Moves q rule (answered result (queue_of frame loads.new stores.now)) }
 {
-    live_answer(give_in(&frame, loads, stores, Argument::LoadAddress, port, address))
+    let answer = give_in(&frame, loads, stores, Argument::LoadAddress, port, address);
+    number_of(&answer) as u32
 }
 
 // Gives an address to the port's oldest store that has none: 40, 22, 23, 24. The frame stays.
@@ -229,7 +220,8 @@ pub extern "C" fn lsq_store_address_in(
         let rule = on_parts loads.now stores.old (store_address (contents_of q) port address) in
         Moves q rule (answered result (queue_of frame loads.now stores.new)) }
 {
-    live_answer(give_in(&frame, stores, loads, Argument::StoreAddress, port, address))
+    let answer = give_in(&frame, stores, loads, Argument::StoreAddress, port, address);
+    number_of(&answer) as u32
 }
 
 // Gives data to the port's oldest store that has none: 40, 22, 24. The frame stays.
@@ -245,7 +237,8 @@ pub extern "C" fn lsq_store_data_in(
         let rule = on_parts loads.now stores.old (store_data (contents_of q) port word) in
         Moves q rule (answered result (queue_of frame loads.now stores.new)) }
 {
-    live_answer(give_in(&frame, stores, loads, Argument::StoreData, port, word))
+    let answer = give_in(&frame, stores, loads, Argument::StoreData, port, word);
+    number_of(&answer) as u32
 }
 
 // Serves the load with this serial: 40, 30, 25, 26, 27, 28, 29. The frame stays.

@@ -2,6 +2,7 @@
 // with its number. Accepted is 0. specs/Refusal.antt has the same names.
 ghost use Rattle.std.specs.Prelude.{◌≡◌};
 ghost use Rattle.number.specs.Refusal.{refusal_number};
+ghost use Rattle.number.specs.Reply.{number, reply};
 
 use std::error::Error;
 use std::fmt;
@@ -89,6 +90,16 @@ impl Refusal {
         ensures { result ≡ refusal_number self }
     {
         self as u8
+    }
+}
+
+// The number of an answer: "accepted is 0", else the refusal's.
+pub fn number_of<T>(answer: &Result<T, Refusal>) -> u8
+    ensures { result ≡ number (reply answer.now) }
+{
+    match answer {
+        Ok(_) => 0,
+        Err(refusal) => refusal.number(),
     }
 }
 

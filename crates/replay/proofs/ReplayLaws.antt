@@ -12,7 +12,7 @@ use lib.Dec.{eqb, leb}
 use lib.ListN.{length, drop, set, get_or, length-append, length-drop, length-map}
 use borrow.Author.Tests.{eq-eqb, ne_eqb, le-leb, leb-true}
 use lib.Seq.{set_at, drop-cons, append_snoc}
-use Rattle.number.specs.Reply.{Reply, refuse, accept, and_then}
+use Rattle.number.specs.Reply.{Reply, refuse, accept, and_then, number, reply}
 use Rattle.number.proofs.ReplyLaws.{refused-accepted, and_then_accepts, refuses_among, need-among, and_then_among, not_zero}
 use Rattle.number.specs.Refusal.{too_short, wrong_memory}
 use Rattle.table.specs.Group.{GroupPairs}
@@ -23,7 +23,7 @@ use Rattle.queue.specs.Contents.{Contents, contents_of}
 use Rattle.queue.specs.Outcome.{with_counts, may_give}
 use Rattle.number.proofs.Both.{and_left, and_right}
 use Rattle.replay.specs.Events.{events_from}
-use Rattle.replay.specs.Playing.{Playing, playing, played, step_of, Logged, logged, log, played_all, answer_of, given_of, word_of, number_of, value_of}
+use Rattle.replay.specs.Playing.{Playing, playing, played, step_of, Logged, logged, log, played_all, answer_of, given_of, word_of, value_of}
 use Rattle.replay.specs.Replay.{Start, prepare, replayed, Buffers, fits, replay_start, replay_from, replay}
 use Rattle.replay.specs.Outcome.{Replayed, at_front, log_in, Unreplayed, ReplayedWell, Replays}
 use Rattle.replay.specs.Internal.{Plays, PutAnswer, Playable, events_in, through}
@@ -135,7 +135,7 @@ same_buffers e f h = cc
 abbrev Answer : Type 0
 Answer = Result (code.Option ℕ) Refusal
 
-number_same : (a : Answer) (q : Queue) → (may_give a q).answer ≡ number_of a
+number_same : (a : Answer) (q : Queue) → (may_give a q).answer ≡ number (reply a)
 number_same (Ok v) q = refl
 number_same (Err e) q = refl
 
@@ -151,14 +151,14 @@ queue_same (Err e) q = refl
 pub walk_more : {s : List ℕ} {start : ℕ} {p₀ : Playing} {b₀ b b₂ : Buffers} {place i next : ℕ} {q : Queue} {c c₂ : Counts}
     {m left : List ℕ} {e : Event}
     (a : Answer) (q₂ : Queue) → Walk s start p₀ b₀ place i (playing (contents_of q) m c) b → EventGot s place e next
-    → Plays q c m e (with_counts (may_give a q₂) c₂) left → PutAnswer (number_of a) (value_of a) i b b₂
+    → Plays q c m e (with_counts (may_give a q₂) c₂) left → PutAnswer (number (reply a)) (value_of a) i b b₂
     → Walk s start p₀ b₀ next (i + 1) (playing (contents_of q₂) left c₂) b₂
 walk_more {s} {start} {p₀} {b₀} {b} {b₂} {place} {i} {next} {q} {c} {c₂} {m} {left} {e} a q₂ k ev pl put =
     let n = next_left k.left k.reads ev in
     let l : length k.left ≡ suc (length n.rest) = ap length n.is in
     let p = playing (contents_of q) m c in
     let after = playing (contents_of q₂) left c₂ in
-    let new = as_logged (number_of a) (value_of a) in
+    let new = as_logged (number (reply a)) (value_of a) in
     let follows : played p e ≡ after = pl.next ∙ ap (λ (x : Queue). playing (contents_of x) left c₂) (queue_same a q₂) in
     let same : logged (step_of p e) ≡ new = ap₂ as_logged (pl.answer ∙ number_same a q₂) (pl.value ∙ value_same a q₂) in
     let tail : log p k.left ≡ new ∷ log after n.rest =

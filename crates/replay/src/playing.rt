@@ -1,12 +1,13 @@
 // Playing one event: a call on the queue's parts, whose answer and value are put into the buffers.
 ghost use Rattle.std.specs.Prelude.{◌≡◌, ◌<◌, length, true};
+ghost use Rattle.number.specs.Reply.{number, reply};
 ghost use Rattle.queue.specs.Outcome.{with_counts, may_give};
 ghost use Rattle.queue.specs.Parts.{queue_of, whole, OpenedAlike};
-ghost use Rattle.replay.specs.Playing.{number_of, value_of, given_in, word_in};
+ghost use Rattle.replay.specs.Playing.{value_of, given_in, word_in};
 ghost use Rattle.replay.specs.Internal.{Plays, PutAnswer};
 
 use counts::Counts;
-use number::refusal::Refusal;
+use number::refusal::{Refusal, number_of};
 use queue::Frame;
 use queue::activation::activate_in;
 use queue::arguments::{Argument, give_in};
@@ -48,16 +49,6 @@ pub(crate) fn play_event(
     }
 }
 
-// The refusal number of an answer, 0 where it is accepted.
-pub fn number_of(answer: Result<Option<u32>, Refusal>) -> u8
-    ensures { result ≡ number_of answer }
-{
-    match answer {
-        Ok(_) => 0,
-        Err(refusal) => refusal.number(),
-    }
-}
-
 // 1 where an answer gives a value, else 0.
 pub fn value_given(answer: Result<Option<u32>, Refusal>) -> u8
     ensures { result ≡ given_in (value_of answer) }
@@ -87,10 +78,10 @@ pub(crate) fn put(
     values: &mut [u32],
 )
     requires { (i < length answers.old) × (i < length given.old) × (i < length values.old) }
-    ensures { PutAnswer (number_of answer) (value_of answer) i (record { answers = answers.old; given = given.old; values = values.old })
+    ensures { PutAnswer (number (reply answer)) (value_of answer) i (record { answers = answers.old; given = given.old; values = values.old })
         (record { answers = answers.new; given = given.new; values = values.new }) }
 {
-    answers[i] = number_of(answer);
+    answers[i] = number_of(&answer);
     given[i] = value_given(answer);
     values[i] = value_word(answer);
 }

@@ -130,15 +130,15 @@ pub extern "C" fn lsq_replay_recorded(
     values: &mut [u32],
     mut kept: ShiftRecord,
 ) -> LentRecorded
-    ensures { (record {
+    ensures replays { record {
       answer = result.answer;
       left = lent memory.new counts.new answers.new given.new values.new;
     }
         ≡ lent_after (lent memory.old counts.old answers.old given.old values.old)
         (replay_lent table.now trace.now
-        (lent memory.old counts.old answers.old given.old values.old)))
-        × (result.kept ≡ kept_after kept trace.now (replay_lent table.now trace.now
-        (lent memory.old counts.old answers.old given.old values.old))) }
+        (lent memory.old counts.old answers.old given.old values.old)) }
+    ensures records { result.kept ≡ kept_after kept trace.now (replay_lent table.now trace.now
+        (lent memory.old counts.old answers.old given.old values.old)) }
 {
     let answer = lsq_replay(table, trace, memory, counts, answers, given, values);
     if answer == 0 {
@@ -151,8 +151,8 @@ pub extern "C" fn lsq_replay_recorded(
 // is. Where the buffer has no room for every text it answers 0, and nothing is written.
 #[unsafe(no_mangle)]
 pub extern "C" fn lsq_text(table: &[u8], trace: &[u8], out: &mut [u8]) -> u64
-    ensures { (result ≡ text_length (printed table.now trace.now out.old).answer)
-        × (out.new ≡ (printed table.now trace.now out.old).buffer) }
+    ensures length { result ≡ text_length (printed table.now trace.now out.old).answer }
+    ensures text { out.new ≡ (printed table.now trace.now out.old).buffer }
 {
     match print(table, trace, out) {
         Ok(count) => count as u64,

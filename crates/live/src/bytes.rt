@@ -62,8 +62,8 @@ pub extern "C" fn lsq_read_table(bytes: &[u8]) -> TableFound
 // Writes a table at the front of a buffer: 4, 5, 8, 6, 7, then 10.
 #[unsafe(no_mangle)]
 pub extern "C" fn lsq_write_table(table: Table, out: &mut [u8]) -> LiveWritten
-    ensures { let done = wrote_table (groups_of table) out.old in
-        (result ≡ live_written done.answer) × (out.new ≡ done.buffer) }
+    ensures answer { result ≡ live_written (wrote_table (groups_of table) out.old).answer }
+    ensures buffer { out.new ≡ (wrote_table (groups_of table) out.old).buffer }
 {
     let written = write_table(&table, out);
     live_written(written)
@@ -72,8 +72,8 @@ pub extern "C" fn lsq_write_table(table: Table, out: &mut [u8]) -> LiveWritten
 // Writes an event, by its kind and its numbers, at the front of a buffer: 35, then 10.
 #[unsafe(no_mangle)]
 pub extern "C" fn lsq_write_event(kind: u32, first: u32, second: u32, out: &mut [u8]) -> LiveWritten
-    ensures { let done = wrote_event_of kind first second out.old in
-        (result ≡ live_written done.answer) × (out.new ≡ done.buffer) }
+    ensures answer { result ≡ live_written (wrote_event_of kind first second out.old).answer }
+    ensures buffer { out.new ≡ (wrote_event_of kind first second out.old).buffer }
 {
     let written = write_event_of(kind, first, second, out);
     live_written(written)
@@ -82,8 +82,8 @@ pub extern "C" fn lsq_write_event(kind: u32, first: u32, second: u32, out: &mut 
 // Writes a number at the front of a buffer, in the fewest bytes: 10.
 #[unsafe(no_mangle)]
 pub extern "C" fn lsq_write_number(value: u32, out: &mut [u8]) -> LiveWritten
-    ensures { let done = wrote (number_bytes value) out.old in
-        (result ≡ live_written done.answer) × (out.new ≡ done.buffer) }
+    ensures answer { result ≡ live_written (wrote (number_bytes value) out.old).answer }
+    ensures buffer { out.new ≡ (wrote (number_bytes value) out.old).buffer }
 {
     let written = write_number(value, out);
     live_written(written)

@@ -21,8 +21,8 @@ pub extern "C" fn lsq_recorded(mut kept: ShiftRecord, port: u32, value: u32) -> 
 // Writes the page of a record at the front of a buffer: 41.
 #[unsafe(no_mangle)]
 pub extern "C" fn lsq_page(kept: ShiftRecord, out: &mut [u8]) -> LiveWritten
-    ensures { let done = page_written kept out.old in
-        (result ≡ live_written done.answer) × (out.new ≡ done.buffer) }
+    ensures answer { result ≡ live_written (page_written kept out.old).answer }
+    ensures buffer { out.new ≡ (page_written kept out.old).buffer }
 {
     let written = write_page(&kept, out);
     live_written(written)

@@ -1,25 +1,32 @@
 -- What a caller is told of a table and a trace.
 use Prim.Native.Nat.{ℕ}
-use mathlib.Core.Path.{◌≡◌, refl}
+use mathlib.Core.Path.{◌≡◌, refl, ap, sym}
 use mathlib.Core.List.{List}
-use Rattle.number.specs.Reply.{Reply, refuse, accept}
+use Rattle.number.specs.Reply.{Reply, refuse, accept, number}
+use Rattle.number.proofs.ReplyLaws.{refused-accepted}
 use Rattle.table.specs.Group.{GroupPairs}
-use Rattle.table.specs.TableBytes.{read_table}
+use Rattle.table.specs.TableBytes.{table_reply, table_answer}
 use Rattle.replay.specs.declared.Prepared.{Prepared}
-use Rattle.replay.specs.Replay.{Start, prepare}
+use Rattle.replay.specs.Replay.{Start}
 use Rattle.replay.specs.Outcome.{prepared_as}
-use Rattle.exports.specs.Prepared.{prepared}
-use Rattle.exports.specs.Internal.{TellsPrepared}
+use Rattle.exports.specs.Prepared.{event_count, memory_length}
 
-tells : (rule : Reply Start) → TellsPrepared rule (prepared_as rule)
-tells (refuse n) = record { answer = refl; memory_length = refl; events = refl }
-tells (accept s) = record { answer = refl; memory_length = refl; events = refl }
+pub number_read : (rule : Reply (List GroupPairs)) → number (table_reply rule) ≡ (table_answer rule).answer
+number_read (refuse n) = refl
+number_read (accept gs) = refl
 
-module _ (table trace : List ℕ) (r : Prepared) where
-  -- the table is refused
-  pub tells-table : {n : ℕ} → read_table table ≡ refuse n → r ≡ prepared_as (refuse n) → TellsPrepared (prepared table trace) r
-  tells-table {n} e f = rw (e, f) (tells (refuse n))
+pub number_prepared : (rule : Reply Start) → number (prepared_as rule) ≡ number rule
+number_prepared (refuse n) = refl
+number_prepared (accept s) = refl
 
-  -- the table is read, and the trace is refused or made ready
-  pub tells-trace : {gs : List GroupPairs} → read_table table ≡ accept gs → r ≡ prepared_as (prepare gs trace) → TellsPrepared (prepared table trace) r
-  tells-trace {gs} e f = rw (e, f) (tells (prepare gs trace))
+-- a trace that can be played
+pub told : (rule : Reply Start) {r : Prepared} → accept r ≡ prepared_as rule → (r.events ≡ event_count rule) × (r.memory_length ≡ memory_length rule)
+told (refuse n) e = refused-accepted (sym e)
+told (accept s) {r} e =
+    let same : r ≡ record { memory_length = memory_length (accept s); events = event_count (accept s) } = cc in
+    (ap (λ (x : Prepared). x.events) same, ap (λ (x : Prepared). x.memory_length) same)
+
+-- one that is refused
+pub untold : (rule : Reply Start) {n : ℕ} → refuse n ≡ prepared_as rule → (0 ≡ event_count rule) × (0 ≡ memory_length rule)
+untold (refuse n) e = (refl, refl)
+untold (accept s) e = refused-accepted e

@@ -6,13 +6,12 @@ use native.Mathlib.Omega.{arith}
 use lib.ListN.{length, set}
 use borrow.Author.Tests.{lt-leb, le-leb}
 use Rattle.number.specs.Refusal.{too_short}
-use Rattle.number.specs.Reply.{Reply, refuse, accept}
+use Rattle.number.specs.Reply.{Reply, refuse, accept, number}
 use Rattle.table.specs.Group.{GroupPairs}
 use Rattle.table.specs.TableBytes.{read_table}
 use Rattle.counts.specs.declared.Counts.{Counts}
-use Rattle.replay.specs.declared.Replayed.{Replayed}
 use Rattle.replay.specs.Replay.{Replay, Buffers, replay}
-use Rattle.replay.specs.Outcome.{Replays}
+use Rattle.replay.specs.Outcome.{Replayed, replayed_by, Replays}
 use Rattle.exports.specs.Replay.{Lent, counts_of, counts_in, replay_lent, LentAfter, lent_after}
 
 -- what `replay` gives on what was lent
@@ -65,8 +64,10 @@ answered-replay : (l : Lent) (rule : Reply Replay) (r : Replayed) {memory : List
 answered-replay l (refuse n) r h w = rw (w.outcome, w.memory_is, w.buffers_are, stored_same l.counts h)
 answered-replay l (accept p) r h w = rw (w.outcome, w.memory_is, w.buffers_are, stored-front p.left.counts l.counts h)
 
--- the counts that a replay hands back are stored whether it is refused or not
+-- the counts that a replay leaves are stored whether it is refused or not
 pub answered-lent : (table trace : List ℕ) (l : Lent) {gs : List GroupPairs} → read_table table ≡ accept gs → 2 ≤ length l.counts
-    → (r : Replayed) {memory : List ℕ} {b : Buffers} → Replays l.memory (counts_of l.counts) l.buffers (replay_of gs trace l) r memory b
-    → replay_leaving l r memory b ≡ lent_after l (replay_lent table trace l)
-answered-lent table trace l {gs} is h r w = rw (lent-replays table trace l is h) (answered-replay l (replay_of gs trace l) r h w)
+    → (done : Reply ℕ) (c : Counts) {memory : List ℕ} {b : Buffers}
+    → Replays l.memory (counts_of l.counts) l.buffers (replay_of gs trace l) (replayed_by done c) memory b
+    → tell (number done) (record { memory = memory; counts = stored_in c l.counts; buffers = b }) ≡ lent_after l (replay_lent table trace l)
+answered-lent table trace l {gs} is h (accept n) c w = rw (lent-replays table trace l is h) (answered-replay l (replay_of gs trace l) _ h w)
+answered-lent table trace l {gs} is h (refuse n) c w = rw (lent-replays table trace l is h) (answered-replay l (replay_of gs trace l) _ h w)

@@ -1,43 +1,24 @@
--- Each test on the way is a step of the rule; the counts that a replay hands back are stored, and a refused one hands back those it was lent.
-use Prim.Native.Nat.{ℕ}
-use mathlib.Core.Path.{◌≡◌}
-use mathlib.Core.List.{List}
-use Rattle.number.specs.Reply.{accept}
-use Rattle.table.specs.Table.{groups_of}
-use Rattle.table.specs.TableBytes.{read_table}
-use Rattle.table.proofs.RoundTrip.{table-refused, table_given}
+-- Each test on the way is a step of the rule; the counts that a replay leaves are stored, and a refused one leaves those it was lent.
+use Rattle.number.specs.Reply.{reply}
+use Rattle.table.proofs.RoundTrip.{table_got, table_refused}
 use Rattle.exports.specs.Replay.{Lent, lent}
 use Rattle.exports.proofs.ReplayLaws.{lent-table, lent-short, answered-refused, answered-lent}
 use Rattle.exports.proofs.lsq_replay.Goals as goal
 
-pub returns-then-read-ne0 : goal.returns-then-read-ne0
-returns-then-read-ne0 c =
-    let bytes_at : List ℕ = c.args.table.now in
-    let trace_at : List ℕ = c.args.trace.now in
-    let lent_at : Lent = let a = c.args in
-    lent a.memory.now a.counts.now a.answers.now a.given.now a.values.now in
-    let l = lent_at in
-    answered-refused l (lent-table bytes_at trace_at l
-    (table-refused bytes_at c.read_table-read.result c.read_table-read.ensures c.if-read-ne0.true))
+pub returns-in-Err : goal.returns-in-Err
+returns-in-Err c =
+    let a = c.args in
+    let l : Lent = lent a.memory.now a.counts.now a.answers.now a.given.now a.values.now in
+    answered-refused l (lent-table a.table.now a.trace.now l (table_refused a.table.now c.in-Err.ensures))
 
 pub returns-then-counts-lt2 : goal.returns-then-counts-lt2
 returns-then-counts-lt2 c =
-    let bytes_at : List ℕ = c.args.table.now in
-    let trace_at : List ℕ = c.args.trace.now in
-    let lent_at : Lent = let a = c.args in
-    lent a.memory.now a.counts.now a.answers.now a.given.now a.values.now in
-    let table-right : read_table bytes_at ≡ accept (groups_of c.read_table-read.result.table) =
-    table_given bytes_at c.read_table-read.result c.read_table-read.ensures c.if-read-ne0.false in
-    let l = lent_at in
-    answered-refused l (lent-short bytes_at trace_at l table-right c.if-counts-lt2.true)
+    let a = c.args in
+    let l : Lent = lent a.memory.now a.counts.now a.answers.now a.given.now a.values.now in
+    answered-refused l (lent-short a.table.now a.trace.now l (table_got a.table.now c.in-Ok.ensures).0 c.if-counts-lt2.true)
 
 pub returns : goal.returns
 returns c =
-    let bytes_at : List ℕ = c.args.table.now in
-    let trace_at : List ℕ = c.args.trace.now in
-    let lent_at : Lent = let a = c.args in
-    lent a.memory.now a.counts.now a.answers.now a.given.now a.values.now in
-    let table-right : read_table bytes_at ≡ accept (groups_of c.read_table-read.result.table) =
-    table_given bytes_at c.read_table-read.result c.read_table-read.ensures c.if-read-ne0.false in
-    let l = lent_at in
-    answered-lent bytes_at trace_at l table-right c.if-counts-lt2.false c.replay-done.result c.replay-done.ensures
+    let a = c.args in
+    let l : Lent = lent a.memory.now a.counts.now a.answers.now a.given.now a.values.now in
+    answered-lent a.table.now a.trace.now l (table_got a.table.now c.in-Ok.ensures).0 c.if-counts-lt2.false (reply c.replay-done.result) _ c.replay-done.ensures

@@ -1,10 +1,10 @@
 -- Activation by the record: room by the counts, and the new entries by their offsets.
 use Rattle.std.proofs.Common.{◌≡◌, ℕ, suc, ◌+◌, ◌<◌, ◌≤◌, true, false, ◌&&◌, leb, List, [], ◌∷◌, map, length, get_or, sym, refl, ap, ◌∙◌, le_trans, add-zero, add-suc, arith, leb-true}
 use lib.ListN.{length-map}
-use Rattle.table.specs.declared.Span.{Span}
+use Rattle.table.specs.declared.Pair.{Pair}
 use Rattle.table.specs.declared.Group.{Group}
 use Rattle.table.specs.Group as T
-use Rattle.table.specs.Group.{GroupPairs, blank_pair, list_of, pairs_of, Inside, Access, order, counted_pairs}
+use Rattle.table.specs.Group.{GroupPairs, blank_pair, pairs_of, Access, order, counted_pairs}
 use Rattle.table.specs.Table.{group_at, groups_of}
 use Rattle.table.proofs.CheckLaws.{view-length, groups-size}
 use Rattle.table.proofs.OrderOffsets.{GroupRight}
@@ -45,13 +45,13 @@ with_group_is q g right = rw (new_entries_lem load (length q.stores.entries) rig
 
 -- ---- on the record
 module _ (q : Queue) (g : Group) where
-  abbrev chosen : GroupPairs
+  abbrev pub chosen : GroupPairs
   chosen = pairs_of q.frame.table.loads q.frame.table.stores g
 
-  abbrev loads-size : length chosen.loads ≡ g.loads.count
+  pub loads-size : length chosen.loads ≡ g.loads.count
   loads-size = view-length q.frame.table.loads g.loads
 
-  abbrev stores-size : length chosen.stores ≡ g.stores.count
+  pub stores-size : length chosen.stores ≡ g.stores.count
   stores-size = view-length q.frame.table.stores g.stores
 
   pub room-record : room (contents_of q) (pairs_of q.frame.table.loads q.frame.table.stores g) ≡ leb
@@ -67,14 +67,14 @@ module _ (q : Queue) (g : Group) where
   )
 
   pub appended-both : {ls ss : List ℕ}
-      → Appended q.frame.loads.count q.frame.table.loads g.loads q.frame.stores.count q.load_entries ls
-      → Appended q.frame.stores.count q.frame.table.stores g.stores q.frame.loads.count q.store_entries ss
+      → Appended q.frame.loads.count chosen.loads q.frame.stores.count q.load_entries ls
+      → Appended q.frame.stores.count chosen.stores q.frame.loads.count q.store_entries ss
       → contents_of (queue_of (record {
         table = q.frame.table;
         memory_length = q.frame.memory_length;
         loads = longer q.frame.loads g.loads.count;
         stores = longer q.frame.stores g.stores.count;
-      }) ls ss) ≡ with_pairs (contents_of q) (pairs_of q.frame.table.loads q.frame.table.stores g)
+      }) ls ss) ≡ with_pairs (contents_of q) chosen
   unfolding contents_of
   appended-both {ls} {ss} a b =
       rw (
@@ -84,40 +84,30 @@ module _ (q : Queue) (g : Group) where
         length-map chosen.stores (entry_after q.frame.loads.count),
         loads-size,
         stores-size,
-        a.holds,
-        b.holds,
+        rw loads-size at a.holds,
+        rw stores-size at b.holds,
       )
 
 -- a right group's pairs fit where there is room
-module _ (places : List ℕ) (ps : Span) (inside : Inside ps) (few : length (list_of places ps) ≤ 16) (offset : (i : ℕ) → i < length (list_of places ps)
-    → (get_or (list_of places ps) i blank_pair).offset ≤ 16)
-    (port : (i : ℕ) → i < length (list_of places ps) → (get_or (list_of places ps) i blank_pair).port ≤ 31) where
-  size : length (list_of places ps) ≡ ps.count
-  size = view-length places ps
+pairs-fit : (ps : List Pair) → ((i : ℕ) → i < length ps → (get_or ps i blank_pair).offset ≤ 16)
+    → ((i : ℕ) → i < length ps → (get_or ps i blank_pair).port ≤ 31)
+    → (held depth : ℕ) → leb (held + length ps) depth ≡ true → depth ≤ 64 → PairsFit held ps
+pairs-fit ps offset port held depth r d =
+    record {
+      room = le_trans (leb-true (held + length ps) depth r) d;
+      offsets = offset;
+      ports = λ i k. (let h = port i k in omega arith);
+    }
 
-  pairs-fit : (held depth : ℕ) → leb (held + ps.count) depth ≡ true → depth ≤ 64 → PairsFit held places ps
-  pairs-fit held depth r d =
-      record {
-        inside = inside;
-        few = rw size at few;
-        room = le_trans (leb-true (held + ps.count) depth r) d;
-        offsets = λ i k. offset i (rw size k);
-        ports = λ i k. (let h = port i (rw size k) in omega arith);
-      }
+module _ (q : Queue) (g : Group) (s : sound (contents_of q) ≡ true) (right : GroupRight (chosen q g)) (r : room (contents_of q) (chosen q g) ≡ true) where
+  both : leb (q.frame.loads.count + length (chosen q g).loads) q.frame.loads.depth && leb (q.frame.stores.count + length (chosen q g).stores) q.frame.stores.depth ≡ true
+  both = rw (loads-size q g, stores-size q g) (sym (room-record q g) ∙ r)
 
-pub group-fits : (q : Queue) (g : Group) → Inside g.loads × Inside g.stores → sound (contents_of q) ≡ true
-    → GroupRight (pairs_of q.frame.table.loads q.frame.table.stores g)
-    → room (contents_of q) (pairs_of q.frame.table.loads q.frame.table.stores g) ≡ true
-    → PairsFit q.frame.loads.count q.frame.table.loads g.loads × PairsFit q.frame.stores.count q.frame.table.stores g.stores
-group-fits q g (hl, hs) s right r =
-    let loads = leb (q.frame.loads.count + g.loads.count) q.frame.loads.depth in
-    let stores = leb (q.frame.stores.count + g.stores.count) q.frame.stores.depth in
-    let both : loads && stores ≡ true = sym (room-record q g) ∙ r in (
-      pairs-fit q.frame.table.loads g.loads hl right.few_loads right.load_offset right.load_port q.frame.loads.count
-          q.frame.loads.depth (and_left loads stores both) (depth-most q s load),
-      pairs-fit q.frame.table.stores g.stores hs right.few_stores right.store_offset right.store_port q.frame.stores.count
-          q.frame.stores.depth (and_right loads stores both) (depth-most q s store),
-    )
+  pub loads-fit : PairsFit q.frame.loads.count (chosen q g).loads
+  loads-fit = pairs-fit _ right.load_offset right.load_port q.frame.loads.count q.frame.loads.depth (and_left (leb (q.frame.loads.count + length (chosen q g).loads) q.frame.loads.depth) _ both) (depth-most q s load)
+
+  pub stores-fit : PairsFit q.frame.stores.count (chosen q g).stores
+  stores-fit = pairs-fit _ right.store_offset right.store_port q.frame.stores.count q.frame.stores.depth (and_right (leb (q.frame.loads.count + length (chosen q g).loads) q.frame.loads.depth) _ both) (depth-most q s store)
 
 -- ---- the call
 pub activate-unsound : (q : Contents) (group : ℕ) → sound q ≡ false → activate q group ≡ refuse unsound

@@ -1,8 +1,9 @@
 -- What a queue's record holds, by its places: the entries below a count, and one entry made anew.
-use Rattle.std.proofs.Common.{◌≡◌, ℕ, zero, suc, ◌+◌, ◌<◌, ◌≤◌, List, [], ◌∷◌, ◌++◌, map, length, get_or, take, drop, set, sym, refl, ap, ◌∙◌, ap₂, le_of_suc-le-suc, not-suc-le-zero, add-one, arith, length-set, drop_of_length-le, take_all, drop-cons, take-suc}
+use Rattle.std.proofs.Common.{◌≡◌, ℕ, zero, suc, ◌+◌, ◌<◌, ◌≤◌, List, [], ◌∷◌, ◌++◌, map, length, get_or, take, drop, set, sym, refl, ap, ◌∙◌, ap₂, le_of_suc-le-suc, not-suc-le-zero, add-one, arith, length-set, get_or-take, drop_of_length-le, take_all, drop-cons, take-suc}
 use mathlib.Core.Option.{none, some}
 use lib.ListN.{length-map, get_or-map, get_elem?}
 use lib.Seq.{take-set-lt}
+use Rattle.std.proofs.lemmas.List.{drop-set-lt, take-append-drop}
 use Rattle.number.specs.Basics.{held}
 use Rattle.number.proofs.HeldLaws.{held-few, held-here, held-length, held-take}
 use Rattle.queue.specs.declared.Kind.{Kind}
@@ -90,6 +91,15 @@ entries-anew n l h {f} i k w =
     rw (mapped-few entry_in 0 n (set l i w.number) (rw length-set h), mapped-few entry_in 0 n l h, ← map-set entry_in (take n l) i w.number)
     (ap (map entry_in) (take-set-lt n l i w.number k)) in
     ap (entries_held n) w.leaves ∙ put ∙ rw (update-set f (entries_held n l) i (entry_in 0), mapped_at entry_in 0 n l i k, w.holds)
+
+-- the same, where it is made anew in the run of those that count
+pub anew-held : (n : ℕ) (l : List ℕ) {f : Entry → Entry} {i : ℕ} {left : List ℕ} → i < n → MadeAnew f i (take n l) left → MadeAnew f i l (left ++ drop n l)
+anew-held n l {f} {i} k w =
+    record {
+      number = w.number;
+      holds = w.holds ∙ ap (λ (x : ℕ). f (entry_in x)) (get_or-take n l i 0 k);
+      leaves = rw (w.leaves, ← take-set-lt n l i w.number k, ← drop-set-lt n l i w.number k) (take-append-drop n (set l i w.number));
+    }
 
 -- ---- a side of a queue, by its kind
 -- its record, and its run of numbers

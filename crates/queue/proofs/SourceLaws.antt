@@ -1,6 +1,6 @@
 -- Where a load's word comes from, by the stores before it. Whoever reasons about a source does so by these laws.
-use Rattle.std.proofs.Common.{◌≡◌, ℕ, ◌+◌, ◌-◌, ◌<◌, ◌≤◌, Bool, true, false, not, eqb, List, [], ◌∷◌, ◌++◌, map, length, get_or, sym, refl, ap, ◌∙◌, arith, eq-eqb, ne_eqb}
-use mathlib.Core.List.{reverse_aux}
+use Rattle.std.proofs.Common.{◌≡◌, ℕ, Bool, true, false, not, eqb, List, [], ◌∷◌, ◌++◌, map, length, get_or, sym, refl, ap, ◌∙◌, eq-eqb, ne_eqb}
+use mathlib.Core.List.{reverse_aux, map-append}
 use mathlib.Core.Option.{Option, none, some}
 use borrow.Author.Tests.{not-true, not-false}
 use Rattle.number.specs.Basics.{pick, all_of, is_some}
@@ -8,11 +8,10 @@ use Rattle.number.specs.Reply.{accept}
 use Rattle.number.proofs.Both.{and_left, and_right}
 use Rattle.queue.specs.declared.Entry.{Entry as EntryStruct}
 use Rattle.queue.specs.Entry.{Entry, data_of, written, entry_of, entry_in, unpacked}
-use Rattle.queue.specs.Contents.{entries_held}
+use Rattle.queue.specs.Internal.{entries_in}
 use Rattle.queue.specs.Touch.{apart, same, touch}
 use Rattle.queue.specs.Serve.{Source, unsettled, from_store, from_memory, decided, walk_back, source, SourcesAreWalked, Loaded, loaded_from}
 use Rattle.queue.proofs.Lists.{false-true}
-use Rattle.queue.proofs.ContentsLaws.{mapped-last}
 
 abbrev pub has_address : Entry → Bool
 has_address s = is_some s.address
@@ -65,24 +64,25 @@ module _ (e : EntryStruct) (farther : Source) where
       → from_store word ≡ decided same (written (entry_of e)) (data_of (entry_of e)) farther
   matched-unwritten h k = rw h (ap from_store k)
 
--- ---- the walk back of the code: the stores from the ith on are passed, so that the first i decide as all n do
-pub record WalkedBack (a n : ℕ) (l : List ℕ) (i : ℕ) : Type 0 where
-  pub is : source a (entries_held i l) ≡ source a (entries_held n l)
+-- ---- the walk back of the code: what is left of the stores decides as all of them do
+pub record WalkedBack (a : ℕ) (stores left : List ℕ) : Type 0 where
+  pub is : source a (entries_in left) ≡ source a (entries_in stores)
 
-pub back_none : {a n : ℕ} {l : List ℕ} → WalkedBack a n l n
+pub back_none : {a : ℕ} {stores : List ℕ} → WalkedBack a stores stores
 back_none = record { is = refl }
 
-module _ {a n : ℕ} {l : List ℕ} {i : ℕ} (w : WalkedBack a n l i) where
-  -- the nearest of the first i
-  module _ (some_left : 0 < i) (e : EntryStruct) (here : e ≡ unpacked (get_or l (i - 1) 0)) where
-    step : past_store a (entry_of e) (source a (entries_held (i - 1) l)) ≡ source a (entries_held n l)
+module _ {a : ℕ} {stores left : List ℕ} (w : WalkedBack a stores left) where
+  -- the nearest of those left
+  module _ (farther : List ℕ) (n : ℕ) (nearest : left ≡ farther ++ n ∷ []) (e : EntryStruct) (here : e ≡ unpacked n) where
+    step : past_store a (entry_of e) (source a (entries_in farther)) ≡ source a (entries_in stores)
     step =
-        let one : i - 1 + 1 ≡ i = omega arith in
-        ap (λ (s : EntryStruct). past_store a (entry_of s) (source a (entries_held (i - 1) l))) here
-        ∙ sym (source_append a (entries_held (i - 1) l) (entry_in (get_or l (i - 1) 0) ∷ []))
-        ∙ ap (source a) (sym (mapped-last entry_in 0 (i - 1) l)) ∙ ap (λ (k : ℕ). source a (entries_held k l)) one ∙ w.is
+        ap (λ (s : EntryStruct). past_store a (entry_of s) (source a (entries_in farther))) here
+        ∙ sym (source_append a (entries_in farther) (entry_in n ∷ []))
+        ∙ ap (source a) (sym (map-append entry_in farther (n ∷ [])))
+        ∙ ap (λ (l : List ℕ). source a (entries_in l)) (sym nearest)
+        ∙ w.is
 
-    pub back-unknown : not e.addressed ≡ true → unsettled ≡ source a (entries_held n l)
+    pub back-unknown : not e.addressed ≡ true → unsettled ≡ source a (entries_in stores)
     back-unknown h = rw (not-true e.addressed h) at step
 
     module _ (known : not e.addressed ≡ false) where
@@ -90,18 +90,16 @@ module _ {a n : ℕ} {l : List ℕ} {i : ℕ} (w : WalkedBack a n l i) where
       addressed = not-false e.addressed known
 
       pub back-matched : e.address ≡ a → {x : Source} → ((farther : Source) → x ≡ decided same (written (entry_of e)) (data_of (entry_of e)) farther)
-          → x ≡ source a (entries_held n l)
-      back-matched k found = found (source a (entries_held (i - 1) l)) ∙ rw (addressed, eq-eqb e.address a k) at step
+          → x ≡ source a (entries_in stores)
+      back-matched k found = found (source a (entries_in farther)) ∙ rw (addressed, eq-eqb e.address a k) at step
 
-      pub back-passed : (e.address ≡ a → ⊥) → WalkedBack a n l (i - 1)
+      pub back-passed : (e.address ≡ a → ⊥) → WalkedBack a stores farther
       back-passed k = record { is = rw (addressed, ne_eqb e.address a k) at step }
 
-  pub back_end : i ≤ 0 → from_memory ≡ source a (entries_held n l)
-  unfolding source
-  back_end h =
-      let none_left : i ≡ 0 = omega arith in
-      let none-held : 0 - length l ≡ 0 = omega arith in
-      sym (rw (none_left, none-held)) ∙ w.is
+pub back_end : {a : ℕ} {stores : List ℕ} (left : List ℕ) → WalkedBack a stores left → length left ≡ 0 → from_memory ≡ source a (entries_in stores)
+unfolding source
+back_end [] w h = w.is
+back_end (n ∷ left) w h = cc
 
 -- ---- the word that a source gives, where `word` is the memory word; none where the serve is refused
 abbrev pub word_from : ℕ → Source → Option ℕ

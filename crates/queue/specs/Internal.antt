@@ -6,8 +6,7 @@ use Rattle.number.specs.declared.refusal.Refusal.{Refusal}
 use Rattle.number.specs.Refusal.{none_waits, too_short}
 use Rattle.number.specs.Reply.{Reply, accept, accepted, need, passed, reply}
 use Rattle.table.specs.declared.Pair.{Pair}
-use Rattle.table.specs.declared.Span.{Span}
-use Rattle.table.specs.Group.{GroupPairs, blank_pair, list_of, Inside}
+use Rattle.table.specs.Group.{GroupPairs, blank_pair}
 use Rattle.queue.specs.declared.Entry.{Entry as EntryStruct}
 use Rattle.queue.specs.declared.Side.{Side as SideStruct}
 use Rattle.queue.specs.declared.Frame.{Frame}
@@ -54,7 +53,10 @@ set_finished s = entry_struct s.port s.addressed s.address s.filled s.word true 
 abbrev pub set_before : ℕ → EntryStruct → EntryStruct
 set_before n s = entry_struct s.port s.addressed s.address s.filled s.word s.finished n
 
--- ---- one entry of a run of numbers
+-- ---- the entries of a run of numbers
+abbrev pub entries_in : List ℕ → List Entry
+entries_in l = map entry_in l
+
 -- the one at a place is made anew by `f`, and nothing else is changed
 pub record MadeAnew (f : Entry → Entry) (at : ℕ) (l left : List ℕ) : Type 0 where
   pub number : ℕ
@@ -85,20 +87,18 @@ abbrev pub entry_after : ℕ → Pair → Entry
 entry_after others p = new_entry p (others + p.offset)
 
 -- `held` entries are held, there is place for the pairs, and what their entries hold has room in a number
-pub record PairsFit (held : ℕ) (places : List ℕ) (ps : Span) : Type 0 where
-  pub inside : Inside ps
-  pub few : ps.count ≤ 16
-  pub room : held + ps.count ≤ 64
-  pub offsets : (i : ℕ) → i < ps.count → (slice_index_or (list_of places ps) i blank_pair).offset ≤ 16
-  pub ports : (i : ℕ) → i < ps.count → (slice_index_or (list_of places ps) i blank_pair).port < 32
+pub record PairsFit (held : ℕ) (ps : List Pair) : Type 0 where
+  pub room : held + length ps ≤ 64
+  pub offsets : (i : ℕ) → i < length ps → (slice_index_or ps i blank_pair).offset ≤ 16
+  pub ports : (i : ℕ) → i < length ps → (slice_index_or ps i blank_pair).port < 32
 
 -- the record of a pair's entry
 abbrev pub struct_after : ℕ → Pair → EntryStruct
 struct_after others p = entry_struct p.port false 0 false 0 false (others + p.offset)
 
 -- the pairs' entries stand behind those held
-pub record Appended (held : ℕ) (places : List ℕ) (ps : Span) (others : ℕ) (l left : List ℕ) : Type 0 where
-  pub holds : entries_held (held + ps.count) left ≡ entries_held held l ++ map (entry_after others) (list_of places ps)
+pub record Appended (held : ℕ) (ps : List Pair) (others : ℕ) (l left : List ℕ) : Type 0 where
+  pub holds : entries_held (held + length ps) left ≡ entries_held held l ++ map (entry_after others) ps
 
 -- a side with `more` entries behind those held
 abbrev pub longer : SideStruct → ℕ → SideStruct
@@ -123,18 +123,18 @@ set_argument LoadAddress a s = set_address a s
 set_argument StoreAddress a s = set_address a s
 set_argument StoreData w s = set_word w s
 
--- the place of the entry that it goes to, or the count where none waits
-abbrev pub waiting_at : ℕ → ℕ → Argument → List ℕ → ℕ
-waiting_at n port argument l = first_place (lacks_mark (mark_of argument) port) (entries_held n l)
+-- the place of the entry that it goes to, or how many there are where none waits
+abbrev pub waiting_at : Argument → ℕ → List ℕ → ℕ
+waiting_at argument port l = first_place (lacks_mark (mark_of argument) port) (entries_in l)
 
 -- what is left where some entry waits, and where none does
 abbrev pub GivenAt : Bool → Argument → ℕ → ℕ → List ℕ → List ℕ → Type 0
 GivenAt true argument x at l left = MadeAnew (with_argument argument x) at l left
 GivenAt false argument x at l left = left ≡ l
 
-pub record Given (n port : ℕ) (argument : Argument) (x : ℕ) (l : List ℕ) (answer : Result (Unit {0}) Refusal) (left : List ℕ) : Type 0 where
-  pub answers : reply answer ≡ need (nat_lt (waiting_at n port argument l) n) none_waits passed
-  pub leaves : GivenAt (nat_lt (waiting_at n port argument l) n) argument x (waiting_at n port argument l) l left
+pub record Given (argument : Argument) (port x : ℕ) (l : List ℕ) (answer : Result (Unit {0}) Refusal) (left : List ℕ) : Type 0 where
+  pub answers : reply answer ≡ need (nat_lt (waiting_at argument port l) (length l)) none_waits passed
+  pub leaves : GivenAt (nat_lt (waiting_at argument port l) (length l)) argument x (waiting_at argument port l) l left
 
 -- ---- serving
 -- What the code that serves a load is written with, said by the definitions of Serve.

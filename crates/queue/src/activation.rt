@@ -1,18 +1,18 @@
 // Activation: "gives the group's loads the next load serials and its stores the next store serials".
-ghost use Rattle.std.specs.Prelude.{◌≡◌, ◌+◌, ◌≤◌, ◌&&◌, nat_le};
+ghost use Rattle.std.specs.Prelude.{◌≡◌, ◌+◌, ◌≤◌, ◌&&◌, map, nat_le};
+ghost use Rattle.table.specs.Packed.{pair_in};
 ghost use Rattle.queue.specs.Contents.{contents_of};
 ghost use Rattle.queue.specs.Activate.{activate};
 ghost use Rattle.queue.specs.Outcome.{Moves, moved};
 ghost use Rattle.queue.specs.Parts.{queue_of, OpenedAlike, on_parts};
-ghost use Rattle.queue.specs.Internal.{Has64};
-ghost use Rattle.queue.specs.Internal.{PairsFit, Appended, longer};
+ghost use Rattle.queue.specs.Internal.{Has64, PairsFit, Appended, longer};
 
 use crate::entries::pack;
 use crate::sound::sound_in;
 use crate::{Entry, Frame, Queue, Side};
 use number::refusal::Refusal;
+use table::Group;
 use table::parts::unpack_pair;
-use table::{Group, Span};
 
 impl Side {
     // Enough free places: a finished entry that an older one holds back is not free.
@@ -42,14 +42,13 @@ fn has_room(frame: &Frame, group: Group) -> bool
 
 // Puts a group's entries of one kind behind those held. An entry comes after all of the other kind that are held and those of
 // its group that its offset counts.
-fn append(entries: &mut [u64], held: u8, places: &[u16; 32], pairs: Span, others: u8)
-    requires { PairsFit held places.now pairs × (others ≤ 64) × Has64 entries.old }
-    ensures { Appended held places.now pairs others entries.old entries.new }
+fn append(entries: &mut [u64], held: u8, pairs: &[u16], others: u8)
+    requires { PairsFit held (map pair_in pairs.now) × (others ≤ 64) × Has64 entries.old }
+    ensures { Appended held (map pair_in pairs.now) others entries.old entries.new }
 {
     let start = held as usize;
-    let first = pairs.first as usize;
-    for j in 0..pairs.count as usize {
-        let pair = unpack_pair(places[first + j]);
+    for (j, &number) in pairs.iter().enumerate() {
+        let pair = unpack_pair(number);
         let entry = Entry {
             port: pair.port,
             before: others + pair.offset,
@@ -87,20 +86,10 @@ pub fn activate_in(
     }
     let loads = frame.loads.count;
     let stores = frame.stores.count;
-    append(
-        load_entries,
-        loads,
-        &frame.table.loads,
-        chosen.loads,
-        stores,
-    );
-    append(
-        store_entries,
-        stores,
-        &frame.table.stores,
-        chosen.stores,
-        loads,
-    );
+    let new_loads = chosen.loads.among(&frame.table.loads);
+    let new_stores = chosen.stores.among(&frame.table.stores);
+    append(load_entries, loads, new_loads, stores);
+    append(store_entries, stores, new_stores, loads);
     frame.loads.lengthen(chosen.loads.count);
     frame.stores.lengthen(chosen.stores.count);
     Ok(())

@@ -1,6 +1,6 @@
 // Arguments: "an argument goes to its port's oldest entry that lacks it".
-ghost use Rattle.std.specs.Prelude.{◌≡◌, ◌≤◌, true, length};
-ghost use Rattle.queue.specs.Contents.{of_kind, contents_of};
+ghost use Rattle.std.specs.Prelude.{◌≡◌, true};
+ghost use Rattle.queue.specs.Contents.{contents_of};
 ghost use Rattle.queue.specs.Arguments.{kind_of, in_range, give, load_address, store_address, store_data};
 ghost use Rattle.queue.specs.Outcome.{Moves, moved};
 ghost use Rattle.queue.specs.Parts.{queue_of_kind, on_parts};
@@ -9,7 +9,7 @@ ghost use Rattle.queue.specs.Internal.{mark_of, set_argument, Given};
 use crate::entries::{Mark, oldest_without, pack, unpack};
 use crate::ports::has_port;
 use crate::sound::sound_of;
-use crate::{Entry, Frame, Kind, Queue, Side};
+use crate::{Entry, Frame, Kind, Queue};
 use number::refusal::Refusal;
 
 // The three kinds of argument.
@@ -64,15 +64,14 @@ fn set_argument(entry: &mut Entry, argument: Argument, number: u32)
 // Gives the argument to the port's oldest entry that lacks it; or 24, and changes nothing.
 fn give_oldest(
     entries: &mut [u64],
-    held: u8,
-    port: u32,
     argument: Argument,
+    port: u32,
     number: u32,
 ) -> Result<(), Refusal>
-    requires { (held ≤ length entries.old) × (in_range argument 65536 number ≡ true) }
-    ensures { Given held port argument number entries.old result entries.new }
+    requires { in_range argument 65536 number ≡ true }
+    ensures { Given argument port number entries.old result entries.new }
 {
-    let Some(at) = oldest_without(entries, held, port, mark_of(argument)) else {
+    let Some(at) = oldest_without(entries, port, mark_of(argument)) else {
         return Err(Refusal::NoneWaits);
     };
     let mut entry = unpack(entries[at]);
@@ -105,19 +104,8 @@ pub fn give_in(
     if !in_range(argument, frame.memory_length, number) {
         return Err(Refusal::BadAddress);
     }
-    give_oldest(own_entries, frame.side(kind).count, port, argument, number)
-}
-
-impl Frame {
-    // The side of a kind.
-    pub(crate) fn side(&self, kind: Kind) -> Side
-        ensures { result ≡ of_kind kind self.now.loads self.now.stores }
-    {
-        match kind {
-            Kind::Load => self.loads,
-            Kind::Store => self.stores,
-        }
-    }
+    let held = frame.side(kind).count as usize;
+    give_oldest(&mut own_entries[..held], argument, port, number)
 }
 
 impl Queue {

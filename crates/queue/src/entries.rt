@@ -2,7 +2,7 @@
 ghost use Rattle.std.specs.Prelude.{◌≡◌, ◌≤◌, length};
 ghost use Rattle.queue.specs.Entry.{entry_of, unpacked, number_of};
 ghost use Rattle.queue.specs.Contents.{entries_held};
-ghost use Rattle.queue.specs.Internal.{set_address, set_word, has, lacks_mark, FirstPlace};
+ghost use Rattle.queue.specs.Internal.{entries_in, set_address, set_word, has, lacks_mark, FirstPlace};
 
 use crate::Entry;
 
@@ -69,6 +69,14 @@ impl Entry {
         }
     }
 
+    // Of the other side's entries, those that come before it: as many as it remembers.
+    pub(crate) fn others_before<'a>(self, others: &'a [u64]) -> &'a [u64]
+        requires { self.before ≤ length others.now }
+        ensures { entries_in result.now ≡ entries_held self.before others.now }
+    {
+        &others[..self.before as usize]
+    }
+
     // Is it an entry of the port, without the mark?
     fn lacks(&self, port: u32, mark: Mark) -> bool
         ensures { result ≡ lacks_mark mark port (entry_of self.now) }
@@ -78,15 +86,10 @@ impl Entry {
 }
 
 // The place of the port's oldest entry without the mark, if there is one.
-pub(crate) fn oldest_without(entries: &[u64], held: u8, port: u32, mark: Mark) -> Option<usize>
-    requires { held ≤ length entries.now }
-    ensures { FirstPlace (lacks_mark mark port) (entries_held held entries.now) result }
+pub(crate) fn oldest_without(entries: &[u64], port: u32, mark: Mark) -> Option<usize>
+    ensures { FirstPlace (lacks_mark mark port) (entries_in entries.now) result }
 {
-    for i in 0..held as usize {
-        let entry = unpack(entries[i]);
-        if entry.lacks(port, mark) {
-            return Some(i);
-        }
-    }
-    None
+    entries
+        .iter()
+        .position(|&number| unpack(number).lacks(port, mark))
 }

@@ -4,6 +4,10 @@
 
 #![tactic(auto)]
 
+ghost use Rattle.std.specs.Prelude.{◌≡◌, ◌<◌, ◌≤◌, length};
+ghost use Rattle.queue.specs.Contents.{of_kind, entries_held};
+ghost use Rattle.queue.specs.Internal.{entries_in};
+
 use table::Table;
 
 pub mod activation;
@@ -51,6 +55,17 @@ pub struct Side {
     pub next: u32,
 }
 
+impl Side {
+    // Of a run with a place for each, the entries that the side holds.
+    pub(crate) fn held<'a>(self, entries: &'a [u64]) -> &'a [u64]
+        requires { self.count ≤ length entries.now }
+        ensures entries { entries_in result.now ≡ entries_held self.count entries.now }
+        ensures few { length result.now < 256 }
+    {
+        &entries[..self.count as usize]
+    }
+}
+
 // All of a queue but its entries: its table, the memory length that it was opened for, and both sides.
 #[repr(C)]
 #[derive(Clone, Copy, PartialEq, Eq)]
@@ -59,6 +74,18 @@ pub struct Frame {
     pub memory_length: u16,
     pub loads: Side,
     pub stores: Side,
+}
+
+impl Frame {
+    // The side of a kind.
+    pub(crate) fn side(&self, kind: Kind) -> Side
+        ensures { result ≡ of_kind kind self.now.loads self.now.stores }
+    {
+        match kind {
+            Kind::Load => self.loads,
+            Kind::Store => self.stores,
+        }
+    }
 }
 
 // A queue: its frame, and each side's entries from the oldest, packed. Places beyond a side's count mean nothing.

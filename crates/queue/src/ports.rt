@@ -14,13 +14,9 @@ use table::{Group, Table};
 fn names_port(pairs: &[u16], port: u32) -> bool
     ensures { result ≡ any_of (is_port port) (map pair_in pairs.now) }
 {
-    for number in pairs {
-        let pair = unpack_pair(*number);
-        if pair.port as u32 == port {
-            return true;
-        }
-    }
-    false
+    pairs
+        .iter()
+        .any(|&number| unpack_pair(number).port as u32 == port)
 }
 
 // Does the group name the port among its ports of the kind?

@@ -41,7 +41,7 @@ fn load_ready(load: Entry, store_entries: &[u64]) -> bool
     if load.filled || !load.addressed {
         return false;
     }
-    match source_of(store_entries, load.before as usize, load.address) {
+    match source_of(load.others_before(store_entries), load.address) {
         Source::Unknown | Source::NoData => false,
         Source::Forwarded(_) | Source::Memory => true,
     }

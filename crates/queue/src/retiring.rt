@@ -1,26 +1,22 @@
 // How finished entries retire: "after each write or take, finished entries (stores written, loads taken) leave each side from
 // its oldest end until an unfinished one is oldest".
 ghost use Rattle.std.specs.Prelude.{◌≡◌, ◌+◌, ◌≤◌, length};
-ghost use Rattle.queue.specs.Contents.{entries_held, contents_of};
+ghost use Rattle.queue.specs.Contents.{contents_of};
 ghost use Rattle.queue.specs.Retire.{retiring, retire};
 ghost use Rattle.queue.specs.Parts.{queue_of, OpenedAlike};
-ghost use Rattle.queue.specs.Internal.{Shifted, shorter};
+ghost use Rattle.queue.specs.Internal.{entries_in, Shifted, shorter};
 
 use crate::entries::{pack, unpack};
 use crate::{Frame, Side};
 
 // How many entries at the oldest end are finished, and so retire. A finished entry behind an unfinished one keeps its place.
-fn retiring(entries: &[u64], held: u8) -> u8
-    requires { held ≤ length entries.now }
-    ensures { result ≡ retiring (entries_held held entries.now) }
+fn retiring(entries: &[u64]) -> usize
+    ensures { result ≡ retiring (entries_in entries.now) }
 {
-    for i in 0..held {
-        let entry = unpack(entries[i as usize]);
-        if !entry.finished {
-            return i;
-        }
-    }
-    held
+    entries
+        .iter()
+        .take_while(|&&number| unpack(number).finished)
+        .count()
 }
 
 // Moves the `left` entries behind the first `gone` to the front; each forgets `others`, as many of the other kind as retire too.
@@ -55,8 +51,8 @@ pub(crate) fn retire(frame: &mut Frame, load_entries: &mut [u64], store_entries:
         ≡ retire (contents_of (queue_of frame.old load_entries.old store_entries.old)) }
     ensures opening { OpenedAlike frame.old frame.new }
 {
-    let loads_gone = retiring(load_entries, frame.loads.count);
-    let stores_gone = retiring(store_entries, frame.stores.count);
+    let loads_gone = retiring(frame.loads.held(load_entries)) as u8;
+    let stores_gone = retiring(frame.stores.held(store_entries)) as u8;
     frame.loads.shorten(loads_gone);
     frame.stores.shorten(stores_gone);
     shift(load_entries, loads_gone, frame.loads.count, stores_gone);

@@ -1,13 +1,13 @@
 // Serving loads, as S-7 has it: the earlier stores are walked back, nearest first, to the one that decides where the load's word comes
 // from. A load that a store supplies counts as forwarded.
-ghost use Rattle.std.specs.Prelude.{◌≡◌, ◌<◌, ◌≤◌, length};
+ghost use Rattle.std.specs.Prelude.{◌≡◌, ◌<◌, length};
 ghost use Rattle.counts.specs.Counts.{counted};
 ghost use Rattle.queue.specs.Entry.{entry_of, with_word};
-ghost use Rattle.queue.specs.Contents.{entries_held, contents_of};
+ghost use Rattle.queue.specs.Contents.{contents_of};
 ghost use Rattle.queue.specs.Serve.{source, serve_at, serve};
 ghost use Rattle.queue.specs.Outcome.{Serves, gave, with_counts};
 ghost use Rattle.queue.specs.Parts.{queue_of, on_parts};
-ghost use Rattle.queue.specs.Internal.{Checked, source_in, Decides, MadeAnew};
+ghost use Rattle.queue.specs.Internal.{entries_in, Checked, source_in, Decides, MadeAnew};
 
 use crate::entries::{pack, unpack};
 use crate::serial::place_of;
@@ -43,16 +43,13 @@ fn from_store(store: Entry) -> Source
     }
 }
 
-// The source of a load of the address that comes after the first n stores. They are walked back, nearest first, and no farther than
+// The source of a load of the address that comes after these stores. They are walked back, nearest first, and no farther than
 // to the one that decides: an older store may have any address, or none yet.
-pub(crate) fn source_of(entries: &[u64], n: usize, address: u16) -> Source
-    requires { n ≤ length entries.now }
-    ensures { source_in result ≡ source address (entries_held n entries.now) }
+pub(crate) fn source_of(stores: &[u64], address: u16) -> Source
+    ensures { source_in result ≡ source address (entries_in stores.now) }
 {
-    let mut i = n;
-    while 0 < i {
-        i -= 1;
-        let store = unpack(entries[i]);
+    for &number in stores.iter().rev() {
+        let store = unpack(number);
         if !store.addressed {
             return Source::Unknown;
         }
@@ -108,7 +105,7 @@ fn serve_at(
     if !load.addressed {
         return Err(Refusal::NoAddress);
     }
-    match source_of(store_entries, load.before as usize, load.address) {
+    match source_of(load.others_before(store_entries), load.address) {
         Source::Unknown => Err(Refusal::EarlierStoreUnknown),
         Source::NoData => Err(Refusal::NoData),
         Source::Forwarded(word) => Ok(served(load_entries, at, word, true, counts)),

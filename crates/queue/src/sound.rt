@@ -2,7 +2,8 @@
 ghost use Rattle.std.specs.Prelude.{◌≡◌, ◌≤◌, ◌&&◌, length, nat_le};
 ghost use Rattle.number.specs.Basics.{all_of};
 ghost use Rattle.queue.specs.Entry.{entry_of};
-ghost use Rattle.queue.specs.Contents.{entries_held, contents_of};
+ghost use Rattle.queue.specs.Contents.{contents_of};
+ghost use Rattle.queue.specs.Internal.{entries_in};
 ghost use Rattle.queue.specs.Sound.{depth_right, memory_right, entry_right, sound};
 ghost use Rattle.queue.specs.Parts.{queue_of, queue_of_kind, whole};
 
@@ -30,18 +31,11 @@ fn entry_right(entry: Entry, memory_length: u16, others: u8) -> bool
     entry.before <= others && (!entry.addressed || entry.address < memory_length)
 }
 
-// Is every entry held right?
-fn entries_right(entries: &[u64], held: u8, memory_length: u16, others: u8) -> bool
-    requires { held ≤ length entries.now }
-    ensures { result ≡ all_of (entry_right memory_length others) (entries_held held entries.now) }
+// Is every one of these entries right?
+fn entries_right(entries: &[u64], memory_length: u16, others: u8) -> bool
+    ensures { result ≡ all_of (entry_right memory_length others) (entries_in entries.now) }
 {
-    for i in 0..held as usize {
-        let entry = unpack(entries[i]);
-        if !entry_right(entry, memory_length, others) {
-            return false;
-        }
-    }
-    true
+    entries.iter().all(|&number| entry_right(unpack(number), memory_length, others))
 }
 
 // A depth within its limits, and no more entries than it.
@@ -75,10 +69,10 @@ pub fn sound_in(frame: &Frame, load_entries: &[u64], store_entries: &[u64]) -> b
     if !memory_right(words as u32) {
         return false;
     }
-    if !entries_right(load_entries, loads.count, words, stores.count) {
+    if !entries_right(loads.held(load_entries), words, stores.count) {
         return false;
     }
-    if !entries_right(store_entries, stores.count, words, loads.count) {
+    if !entries_right(stores.held(store_entries), words, loads.count) {
         return false;
     }
     frame.table.check().is_ok()

@@ -30,7 +30,7 @@ pub fn take_in(
     if !has_port(&frame.table, Kind::Load, port) {
         return Err(Refusal::NoPort);
     }
-    let Some(at) = oldest_without(load_entries, frame.loads.count, port, Mark::Finished) else {
+    let Some(at) = oldest_without(frame.loads.held(load_entries), port, Mark::Finished) else {
         return Err(Refusal::NoneUntaken);
     };
     let mut load = unpack(load_entries[at]);

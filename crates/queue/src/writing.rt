@@ -3,11 +3,11 @@ ghost use Rattle.std.specs.Prelude.{◌≡◌, ◌<◌, ◌≤◌, length, slice
 ghost use Rattle.number.specs.Basics.{all_of};
 ghost use Rattle.number.specs.Reply.{reply, check_of};
 ghost use Rattle.queue.specs.Entry.{entry_of, entry_in};
-ghost use Rattle.queue.specs.Contents.{entries_held, contents_of};
+ghost use Rattle.queue.specs.Contents.{contents_of};
 ghost use Rattle.queue.specs.Write.{no_conflict, write_at, write};
 ghost use Rattle.queue.specs.Outcome.{Writes, moved};
 ghost use Rattle.queue.specs.Parts.{queue_of, OpenedAlike, on_parts};
-ghost use Rattle.queue.specs.Internal.{Checked, has, may_write_at};
+ghost use Rattle.queue.specs.Internal.{entries_in, Checked, has, may_write_at};
 
 use crate::entries::{Mark, pack, unpack};
 use crate::retiring::retire;
@@ -24,18 +24,13 @@ fn no_conflict(entry: Entry, done: Mark, address: u16) -> bool
     entry.has(done) || (entry.addressed && entry.address != address)
 }
 
-// Does none of the first n entries conflict with a write to the address?
-fn none_conflict(entries: &[u64], n: usize, done: Mark, address: u16) -> bool
-    requires { n ≤ length entries.now }
-    ensures { result ≡ all_of (no_conflict (has done) address) (entries_held n entries.now) }
+// Does none of these entries conflict with a write to the address?
+fn none_conflict(entries: &[u64], done: Mark, address: u16) -> bool
+    ensures { result ≡ all_of (no_conflict (has done) address) (entries_in entries.now) }
 {
-    for i in 0..n {
-        let entry = unpack(entries[i]);
-        if !no_conflict(entry, done, address) {
-            return false;
-        }
-    }
-    true
+    entries
+        .iter()
+        .all(|&number| no_conflict(unpack(number), done, address))
 }
 
 // Why the store at a place may not be written: 26, 27, 29, 31, 32.
@@ -57,15 +52,11 @@ pub(crate) fn write_fault(
     if !store.filled {
         return Err(Refusal::NoData);
     }
-    if !none_conflict(
-        load_entries,
-        store.before as usize,
-        Mark::Filled,
-        store.address,
-    ) {
+    let loads = store.others_before(load_entries);
+    if !none_conflict(loads, Mark::Filled, store.address) {
         return Err(Refusal::LoadConflict);
     }
-    if !none_conflict(store_entries, at, Mark::Finished, store.address) {
+    if !none_conflict(&store_entries[..at], Mark::Finished, store.address) {
         return Err(Refusal::StoreConflict);
     }
     Ok(())

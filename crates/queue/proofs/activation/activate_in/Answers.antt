@@ -16,7 +16,7 @@ use Rattle.queue.specs.Internal.{PairsFit}
 use Rattle.queue.proofs.PartsLaws.{PartsFit, fit, unfit}
 use Rattle.queue.proofs.SoundLaws.{table-right, count_most}
 use Rattle.queue.proofs.GroupLaws.{groups-few, group-right}
-use Rattle.queue.proofs.ActivateLaws.{with_group_is, room-record, appended-both, group-fits, activate-unsound, activate-no-group, activate-group}
+use Rattle.queue.proofs.ActivateLaws.{with_group_is, room-record, loads-size, stores-size, appended-both, loads-fit, stores-fit, activate-unsound, activate-no-group, activate-group}
 use Rattle.queue.proofs.activation.activate_in.Goals as goal
 use Rattle.queue.proofs.activation.activate_in.Goals.{After-has_room}
 
@@ -43,12 +43,11 @@ rule c = activate-group (queue c) c.args.group (good c).right c.if-frame-group.f
 has_place : (c : After-has_room) → room (contents_of (queue c)) (meant c) ≡ c.has_room.result
 has_place c = room-record (queue c) c.group-chosen.result ∙ sym c.has_room.ensures
 
-fits : (c : After-has_room) → c.has_room.result ≡ true
-    → PairsFit c.args.frame.now.loads.count c.args.frame.now.table.loads c.group-chosen.result.loads
-    × PairsFit c.args.frame.now.stores.count c.args.frame.now.table.stores c.group-chosen.result.stores
-fits c e =
-    group-fits (queue c) c.group-chosen.result (group-inside _ _ c.group-chosen.ensures) (good c).right (good_group c)
-    (has_place c ∙ e)
+loads_fit : (c : After-has_room) → c.has_room.result ≡ true → PairsFit c.args.frame.now.loads.count (meant c).loads
+loads_fit c e = loads-fit (queue c) c.group-chosen.result (good c).right (good_group c) (has_place c ∙ e)
+
+stores_fit : (c : After-has_room) → c.has_room.result ≡ true → PairsFit c.args.frame.now.stores.count (meant c).stores
+stores_fit c e = stores-fit (queue c) c.group-chosen.result (good c).right (good_group c) (has_place c ∙ e)
 
 pub returns-then-not-sound_in-clause-moves : goal.returns-then-not-sound_in-clause-moves
 returns-then-not-sound_in-clause-moves c =
@@ -67,25 +66,31 @@ returns-then-not-has_room-clause-moves c =
     let p = (goal.at.returns-then-not-has_room-clause-moves c).After-has_room in
     rw ((good p).full, rule p, has_place p ∙ c.if-not-has_room.true)
 
+pub among-new_loads-requires : goal.among-new_loads-requires
+among-new_loads-requires c = (group-inside _ _ c.group-chosen.ensures).0
+
+pub among-new_stores-requires : goal.among-new_stores-requires
+among-new_stores-requires c = (group-inside _ _ c.group-chosen.ensures).1
+
 pub append-requires : goal.append-requires
 append-requires c =
     let p = (goal.at.append-requires c).After-has_room in
-    ((fits p c.if-not-has_room.false).0, count_most (queue p) (good p).right Kind.Store, (good p).loads_whole)
+    rw c.among-new_loads.ensures.pairs (loads_fit p c.if-not-has_room.false, count_most (queue p) (good p).right Kind.Store, (good p).loads_whole)
 
 pub append-requires-2 : goal.append-requires-2
 append-requires-2 c =
     let p = (goal.at.append-requires-2 c).After-has_room in
-    ((fits p c.if-not-has_room.false).1, count_most (queue p) (good p).right Kind.Load, (good p).stores_whole)
+    rw c.among-new_stores.ensures.pairs (stores_fit p c.if-not-has_room.false, count_most (queue p) (good p).right Kind.Load, (good p).stores_whole)
 
 pub lengthen-requires : goal.lengthen-requires
 lengthen-requires c =
     let p = (goal.at.lengthen-requires c).After-has_room in
-    (fits p c.if-not-has_room.false).0.room
+    rw (loads-size (queue p) c.group-chosen.result) at (loads_fit p c.if-not-has_room.false).room
 
 pub lengthen-requires-2 : goal.lengthen-requires-2
 lengthen-requires-2 c =
     let p = (goal.at.lengthen-requires-2 c).After-has_room in
-    (fits p c.if-not-has_room.false).1.room
+    rw (stores-size (queue p) c.group-chosen.result) at (stores_fit p c.if-not-has_room.false).room
 
 pub returns-clause-moves : goal.returns-clause-moves
 returns-clause-moves c =
@@ -95,6 +100,7 @@ returns-clause-moves c =
       answer = refl {a = 0};
       gives = refl {a = none};
       holds = rw (c.lengthen.ensures, c.lengthen-2.ensures)
-          (appended-both (queue p) c.group-chosen.result c.append.ensures c.append-2.ensures
+          (appended-both (queue p) c.group-chosen.result (rw c.among-new_loads.ensures.pairs at c.append.ensures)
+          (rw c.among-new_stores.ensures.pairs at c.append-2.ensures)
           ∙ with_group_is (contents_of (queue p)) (meant p) (good_group p));
     })

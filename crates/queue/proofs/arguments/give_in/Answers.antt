@@ -1,21 +1,20 @@
 -- Each test that is left behind is a step of the rule; the test that fails is its refusal.
-use Rattle.std.proofs.Common.{◌≡◌, ◌≤◌, true, ◌&&◌, length, sym, ap, ◌∙◌, subst}
+use Rattle.std.proofs.Common.{◌≡◌, ◌≤◌, true, ◌&&◌, length, sym, ap, ◌∙◌, length-take-le}
 use mathlib.Core.Bool.{not}
 use Rattle.number.specs.Basics.{any_of}
 use Rattle.table.specs.Table.{groups_of}
 use Rattle.queue.specs.declared.Kind.{Kind}
 use Rattle.queue.specs.declared.Queue.{Queue}
-use Rattle.queue.specs.declared.Side.{Side as SideStruct}
-use Rattle.queue.specs.Contents.{of_kind, contents_of}
+use Rattle.queue.specs.Contents.{contents_of}
 use Rattle.queue.specs.Sound.{sound}
 use Rattle.queue.specs.Arguments.{kind_of, names_port, give}
 use Rattle.queue.specs.Parts.{queue_of_kind, whole}
 use Rattle.queue.proofs.SoundLaws.{table-right, words-most}
-use Rattle.queue.proofs.ArgumentLaws.{give_record, own_room, in_range_most, gives}
+use Rattle.queue.proofs.ArgumentLaws.{give_record, side_for, own_room, in_range_most, gives}
 use Rattle.queue.proofs.PartsLaws.{PartsFit, fit, unfit}
 use Rattle.queue.proofs.GroupLaws.{groups-few}
 use Rattle.queue.proofs.arguments.give_in.Goals as goal
-use Rattle.queue.proofs.arguments.give_in.Goals.{After-sound_of, After-has_port}
+use Rattle.queue.proofs.arguments.give_in.Goals.{After-sound_of, After-has_port, After-side-held}
 
 -- the parts by a kind are a queue's, and the check says whether it is a sound one
 abbrev queue : After-sound_of → Queue
@@ -68,27 +67,35 @@ returns-then-not-in_range c =
       sym c.in_range.ensures ∙ c.if-not-in_range.true,
     )
 
+-- its own side, whose entries its own run has room for
+side : (c : After-side-held) → c.side-held.result ≡ side_for c.args.argument c.args.frame.now
+side c = rw c.kind_of-kind.ensures at c.side-held.ensures
+
+room : (c : After-side-held) → c.side-held.result.count ≤ length c.args.own_entries.now
+room c =
+    let a = c.args in
+    let p = (goal.at.After-side-held c).After-sound_of in
+    rw (side c) (own_room a.argument a.frame.now a.own_entries.now a.other_entries.now (good p c.if-not-sound_of.false))
+
+pub slice_bounds-give_oldest-end : goal.slice_bounds-give_oldest-end
+slice_bounds-give_oldest-end c = room (goal.at.slice_bounds-give_oldest-end c).After-side-held
+
+pub slice_bounds-give_oldest-end-2 : goal.slice_bounds-give_oldest-end-2
+slice_bounds-give_oldest-end-2 c = sym (length-take-le _ _ (room (goal.at.slice_bounds-give_oldest-end-2 c).After-side-held))
+
 pub give_oldest-requires : goal.give_oldest-requires
 give_oldest-requires c =
     let p = (goal.at.give_oldest-requires c).After-sound_of in
-    let a = c.args in
-    let fit = good p c.if-not-sound_of.false in
-    let ranged = in_range_most a.argument a.frame.now.memory_length a.number (words-most (queue p) fit.right)
-    (sym c.in_range.ensures ∙ c.if-not-in_range.false) in
-    let side : c.side.result ≡ of_kind (kind_of a.argument) a.frame.now.loads a.frame.now.stores =
-    c.side.ensures ∙ ap ((λ (kind : Kind). of_kind kind a.frame.now.loads a.frame.now.stores)) c.kind_of-kind.ensures in
-    let room = own_room a.argument a.frame.now a.own_entries.now a.other_entries.now fit in
-    (subst (λ (x : SideStruct). x.count ≤ length c.args.own_entries.now) (sym side) room, ranged)
+    in_range_most c.args.argument c.args.frame.now.memory_length c.args.number (words-most (queue p) (good p c.if-not-sound_of.false).right)
+    (sym c.in_range.ensures ∙ c.if-not-in_range.false)
 
 pub returns : goal.returns
 returns c =
     let p = (goal.at.returns c).After-sound_of in
     let h = (goal.at.returns c).After-has_port in
+    let s = (goal.at.returns c).After-side-held in
     let a = c.args in
     let fit = good p c.if-not-sound_of.false in
-    let side : c.side.result ≡ of_kind (kind_of a.argument) a.frame.now.loads a.frame.now.stores =
-    c.side.ensures ∙ ap ((λ (kind : Kind). of_kind kind a.frame.now.loads a.frame.now.stores)) c.kind_of-kind.ensures in
-    let room = own_room a.argument a.frame.now a.own_entries.now a.other_entries.now fit in
     rw (
       fit.full,
       give_record a.argument (queue p) a.port a.number,
@@ -96,4 +103,5 @@ returns c =
       sym (looked h) ∙ c.if-not-has_port.false,
       sym c.in_range.ensures ∙ c.if-not-in_range.false,
     )
-    (gives a.argument a.frame.now a.own_entries.now a.other_entries.now room (rw side at c.give_oldest.ensures))
+    (rw (side s)
+    (gives a.argument a.frame.now a.own_entries.now a.other_entries.now (rw (side s) at (room s)) (rw (side s) at c.give_oldest.ensures)))

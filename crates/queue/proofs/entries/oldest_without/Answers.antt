@@ -1,22 +1,14 @@
-use Rattle.std.proofs.Common.{◌≡◌, ◌+◌, ◌∷◌, drop, sym, ◌∙◌}
-use Rattle.queue.specs.Entry.{entry_in, entry_of}
-use Rattle.queue.specs.Contents.{entries_held}
-use Rattle.queue.proofs.ContentsLaws.{mapped-here, mapped-length}
-use Rattle.queue.proofs.WalkLaws.{seeking-on, seeking-stop}
+use Rattle.std.proofs.Common.{ℕ, rules, tests}
+use Rattle.std.proofs.lemmas.Iterator.{YieldsList-from_slice}
+use Rattle.std.proofs.lemmas.Iterator.Search.{position_from_yields_List}
+use Rattle.queue.specs.Entry.{entry_in}
+use Rattle.queue.specs.Internal.{lacks_mark}
+use Rattle.queue.proofs.WalkLaws.{first-found}
 use Rattle.queue.proofs.entries.oldest_without.Goals as goal
-use Rattle.queue.proofs.entries.oldest_without.Goals.{After-lacks}
 
--- the entry at this place stands before those that are not looked at yet
-here : (c : After-lacks) → drop c.loop-i.i (entries_held c.args.held c.args.entries.now)
-    ≡ entry_of c.unpack-entry.result ∷ drop (c.loop-i.i + 1) (entries_held c.args.held c.args.entries.now)
-here c = rw c.unpack-entry.ensures (mapped-here entry_in 0 c.args.held c.args.entries.now c.loop-i.i c.loop-i-test.true)
-
-pub returns-then-lacks : goal.returns-then-lacks
-returns-then-lacks c = (
-  sym (seeking-stop c.loop-i.invariant (here (goal.at.returns-then-lacks c).After-lacks) (sym c.lacks.ensures ∙ c.if-lacks.true)),
-  rw (mapped-length entry_in 0 c.args.held c.args.entries.now) c.loop-i-test.true,
-)
-
-pub loop-i-preserved : goal.loop-i-preserved
-loop-i-preserved c =
-    seeking-on c.loop-i.invariant (here (goal.at.loop-i-preserved c).After-lacks) (sym c.lacks.ensures ∙ c.if-lacks.false)
+pub returns : goal.returns
+returns c =
+    let lacks = lacks_mark c.args.mark c.args.port in
+    first-found lacks entry_in c.args.entries.now
+    (position_from_yields_List (λ (n : ℕ). lacks (entry_in n)) _ _ c.position.result c.position.ensures.ran (YieldsList-from_slice c.args.entries.now cc)
+    (λ x b q k. search (rules, tests)))

@@ -1,23 +1,17 @@
-use Rattle.std.proofs.Common.{◌≡◌, get_or, sym, ap, ◌∙◌}
-use borrow.Author.Tests.{not-true, not-false}
-use Rattle.queue.specs.declared.Entry.{Entry as EntryStruct}
+use Rattle.std.proofs.Common.{ℕ, Bool, ◌∙◌, rules, tests}
+use Rattle.std.proofs.lemmas.Iterator.{YieldsList-from_slice}
+use Rattle.std.proofs.lemmas.Iterator.Consumers.{count_from_yields_List}
+use Rattle.std.proofs.lemmas.Iterator.Search.{YieldsList-from_take_while}
+use Rattle.std.proofs.lemmas.List.Folds.{length-prefix_len}
 use Rattle.queue.specs.Entry.{entry_in}
 use Rattle.queue.specs.Retire.{finished}
-use Rattle.queue.proofs.ContentsLaws.{mapped-here}
-use Rattle.queue.proofs.WalkLaws.{retiring-on, retiring-stop}
+use Rattle.queue.proofs.WalkLaws.{front-read}
 use Rattle.queue.proofs.retiring.retiring.Goals as goal
-use Rattle.queue.proofs.retiring.retiring.Goals.{After-unpack-entry}
 
--- whether the entry at this place is finished
-found : (c : After-unpack-entry) → finished (entry_in (get_or c.args.entries.now c.loop-i.i 0)) ≡ c.unpack-entry.result.finished
-found c = sym (ap (λ (s : EntryStruct). s.finished) c.unpack-entry.ensures)
-
-pub returns-then-not-entry : goal.returns-then-not-entry
-returns-then-not-entry c =
-    retiring-stop c.loop-i.invariant (mapped-here entry_in 0 _ _ _ c.loop-i-test.true)
-    (found (goal.at.returns-then-not-entry c).After-unpack-entry ∙ not-true _ c.if-not-entry.true)
-
-pub loop-i-preserved : goal.loop-i-preserved
-loop-i-preserved c =
-    retiring-on c.loop-i.invariant (mapped-here entry_in 0 _ _ _ c.loop-i-test.true)
-    (found (goal.at.loop-i-preserved c).After-unpack-entry ∙ not-false _ c.if-not-entry.false)
+pub returns : goal.returns
+returns c =
+    let done : ℕ → Bool = λ n. finished (entry_in n) in
+    count_from_yields_List c.take_while.result c.count.result c.count.ensures.ran
+    (YieldsList-from_take_while _ done (YieldsList-from_slice c.args.entries.now cc) c.take_while.ensures.closure c.take_while.ensures.done
+    (λ x b q k. search (rules, tests)))
+    ∙ length-prefix_len done c.args.entries.now ∙ front-read finished entry_in c.args.entries.now

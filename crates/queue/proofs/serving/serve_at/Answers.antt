@@ -7,7 +7,7 @@ use Rattle.queue.specs.declared.Queue.{Queue}
 use Rattle.queue.specs.declared.serving.Source as coded
 use Rattle.queue.specs.Entry.{Entry, entry_of}
 use Rattle.queue.specs.Contents.{contents_of, entries_held}
-use Rattle.queue.specs.Serve.{Loaded, Served, loaded_from, may_serve, served_with, serve_at}
+use Rattle.queue.specs.Serve.{source, Loaded, Served, loaded_from, may_serve, served_with, serve_at}
 use Rattle.queue.specs.Parts.{queue_of}
 use Rattle.queue.specs.Internal.{source_in}
 use Rattle.queue.proofs.SoundLaws.{count_most, before-held, address-low}
@@ -46,7 +46,7 @@ found : (c : After-source_of) {x : coded.Source} → c.source_of.result ≡ x
     ≡ loaded_from c.args.memory.now c.unpack-load.result.address (source_in x)
 found c is =
     may_load c.args.memory.now _ c.unpack-load.result c.if-load.false (not-false c.unpack-load.result.addressed c.if-not-load.false)
-    (ap source_in (sym is) ∙ c.source_of.ensures)
+    (ap source_in (sym is) ∙ c.source_of.ensures ∙ ap (source c.unpack-load.result.address) c.others_before.ensures)
 
 pub returns-then-frame-place : goal.returns-then-frame-place
 returns-then-frame-place c =
@@ -68,9 +68,9 @@ returns-then-not-load c =
     let u = (goal.at.returns-then-not-load c).After-unpack-load in
     rw (may u, may-no-address c.args.memory.now (before u) c.unpack-load.result c.if-load.false (not-true _ c.if-not-load.true))
 
-pub source_of-requires : goal.source_of-requires
-source_of-requires c =
-    let u = (goal.at.source_of-requires c).After-unpack-load in
+pub others_before-requires : goal.others_before-requires
+others_before-requires c =
+    let u = (goal.at.others_before-requires c).After-unpack-load in
     let before-few : c.unpack-load.result.before ≤ c.args.frame.now.stores.count =
     subst (λ (e : EntryStruct). e.before ≤ c.args.frame.now.stores.count) (sym c.unpack-load.ensures)
     (before-held (queue u) c.requires.0.right Kind.Load c.args.place c.if-frame-place.false) in

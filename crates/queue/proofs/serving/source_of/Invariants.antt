@@ -1,10 +1,6 @@
--- The stores from the ith on are passed: those before it decide.
-use Rattle.std.proofs.Common.{◌≤◌}
+-- What is left of the stores decides as all of them do.
 use Rattle.queue.proofs.SourceLaws.{WalkedBack}
 use Rattle.queue.proofs.serving.source_of.Given as goal
 
-abbrev pub invariant-loop-i : goal.invariant-loop-i
-invariant-loop-i l = (l.i ≤ l.n) × WalkedBack l.address l.n l.entries l.i
-
-abbrev pub decreases-loop-i : goal.decreases-loop-i
-decreases-loop-i l = l.i
+abbrev pub invariant-loop-number : goal.invariant-loop-number
+invariant-loop-number l = WalkedBack l.address l.stores l.number-iterator.iter.rest.now

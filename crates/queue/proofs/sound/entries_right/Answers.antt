@@ -1,20 +1,14 @@
-use Rattle.std.proofs.Common.{◌≡◌, ◌+◌, ◌∷◌, drop, sym, ◌∙◌}
-use Rattle.queue.specs.Entry.{entry_in, entry_of}
-use Rattle.queue.specs.Contents.{entries_held}
-use Rattle.queue.proofs.ContentsLaws.{mapped-here}
-use Rattle.queue.proofs.WalkLaws.{all-on, all-stop}
+use Rattle.std.proofs.Common.{ℕ, ◌∙◌, rules, tests}
+use Rattle.std.proofs.lemmas.Iterator.{YieldsList-from_slice}
+use Rattle.std.proofs.lemmas.Iterator.Search.{all_from_yields_List}
+use Rattle.queue.specs.Entry.{entry_in}
+use Rattle.queue.specs.Sound.{entry_right}
+use Rattle.queue.proofs.WalkLaws.{all-read}
 use Rattle.queue.proofs.sound.entries_right.Goals as goal
-use Rattle.queue.proofs.sound.entries_right.Goals.{After-entry_right}
 
--- the entry at this place stands before those that are not looked at yet
-here : (c : After-entry_right) → drop c.loop-i.i (entries_held c.args.held c.args.entries.now)
-    ≡ entry_of c.unpack-entry.result ∷ drop (c.loop-i.i + 1) (entries_held c.args.held c.args.entries.now)
-here c = rw c.unpack-entry.ensures (mapped-here entry_in 0 c.args.held c.args.entries.now c.loop-i.i c.loop-i-test.true)
-
-pub returns-then-not-entry_right : goal.returns-then-not-entry_right
-returns-then-not-entry_right c =
-    all-stop c.loop-i.invariant (here (goal.at.returns-then-not-entry_right c).After-entry_right) (sym c.entry_right.ensures ∙ c.if-not-entry_right.true)
-
-pub loop-i-preserved : goal.loop-i-preserved
-loop-i-preserved c =
-    all-on c.loop-i.invariant (here (goal.at.loop-i-preserved c).After-entry_right) (sym c.entry_right.ensures ∙ c.if-not-entry_right.false)
+pub returns : goal.returns
+returns c =
+    let right = entry_right c.args.memory_length c.args.others in
+    all_from_yields_List (λ (n : ℕ). right (entry_in n)) _ _ c.all.result c.all.ensures.ran (YieldsList-from_slice c.args.entries.now cc)
+    (λ x b q k. search (rules, tests))
+    ∙ all-read right entry_in c.args.entries.now

@@ -52,7 +52,7 @@ returns-then-not-entries_right c =
       sym c.side_right.ensures ∙ c.if-not-side_right.false,
       sym c.side_right-2.ensures ∙ c.if-not-side_right-2.false,
       sym c.memory_right.ensures ∙ c.if-not-memory_right.false,
-      sym c.entries_right.ensures ∙ c.if-not-entries_right.true,
+      sym (rw c.held.ensures.entries at c.entries_right.ensures) ∙ c.if-not-entries_right.true,
     )
 
 pub returns-then-not-entries_right-2 : goal.returns-then-not-entries_right-2
@@ -64,8 +64,8 @@ returns-then-not-entries_right-2 c =
       sym c.side_right.ensures ∙ c.if-not-side_right.false,
       sym c.side_right-2.ensures ∙ c.if-not-side_right-2.false,
       sym c.memory_right.ensures ∙ c.if-not-memory_right.false,
-      sym c.entries_right.ensures ∙ c.if-not-entries_right.false,
-      sym c.entries_right-2.ensures ∙ c.if-not-entries_right-2.true,
+      sym (rw c.held.ensures.entries at c.entries_right.ensures) ∙ c.if-not-entries_right.false,
+      sym (rw c.held-2.ensures.entries at c.entries_right-2.ensures) ∙ c.if-not-entries_right-2.true,
     )
 
 pub returns : goal.returns
@@ -77,8 +77,8 @@ returns c =
       sym c.side_right.ensures ∙ c.if-not-side_right.false,
       sym c.side_right-2.ensures ∙ c.if-not-side_right-2.false,
       sym c.memory_right.ensures ∙ c.if-not-memory_right.false,
-      sym c.entries_right.ensures ∙ c.if-not-entries_right.false,
-      sym c.entries_right-2.ensures ∙ c.if-not-entries_right-2.false,
+      sym (rw c.held.ensures.entries at c.entries_right.ensures) ∙ c.if-not-entries_right.false,
+      sym (rw c.held-2.ensures.entries at c.entries_right-2.ensures) ∙ c.if-not-entries_right-2.false,
       ← c.check.ensures,
     )
     (search rules)

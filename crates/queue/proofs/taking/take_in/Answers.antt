@@ -35,10 +35,10 @@ port : (c : After-has_port) → c.has_port.result ≡ true → any_of (names_por
 port c e = sym c.has_port.ensures ∙ e
 
 place : (c : In-Some) → c.in-Some.at ≡ first_place (untaken c.args.port) (entries_held c.args.frame.now.loads.count c.args.load_entries.now)
-place c = sym c.in-Some.ensures.0
+place c = sym c.in-Some.ensures.0 ∙ ap (first_place (untaken c.args.port)) c.held.ensures.entries
 
 held : (c : In-Some) → c.in-Some.at < c.args.frame.now.loads.count
-held c = rw (mapped-length entry_in 0 c.args.frame.now.loads.count c.args.load_entries.now) at c.in-Some.ensures.1
+held c = rw (c.held.ensures.entries, mapped-length entry_in 0 c.args.frame.now.loads.count c.args.load_entries.now) at c.in-Some.ensures.1
 
 pub has_port-requires : goal.has_port-requires
 has_port-requires c =
@@ -57,8 +57,8 @@ returns-then-not-has_port-clause-takes c =
     let fit = good p c.if-not-sound_in.false in
     rw (fit.full, take-no-port (queue p) c.args.port fit.right (sym c.has_port.ensures ∙ c.if-not-has_port.true))
 
-pub oldest_without-requires : goal.oldest_without-requires
-oldest_without-requires c = (good (goal.at.oldest_without-requires c).After-sound_in c.if-not-sound_in.false).loads_room
+pub held-requires : goal.held-requires
+held-requires c = (good (goal.at.held-requires c).After-sound_in c.if-not-sound_in.false).loads_room
 
 pub returns-in_default-clause-takes : goal.returns-in_default-clause-takes
 returns-in_default-clause-takes c =
@@ -67,7 +67,7 @@ returns-in_default-clause-takes c =
     let fit = good p c.if-not-sound_in.false in
     let n = c.args.frame.now.loads.count in
     let size = mapped-length entry_in 0 n c.args.load_entries.now in
-    let past : first_place (untaken c.args.port) (entries_held n c.args.load_entries.now) ≡ n = rw size at c.in_default.ensures in
+    let past : first_place (untaken c.args.port) (entries_held n c.args.load_entries.now) ≡ n = rw (c.held.ensures.entries, size) at c.in_default.ensures in
     rw (fit.full, take_none (queue p) c.args.port fit.right (port h c.if-not-has_port.false) n (sym past) (omega arith))
 
 pub bounds-load_entries-at : goal.bounds-load_entries-at

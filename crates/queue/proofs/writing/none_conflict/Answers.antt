@@ -1,20 +1,15 @@
-use Rattle.std.proofs.Common.{◌≡◌, ◌+◌, ◌∷◌, drop, sym, ◌∙◌}
-use Rattle.queue.specs.Entry.{entry_in, entry_of}
-use Rattle.queue.specs.Contents.{entries_held}
-use Rattle.queue.proofs.ContentsLaws.{mapped-here}
-use Rattle.queue.proofs.WalkLaws.{all-on, all-stop}
+use Rattle.std.proofs.Common.{ℕ, ◌∙◌, rules, tests}
+use Rattle.std.proofs.lemmas.Iterator.{YieldsList-from_slice}
+use Rattle.std.proofs.lemmas.Iterator.Search.{all_from_yields_List}
+use Rattle.queue.specs.Entry.{entry_in}
+use Rattle.queue.specs.Write.{no_conflict}
+use Rattle.queue.specs.Internal.{has}
+use Rattle.queue.proofs.WalkLaws.{all-read}
 use Rattle.queue.proofs.writing.none_conflict.Goals as goal
-use Rattle.queue.proofs.writing.none_conflict.Goals.{After-no_conflict}
 
--- the entry at this place stands before those that are not looked at yet
-here : (c : After-no_conflict) → drop c.loop-i.i (entries_held c.args.n c.args.entries.now)
-    ≡ entry_of c.unpack-entry.result ∷ drop (c.loop-i.i + 1) (entries_held c.args.n c.args.entries.now)
-here c = rw c.unpack-entry.ensures (mapped-here entry_in 0 c.args.n c.args.entries.now c.loop-i.i c.loop-i-test.true)
-
-pub returns-then-not-no_conflict : goal.returns-then-not-no_conflict
-returns-then-not-no_conflict c =
-    all-stop c.loop-i.invariant (here (goal.at.returns-then-not-no_conflict c).After-no_conflict) (sym c.no_conflict.ensures ∙ c.if-not-no_conflict.true)
-
-pub loop-i-preserved : goal.loop-i-preserved
-loop-i-preserved c =
-    all-on c.loop-i.invariant (here (goal.at.loop-i-preserved c).After-no_conflict) (sym c.no_conflict.ensures ∙ c.if-not-no_conflict.false)
+pub returns : goal.returns
+returns c =
+    let apart = no_conflict (has c.args.done) c.args.address in
+    all_from_yields_List (λ (n : ℕ). apart (entry_in n)) _ _ c.all.result c.all.ensures.ran (YieldsList-from_slice c.args.entries.now cc)
+    (λ x b q k. search (rules, tests))
+    ∙ all-read apart entry_in c.args.entries.now

@@ -1,15 +1,13 @@
 -- Laws of what two files are, and of playing them.
-use Prim.Native.Nat.{ℕ, zero, suc, ◌+◌, ◌≤◌, ◌<◌}
+use Prim.Native.Nat.{ℕ, zero, suc, ◌≤◌, ◌<◌}
 use mathlib.Core.Path.{◌≡◌, refl, sym, ap, ◌∙◌}
 use mathlib.Core.Bool.{true, false, ◌&&◌}
-use mathlib.Core.List.{List, ◌∷◌, ◌++◌, append-nil}
+use mathlib.Core.List.{List, ◌∷◌, ◌++◌}
 use native.Mathlib.Omega.{arith}
-use native.Mathlib.Numerals.{add-one}
 use lib.Dec.{leb}
-use lib.ListN.{length, get_or, set, take, drop, replicate, length-append, length-drop, length-replicate, replicate-append-replicate, take-append-drop}
-use lib.Seq.{drop-cons, drop-length, set_at, append_snoc}
+use lib.ListN.{length, take, drop, replicate, length-replicate, take-append-drop}
 use borrow.Author.Tests.{lt-ltb, le-ltb, le-leb, leb-true}
-use Rattle.number.specs.Refusal.{too_short, file_too_long}
+use Rattle.number.specs.Refusal.{file_too_long, refusal_number}
 use Rattle.number.specs.Reply.{Reply, refuse, accept}
 use Rattle.number.specs.Number.{Got}
 use Rattle.number.proofs.Both.{and_left, and_right}
@@ -20,18 +18,22 @@ use Rattle.trace.specs.declared.Header.{Header}
 use Rattle.counts.specs.declared.Counts.{Counts}
 use Rattle.queue.specs.Contents.{Contents}
 use Rattle.sequential.proofs.Run.{limits-opened}
-use Rattle.replay.specs.declared.Replayed.{Replayed}
+use Rattle.std.specs.Prelude.{Result, Ok, Err}
+use Rattle.number.specs.declared.refusal.Refusal.{Refusal}
+use Rattle.number.proofs.AnswerLaws.{refusals_positive}
 use Rattle.replay.specs.Events.{events_from}
-use Rattle.replay.specs.Replay.{Start, start_of, open_trace, prepare, replayed, Buffers, fits, replay_from}
-use Rattle.replay.specs.Outcome.{at_front, log_in, ReplayedWell, Replays}
+use Rattle.replay.specs.Replay.{Start, start_of, open_trace, prepare, Buffers, fits, replay_from}
+use Rattle.replay.specs.Outcome.{Replayed, replayed_as, at_front, log_in, ReplayedWell, Replays}
 use Rattle.number.proofs.ReplyLaws.{then_read_accepts, not_zero, refused_some}
 use Rattle.trace.proofs.Among.{events-among}
 use Rattle.replay.proofs.EventLaws.{events_few_from}
 use Rattle.replay.proofs.ReplayLaws.{replay-accepted, long-enough}
-use Rattle.printed.specs.declared.files.FilesPlayed.{FilesPlayed}
-use Rattle.printed.specs.declared.files.FilesPlayed.TheVariants.{TableFault, TraceFault, Run, NoRoom}
-use Rattle.printed.specs.Files.{most_bytes, most_words, Files, table_fault, trace_fault, run, start_files, trace_files, files, no_counts, run_of}
-use Rattle.printed.specs.Played.{has_room, zeroed, played_on, played_in, HasPlayed, of_trace}
+use Rattle.printed.specs.declared.files.FilesRun.{FilesRun}
+use Rattle.printed.specs.declared.files.FilesFault.{FilesFault}
+use Rattle.printed.specs.declared.files.FilesFault.TheVariants.{Table, Trace, NoRoom}
+use Rattle.number.specs.declared.refusal.Refusal.TheVariants.{TooShort}
+use Rattle.printed.specs.Files.{most_bytes, most_words, Files, table_fault, trace_fault, run, start_files, trace_files, files, no_counts, run_of, table_fault_text, trace_fault_text}
+use Rattle.printed.specs.Played.{has_room, zeroed, fault_line, played_on, played_in, HasPlayed, of_trace}
 use Rattle.printed.specs.Internal.{Room, Cleared, Playable}
 use Rattle.printed.proofs.PlayedLaws.{run-many, run_long}
 
@@ -86,31 +88,6 @@ cleared memory b h e =
     let l = length-replicate {A = ℕ} (length memory) 0 in
     rw e (record { room = record { words = rw l h.words; places = h.places }; zeros = rw l })
 
--- the first i words of a memory are made 0
-pub record ClearedTo (d : List ℕ) (i : ℕ) (memory : List ℕ) : Type 0 where
-  pub is : memory ≡ replicate i 0 ++ drop i d
-  pub few : i ≤ length d
-
-pub cleared_none : {d : List ℕ} → ClearedTo d 0 d
-cleared_none = record { is = refl; few = omega arith }
-
-module _ {d : List ℕ} {i : ℕ} {memory : List ℕ} (w : ClearedTo d i memory) where
-  pub cleared-long : length memory ≡ length d
-  cleared-long = rw (w.is, length-append, length-drop, length-replicate) (omega (arith, w.few))
-
-  pub cleared_more : i < length d → ClearedTo d (i + 1) (set memory i 0)
-  cleared_more h = record {
-    is = rw (w.is, drop-cons d i 0 h, set_at (replicate i 0) (get_or d i 0) (drop (suc i) d) 0 i (length-replicate i 0), add-one)
-        (sym (append_snoc (replicate i 0) 0 (drop (suc i) d)) ∙ ap (λ (l : List ℕ). l ++ drop (suc i) d)
-        (replicate-append-replicate i 1 0 ∙ ap (λ (k : ℕ). replicate k 0) (add-one i)));
-    few = omega arith;
-  }
-
-  pub cleared-end : length d ≤ i → memory ≡ zeroed d
-  cleared-end h =
-      let e : i ≡ length d = omega (arith, w.few) in
-      rw (w.is, e, drop-length, append-nil)
-
 -- the front of a memory all zero
 take-replicate : (n k : ℕ) → n ≤ k → take {A = ℕ} n (replicate k 0) ≡ replicate n 0
 take-replicate zero k h = refl
@@ -123,18 +100,18 @@ take-zeros memory n e h = ap (take n) e ∙ take-replicate n (length memory) h
 -- ---- what is told
 -- of the same files, and of a fault
 module _ (memory : List ℕ) (b : Buffers) {f : Files} where
-  pub told-as : {g : Files} {r : FilesPlayed} {memory₂ : List ℕ} {b₂ : Buffers} → f ≡ g
+  pub told-as : {g : Files} {r : Result FilesRun FilesFault} {memory₂ : List ℕ} {b₂ : Buffers} → f ≡ g
       → HasPlayed (played_on memory b g) r memory₂ b₂ → HasPlayed (played_on memory b f) r memory₂ b₂
   told-as e w = rw e w
 
-  pub told-table : {n : ℕ} → f ≡ table_fault n → HasPlayed (played_on memory b f) (TableFault n) memory b
-  told-table e = rw e (record { outcome = refl; memory_is = refl; buffers_are = refl })
+  pub told-table : (e : Refusal) → f ≡ table_fault (refusal_number e) → HasPlayed (played_on memory b f) (Err (Table e)) memory b
+  told-table e h = rw h (record { outcome = refl; memory_is = refl; buffers_are = refl })
 
-  pub told-trace : {n : ℕ} → f ≡ trace_fault n → HasPlayed (played_on memory b f) (TraceFault n) memory b
-  told-trace e = rw e (record { outcome = refl; memory_is = refl; buffers_are = refl })
+  pub told-trace : (e : Refusal) → f ≡ trace_fault (refusal_number e) → HasPlayed (played_on memory b f) (Err (Trace e)) memory b
+  told-trace e h = rw h (record { outcome = refl; memory_is = refl; buffers_are = refl })
 
   -- of a run on the memory once it is cleared
-  pub told-cleared : {s : Start} {r : FilesPlayed} {zeros memory₂ : List ℕ} {b₂ : Buffers} → f ≡ run s → zeros ≡ zeroed memory
+  pub told-cleared : {s : Start} {r : Result FilesRun FilesFault} {zeros memory₂ : List ℕ} {b₂ : Buffers} → f ≡ run s → zeros ≡ zeroed memory
       → HasPlayed (played_on zeros b f) r memory₂ b₂ → HasPlayed (played_on memory b f) r memory₂ b₂
   told-cleared e z w = rw e (rw (z, length-replicate) at (rw e at w))
 
@@ -144,51 +121,50 @@ module _ (memory : List ℕ) (b : Buffers) where
       → has_room memory b ≡ true
   enough m a g w = rw (le-leb _ _ m, le-leb _ _ a, le-leb _ _ g, le-leb _ _ w)
 
-  pub told-short : (f : Files) → has_room memory b ≡ false → HasPlayed (played_in memory b f) (NoRoom too_short) memory b
+  pub told-short : (f : Files) → has_room memory b ≡ false → HasPlayed (played_in memory b f) (Err (NoRoom TooShort)) memory b
   unfolding played_in
   told-short f h = rw h (record { outcome = refl; memory_is = refl; buffers_are = refl })
 
-  pub told_in : (f : Files) {r : FilesPlayed} {memory₂ : List ℕ} {b₂ : Buffers} → has_room memory b ≡ true
+  pub told_in : (f : Files) {r : Result FilesRun FilesFault} {memory₂ : List ℕ} {b₂ : Buffers} → has_room memory b ≡ true
       → HasPlayed (played_on memory b f) r memory₂ b₂ → HasPlayed (played_in memory b f) r memory₂ b₂
   unfolding played_in
   told_in f h w = rw h w
 
   -- what a caller learns who lent enough
-  pub room-told : (f : Files) {r r₂ : FilesPlayed} {memory₂ : List ℕ} {b₂ : Buffers} → has_room memory b ≡ true → r ≡ r₂
+  pub room-told : (f : Files) {r r₂ : Result FilesRun FilesFault} {memory₂ : List ℕ} {b₂ : Buffers} → has_room memory b ≡ true → r ≡ r₂
       → HasPlayed (played_in memory b f) r memory₂ b₂ → HasPlayed (played_on memory b f) r₂ memory₂ b₂
   unfolding played_in
   room-told f h e w = rw e at (rw h at w)
 
 -- ---- which files they were, from what was handed back
 -- a run: what was told and left of it
-pub record Ran (memory₀ : List ℕ) (b₀ : Buffers) (f : Files) (events words : ℕ) (c : Counts) (memory : List ℕ) (b : Buffers) : Type 0 where
+pub record Ran (memory₀ : List ℕ) (b₀ : Buffers) (f : Files) (r : FilesRun) (memory : List ℕ) (b : Buffers) : Type 0 where
   pub start : Start
   pub is : f ≡ run start
-  pub many : events ≡ length (run_of start).log
-  pub long : words ≡ length (run_of start).left.machine.memory
-  pub counts : c ≡ (run_of start).left.counts
+  pub many : r.events ≡ length (run_of start).log
+  pub long : r.memory_length ≡ length (run_of start).left.machine.memory
+  pub counts : r.counts ≡ (run_of start).left.counts
   pub memory_is : memory ≡ at_front (run_of start).left.machine.memory (zeroed memory₀)
   pub buffers_are : b ≡ log_in (run_of start).log b₀
 
 module _ (memory₀ : List ℕ) (b₀ : Buffers) {memory : List ℕ} {b : Buffers} where
-  pub table-told : (f : Files) {n : ℕ} → HasPlayed (played_on memory₀ b₀ f) (TableFault n) memory b → f ≡ table_fault n
+  pub table-told : (f : Files) {e : Refusal} → HasPlayed (played_on memory₀ b₀ f) (Err (Table e)) memory b → f ≡ table_fault (refusal_number e)
   table-told (table_fault k) w = let o = w.outcome in cc
   table-told (trace_fault k) w = let o = w.outcome in let z : ◌≡◌ {A = ℕ} 0 1 = cc in absurd (omega arith)
   table-told (run s) w = let o = w.outcome in let z : ◌≡◌ {A = ℕ} 0 1 = cc in absurd (omega arith)
 
-  pub trace-told : (f : Files) {n : ℕ} → HasPlayed (played_on memory₀ b₀ f) (TraceFault n) memory b → f ≡ trace_fault n
+  pub trace-told : (f : Files) {e : Refusal} → HasPlayed (played_on memory₀ b₀ f) (Err (Trace e)) memory b → f ≡ trace_fault (refusal_number e)
   trace-told (table_fault k) w = let o = w.outcome in let z : ◌≡◌ {A = ℕ} 0 1 = cc in absurd (omega arith)
   trace-told (trace_fault k) w = let o = w.outcome in cc
   trace-told (run s) w = let o = w.outcome in let z : ◌≡◌ {A = ℕ} 0 1 = cc in absurd (omega arith)
 
-  pub run-told : (f : Files) {events words : ℕ} {c : Counts} → HasPlayed (played_on memory₀ b₀ f) (Run events words c) memory b
-      → Ran memory₀ b₀ f events words c memory b
+  pub run-told : (f : Files) {r : FilesRun} → HasPlayed (played_on memory₀ b₀ f) (Ok r) memory b → Ran memory₀ b₀ f r memory b
   run-told (table_fault k) w = let o = w.outcome in let z : ◌≡◌ {A = ℕ} 0 1 = cc in absurd (omega arith)
   run-told (trace_fault k) w = let o = w.outcome in let z : ◌≡◌ {A = ℕ} 0 1 = cc in absurd (omega arith)
-  run-told (run s) {events} {words} {c} w =
+  run-told (run s) {r} w =
       let o = w.outcome in
-      let many : events ≡ length s.events = cc in
-      let long : words ≡ s.queue.memory_length = cc in
+      let many : r.events ≡ length s.events = cc in
+      let long : r.memory_length ≡ s.queue.memory_length = cc in
       record {
         start = s;
         is = refl;
@@ -200,67 +176,76 @@ module _ (memory₀ : List ℕ) (b₀ : Buffers) {memory : List ℕ} {b : Buffer
       }
 
   -- with room for every file, a want of room is never told
-  pub no-room-told : (f : Files) {n : ℕ} → HasPlayed (played_on memory₀ b₀ f) (NoRoom n) memory b → ⊥
+  pub no-room-told : (f : Files) {e : Refusal} → HasPlayed (played_on memory₀ b₀ f) (Err (NoRoom e)) memory b → ⊥
   no-room-told (table_fault k) w = let o = w.outcome in let z : ◌≡◌ {A = ℕ} 0 1 = cc in omega arith
   no-room-told (trace_fault k) w = let o = w.outcome in let z : ◌≡◌ {A = ℕ} 0 1 = cc in omega arith
   no-room-told (run s) w = let o = w.outcome in let z : ◌≡◌ {A = ℕ} 0 1 = cc in omega arith
 
+  -- a fault's line is what is said of the files, where that is the line of a fault of either
+  pub fault-told : (say : Files → List ℕ) → ((n : ℕ) → say (table_fault n) ≡ table_fault_text n) → ((n : ℕ) → say (trace_fault n) ≡ trace_fault_text n)
+      → (f : Files) (e : FilesFault) → HasPlayed (played_on memory₀ b₀ f) (Err e) memory b → fault_line e ≡ say f
+  fault-told say tables traces f (Table e) w = sym (ap say (table-told f w) ∙ tables (refusal_number e))
+  fault-told say tables traces f (Trace e) w = sym (ap say (trace-told f w) ∙ traces (refusal_number e))
+  fault-told say tables traces f (NoRoom e) w = absurd (no-room-told f w)
+
 -- ---- playing events
--- what is told of the events, where they were refused and where they were played
-pub record PlaysAs (q : Contents) (trace : List ℕ) (at : ℕ) (memory : List ℕ) (b : Buffers) (words : ℕ) (r : Replayed) (left : List ℕ)
-    (b₂ : Buffers) : Type 0 where
-  pub fault : (r.answer ≡ 0 → ⊥) → HasPlayed (played_on memory b (start_files (start_of q (events_from trace at)))) (TraceFault r.answer) left b₂
-  pub well : r.answer ≡ 0
-      → HasPlayed (played_on memory b (start_files (start_of q (events_from trace at)))) (Run r.events words r.counts) left b₂
+-- what playing events answers, by what the replay of them does
+abbrev pub played_as : Result ℕ Refusal → ℕ → Counts → Result FilesRun FilesFault
+played_as (Ok events) words c = Ok (record { events = events; memory_length = words; counts = c })
+played_as (Err e) words c = Err (Trace e)
 
 -- a replay on the memory's front, with room for every event, is refused for an event alone
-module _ (q : Contents) {trace memory : List ℕ} (at : ℕ) {b : Buffers} (words : ℕ) (r : Replayed) (front₂ : List ℕ) (b₂ : Buffers)
+module _ (q : Contents) {trace memory : List ℕ} (at : ℕ) {b : Buffers} (words : ℕ) (c : Counts) (front₂ : List ℕ) (b₂ : Buffers)
     (lent : Playable q trace memory b) (are : words ≡ q.memory_length) where
-  abbrev Plays : Reply (List Event) → Type 0
-  Plays g = Replays (take words memory) no_counts b (replay_from q g (take words memory) no_counts b) r front₂ b₂
+  abbrev Plays : Result ℕ Refusal → Reply (List Event) → Type 0
+  Plays r g = Replays (take words memory) no_counts b (replay_from q g (take words memory) no_counts b) (replayed_as r c) front₂ b₂
 
-  abbrev Told : Files → FilesPlayed → Type 0
-  Told f played = HasPlayed (played_on memory b f) played (front₂ ++ drop words memory) b₂
+  abbrev Told : Result ℕ Refusal → Reply (List Event) → Type 0
+  Told r g = HasPlayed (played_on memory b (start_files (start_of q g))) (played_as r words c) (front₂ ++ drop words memory) b₂
 
   zeros : take words memory ≡ replicate q.memory_length 0
   zeros =
       let few : words ≤ length memory = omega (arith, lent.memory_few, lent.cleared.room.words, are) in
       take-zeros memory words lent.cleared.zeros few ∙ ap (λ (n : ℕ). replicate n 0) are
 
-  runs : (s : Start) → s.queue ≡ q → ReplayedWell (run_of s) b r front₂ b₂ → Told (run s) (Run r.events words r.counts)
-  runs s same w =
-      let many = run-many s in
-      let long : length (run_of s).left.machine.memory ≡ words = run_long s ∙ ap (λ (c : Contents). c.memory_length) same ∙ sym are in
-      record {
-        outcome = rw (w.outcome, many, sym long, run_long s);
-        memory_is = rw (w.memory_is, sym long) (ap (at_front (run_of s).left.machine.memory) lent.cleared.zeros);
-        buffers_are = w.buffers_are;
-      }
+  -- events that can be read are played
+  well : (r : Result ℕ Refusal) (es : List Event) → events_from trace at ≡ accept es → Plays r (accept es)
+      → ReplayedWell (run_of (record { queue = q; events = es })) b (replayed_as r c) front₂ b₂
+  well r es d v =
+      let few : length es ≤ most_bytes = omega (arith, events_few_from trace at d, lent.short) in
+      let long : length (take words memory) ≡ q.memory_length = ap length zeros ∙ length-replicate q.memory_length 0 in
+      let (a, g, w) = room_for most_bytes b lent.cleared.room.places in
+      let fit = long-enough (length es) b (omega (arith, few, a)) (omega (arith, few, g)) (omega (arith, few, w)) in
+      rw zeros at (rw (replay-accepted q (accept es) (take words memory) no_counts b refl long fit) at v)
 
-  pub plays : Plays (events_from trace at) → PlaysAs q trace at memory b words r (front₂ ++ drop words memory) b₂
-  plays v = go (events_from trace at) refl v
+  pub plays-fault : (e : Refusal) → Plays (Err e) (events_from trace at) → Told (Err e) (events_from trace at)
+  plays-fault e v = go (events_from trace at) refl v
     where
-      go : (g : Reply (List Event)) → events_from trace at ≡ g → Plays g → PlaysAs q trace at memory b words r (front₂ ++ drop words memory) b₂
-      go (refuse n) d v =
-          let answer : r.answer ≡ n = ap (λ (x : Replayed). x.answer) v.outcome in
-          let proper = refused_some (events_from trace at) (events-among not_zero refl refl refl refl _ (drop at trace)) d in
-          record {
-            fault = λ apart. rw d (record {
-              outcome = ap of_trace answer;
-              memory_is = rw v.memory_is (take-append-drop words memory);
-              buffers_are = v.buffers_are;
-            });
-            well = λ nought. absurd (proper (sym answer ∙ nought));
-          }
+      go : (g : Reply (List Event)) → events_from trace at ≡ g → Plays (Err e) g → Told (Err e) g
+      go (refuse n) d v = record {
+        outcome = ap (λ (x : Replayed). of_trace x.answer) v.outcome;
+        memory_is = rw v.memory_is (take-append-drop words memory);
+        buffers_are = v.buffers_are;
+      }
       go (accept es) d v =
-          let few : length es ≤ most_bytes = omega (arith, events_few_from trace at d, lent.short) in
-          let long : length (take words memory) ≡ q.memory_length = ap length zeros ∙ length-replicate q.memory_length 0 in
-          let (a, g, w) = room_for most_bytes b lent.cleared.room.places in
-          let fit = long-enough (length es) b (omega (arith, few, a)) (omega (arith, few, g)) (omega (arith, few, w)) in
+          let z : refusal_number e ≡ 0 = ap (λ (x : Replayed). x.answer) (well (Err e) es d v).outcome in
+          absurd (omega (arith, z, refusals_positive e))
+
+  pub plays-run : (events : ℕ) → Plays (Ok events) (events_from trace at) → Told (Ok events) (events_from trace at)
+  plays-run events v = go (events_from trace at) refl v
+    where
+      go : (g : Reply (List Event)) → events_from trace at ≡ g → Plays (Ok events) g → Told (Ok events) g
+      go (refuse n) d v =
+          let nought : n ≡ 0 = sym (ap (λ (x : Replayed). x.answer) v.outcome) in
+          absurd (refused_some (events_from trace at) (events-among not_zero refl refl refl refl _ (drop at trace)) d nought)
+      go (accept es) d v =
           let s : Start = record { queue = q; events = es } in
-          let u : ReplayedWell (replayed s (take words memory) no_counts) b r front₂ b₂ =
-          rw (replay-accepted q (accept es) (take words memory) no_counts b refl long fit) at v in
+          let w = well (Ok events) es d v in
+          let many : events ≡ length s.events = ap (λ (x : Replayed). x.events) w.outcome ∙ run-many s in
+          let counts : c ≡ (run_of s).left.counts = ap (λ (x : Replayed). x.counts) w.outcome in
+          let long : length (run_of s).left.machine.memory ≡ words = run_long s ∙ sym are in
           record {
-            fault = λ apart. absurd (apart (ap (λ (x : Replayed). x.answer) u.outcome));
-            well = λ nought. rw d (runs s refl (rw zeros at u));
+            outcome = rw (many, counts, are) refl;
+            memory_is = rw (w.memory_is, sym long) (ap (at_front (run_of s).left.machine.memory) lent.cleared.zeros);
+            buffers_are = w.buffers_are;
           }

@@ -6,15 +6,14 @@ use mathlib.Core.List.{List, [], ◌∷◌, ◌++◌, map, append_assoc, append-
 use mathlib.Core.Option.{Option, none, some}
 use native.Mathlib.Omega.{arith}
 use lib.Dec.{eqb}
-use native.Mathlib.Nat.{add-zero, zero-add}
+use native.Mathlib.Nat.{add-zero}
 use native.Mathlib.Numerals.{add-one}
-use lib.ListN.{length, get_or, take, drop, length-append}
-use lib.Seq.{take-suc, length-take-le, append_snoc, take_at}
+use lib.ListN.{length, get_or, take, length-append}
+use lib.Seq.{take-suc, length-take-le, append_snoc}
 use borrow.Author.Tests.{eq-eqb, ne_eqb}
 use Rattle.number.specs.Texts.{bytes, decimal}
 use Rattle.number.specs.Basics.{pick}
-use Rattle.number.specs.Number.{Puts, PutIfFits}
-use Rattle.number.proofs.SpliceLaws.{splice_front}
+use Rattle.number.specs.Number.{PutIfFits}
 use Rattle.counts.specs.declared.Counts.{Counts}
 use Rattle.counts.specs.Counts.{share}
 use Rattle.replay.specs.Playing.{Logged, answer_of, given_of, word_of, given_in, word_in}
@@ -106,6 +105,20 @@ module _ (a g w : List ℕ) (count : ℕ) (ha : count ≤ length a) (hg : count 
       sym (ap (event_lines 1) t ∙ events_snoc 1 (take i (rows a g w)) (get_or (rows a g w) i no_row)
       ∙ rw (rows_at a g w i (omega arith) (omega arith) (omega arith), ← s))
 
+-- all rows; those of the first events
+pub rows_whole : (a g w : List ℕ) → take (length a) (rows a g w) ≡ rows a g w
+rows_whole [] g w = refl
+rows_whole (x ∷ a) [] w = refl
+rows_whole (x ∷ a) (y ∷ g) [] = refl
+rows_whole (x ∷ a) (y ∷ g) (z ∷ w) = ap (λ (ls : List Logged). logged_as x y z ∷ ls) (rows_whole a g w)
+
+pub rows_front : (a g w : List ℕ) (n : ℕ) → rows (take n a) (take n g) (take n w) ≡ take n (rows a g w)
+rows_front a g w zero = refl
+rows_front [] g w (suc n) = refl
+rows_front (x ∷ a) [] w (suc n) = refl
+rows_front (x ∷ a) (y ∷ g) [] (suc n) = refl
+rows_front (x ∷ a) (y ∷ g) (z ∷ w) (suc n) = ap (λ (ls : List Logged). logged_as x y z ∷ ls) (rows_front a g w n)
+
 -- the rows are the log
 pub rows_log : (ls : List Logged) (a g w : List ℕ) → take (length ls) (rows (map answer_of ls ++ a) (map given_of ls ++ g) (map word_of ls ++ w)) ≡ ls
 rows_log [] a g w = refl
@@ -118,9 +131,6 @@ rows_log (l ∷ ls) a g w = ap₂ (λ (h : Logged) (t : List Logged). h ∷ t) (
 -- ---- words
 abbrev pub word_space : List ℕ
 word_space = 119 ∷ 111 ∷ 114 ∷ 100 ∷ 32 ∷ []
-
-pub word-zero : (a w : ℕ) → w ≡ 0 → word_line a w ≡ []
-word-zero a w h = rw (eq-eqb w 0 h)
 
 pub word_some : (a w : ℕ) → (w ≡ 0 → ⊥) → item word_space a 32 ++ item [] w 10 ≡ word_line a w
 word_some a w h = rw (ne_eqb w 0 h) (item-then word_space a 32 (item [] w 10))
@@ -178,12 +188,6 @@ pub trace-line : (n : ℕ) → item (116 ∷ 114 ∷ 97 ∷ 99 ∷ 101 ∷ 32 �
 trace-line n = refl
 
 module _ (t : Bool) (n : ℕ) where
-  pub fault-table : t ≡ true → item (116 ∷ 97 ∷ 98 ∷ 108 ∷ 101 ∷ 32 ∷ []) n 10 ≡ fault_text t n
-  fault-table h = rw h (table-line n)
-
-  pub fault-trace : t ≡ false → item (116 ∷ 114 ∷ 97 ∷ 99 ∷ 101 ∷ 32 ∷ []) n 10 ≡ fault_text t n
-  fault-trace h = rw h (trace-line n)
-
   -- a fault's number has at most three digits
   pub fault-few : n < 256 → length (fault_text t n) ≤ 10
   fault-few h = go t
@@ -194,12 +198,6 @@ module _ (t : Bool) (n : ℕ) where
       go : (t : Bool) → length (fault_text t n) ≤ 10
       go true = omega (arith, length-append (decimal n) (10 ∷ []), digits)
       go false = omega (arith, length-append (decimal n) (10 ∷ []), digits)
-
--- what was put at a buffer's front stands there
-pub puts-taken : {d xs : List ℕ} {e : ℕ} {out : List ℕ} → Puts d 0 xs e out → take e out ≡ xs
-puts-taken {d} {xs} {e} w =
-    let long : length xs ≡ e = sym (w.ends ∙ zero-add (length xs)) in
-    ap (take e) (w.is ∙ splice_front d xs) ∙ take_at xs (drop (length xs) d) e long
 
 -- the same bytes, written otherwise
 pub fits_as : {d : List ℕ} {p : ℕ} {xs ys : List ℕ} {e : ℕ} {out : List ℕ} → xs ≡ ys → PutIfFits d p xs e out → PutIfFits d p ys e out

@@ -11,7 +11,7 @@ use Rattle.number.specs.Refusal.{too_short}
 use Rattle.number.specs.Reply.{accept}
 use Rattle.number.specs.Number.{unwritten, Puts}
 use Rattle.number.proofs.SpliceLaws.{splice_front}
-use Rattle.counts.specs.declared.Counts.{Counts}
+use Rattle.printed.specs.declared.files.FilesRun.{FilesRun}
 use Rattle.replay.specs.Playing.{Logged, answer_of, given_of, word_of}
 use Rattle.replay.specs.Replay.{Buffers}
 use Rattle.replay.specs.Outcome.{at_front}
@@ -29,16 +29,16 @@ front-few : (f : Logged → ℕ) (l : List Logged) (d : List ℕ) → length l �
 front-few f l d = omega (arith, length-append (map f l) (drop (length (map f l)) d), length-map l f)
 
 -- a run as it was left: it fits in what was lent, and its lines are the text
-pub record RunLeft (f : Files) (events words : ℕ) (c : Counts) (memory : List ℕ) (b : Buffers) : Type 0 where
-  pub answers : events ≤ length b.answers
-  pub given : events ≤ length b.given
-  pub values : events ≤ length b.values
-  pub words-few : words ≤ length memory
-  pub text : run_text (take events (rows b.answers b.given b.values)) (take words memory) c ≡ files_text f
+pub record RunLeft (f : Files) (r : FilesRun) (memory : List ℕ) (b : Buffers) : Type 0 where
+  pub answers : r.events ≤ length b.answers
+  pub given : r.events ≤ length b.given
+  pub values : r.events ≤ length b.values
+  pub words-few : r.memory_length ≤ length memory
+  pub text : run_text (take r.events (rows b.answers b.given b.values)) (take r.memory_length memory) r.counts ≡ files_text f
 
-pub run_left : {memory₀ : List ℕ} {b₀ : Buffers} {f : Files} {events words : ℕ} {c : Counts} {memory : List ℕ} {b : Buffers}
-    → Ran memory₀ b₀ f events words c memory b → RunLeft f events words c memory b
-run_left {memory₀} {b₀} {words = words} w =
+pub run_left : {memory₀ : List ℕ} {b₀ : Buffers} {f : Files} {played : FilesRun} {memory : List ℕ} {b : Buffers}
+    → Ran memory₀ b₀ f played memory b → RunLeft f played memory b
+run_left {memory₀} {b₀} {played = played} w =
     let r = run_of w.start in
     let m = r.left.machine.memory in
     rw (w.is, w.memory_is, w.buffers_are, w.many, w.counts) (record {
@@ -46,7 +46,7 @@ run_left {memory₀} {b₀} {words = words} w =
       given = front-few given_of r.log b₀.given;
       values = front-few word_of r.log b₀.values;
       words-few = omega (arith, length-append m (drop (length m) (zeroed memory₀)), w.long);
-      text = rw (rows_log r.log _ _ _, take_at m (drop (length m) (zeroed memory₀)) words (sym w.long));
+      text = rw (rows_log r.log _ _ _, take_at m (drop (length m) (zeroed memory₀)) played.memory_length (sym w.long));
     })
 
 -- ---- what printing hands back

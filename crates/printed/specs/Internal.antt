@@ -1,11 +1,16 @@
 -- What the crate's own functions promise each other: nothing here is promised to a caller from outside.
-use Rattle.std.specs.Prelude.{ℕ, ◌≤◌, ◌≡◌, true, List, [], ◌∷◌, ◌++◌, eqb, length}
+use Rattle.std.specs.Prelude.{ℕ, ◌≤◌, ◌≡◌, true, Result, Ok, Err, List, [], ◌∷◌, ◌++◌, eqb, length}
 use Rattle.std.proofs.Math.Option.{none, some}
 use Rattle.number.specs.Basics.{pick}
 use Rattle.number.specs.Texts.{decimal}
 use Rattle.queue.specs.Contents.{Contents}
 use Rattle.replay.specs.Playing.{Logged}
 use Rattle.replay.specs.Replay.{Buffers, fits}
+use Rattle.number.specs.declared.refusal.Refusal.{Refusal}
+use Rattle.printed.specs.declared.files.FilesRun.{FilesRun}
+use Rattle.printed.specs.declared.files.FilesFault.{FilesFault}
+use Rattle.printed.specs.declared.files.FilesFault.TheVariants.{Trace}
+use Rattle.printed.specs.declared.files.PlayRoom.{PlayRoom}
 use Rattle.printed.specs.Files.{most_bytes, most_words}
 use Rattle.printed.specs.Played.{zeroed}
 use Rattle.printed.specs.Outcome.{most_text}
@@ -24,14 +29,18 @@ rows (a ∷ answers) [] values = []
 rows (a ∷ answers) (g ∷ given) [] = []
 rows (a ∷ answers) (g ∷ given) (w ∷ values) = logged_as a g w ∷ rows answers given values
 
--- what a replay put down of so many events, no more than a file has, a memory, and room for their text
-pub record RunFits (count : ℕ) (answers given values memory out : List ℕ) : Type 0 where
-  pub answers_hold : count ≤ length answers
-  pub given_hold : count ≤ length given
-  pub values_hold : count ≤ length values
-  pub few : count ≤ most_bytes
-  pub memory_few : length memory ≤ most_words
+-- a run whose events and words stand at the front of the room where it was played, and room for their text
+pub record RunFits (run : FilesRun) (left : PlayRoom) (out : List ℕ) : Type 0 where
+  pub events_hold : run.events ≤ length left.answers
+  pub given_hold : run.events ≤ length left.given
+  pub values_hold : run.events ≤ length left.values
+  pub words_hold : run.memory_length ≤ length left.memory
   pub room : most_text ≤ length out
+
+-- what playing a trace answers, where only the trace can be at fault
+abbrev pub of_the_trace : Result FilesRun Refusal → Result FilesRun FilesFault
+of_the_trace (Ok r) = Ok r
+of_the_trace (Err e) = Err (Trace e)
 
 -- a memory and buffers that have room for every file
 pub record Room (memory : List ℕ) (b : Buffers) : Type 0 where

@@ -1,17 +1,16 @@
 // Playing a table file and a trace file: which fault they have, or the run that they are.
-ghost use Rattle.std.specs.Prelude.{◌≡◌, ◌&&◌, leb, length, replicate};
+ghost use Rattle.std.specs.Prelude.{◌≡◌, ◌&&◌, leb, replicate};
 ghost use Rattle.table.specs.Table.{groups_of};
 ghost use Rattle.queue.specs.Contents.{contents_of};
 ghost use Rattle.replay.specs.Events.{events_from};
 ghost use Rattle.replay.specs.Replay.{start_of};
 ghost use Rattle.printed.specs.Files.{most_bytes, most_words, start_files, trace_files, files};
-ghost use Rattle.printed.specs.Played.{played_on, played_in, HasPlayed};
-ghost use Rattle.printed.specs.Internal.{Room, Playable};
+ghost use Rattle.printed.specs.Played.{played_on, played_in, lent_by, HasPlayed};
+ghost use Rattle.printed.specs.Internal.{Room, Playable, of_the_trace};
 
 use counts::Counts;
-use number::refusal::{FILE_TOO_LONG, TOO_SHORT};
+use number::refusal::Refusal;
 use queue::Queue;
-use replay::EventCount;
 use replay::counting::count_events;
 use replay::preparing::open_trace;
 use replay::replaying::replay_from;
@@ -24,64 +23,37 @@ pub const MOST_BYTES: usize = 16384;
 // No memory that a queue is opened for is longer.
 pub const MOST_WORDS: usize = 4096;
 
-// What playing the files gave: a fault of the table, a fault of the trace, a run, or nothing, since what was lent is too short.
-#[derive(Clone, Copy)]
-pub enum FilesPlayed {
-    TableFault(u8),
-    TraceFault(u8),
-    Run {
-        events: usize,
-        memory_length: usize,
-        counts: Counts,
-    },
-    NoRoom(u8),
+// A run of the files: how many events were played, the memory length, and the counts that it leaves.
+#[derive(Clone, Copy, PartialEq, Eq)]
+pub struct FilesRun {
+    pub events: usize,
+    pub memory_length: usize,
+    pub counts: Counts,
 }
 
-// Buffers with room for an answer to each event of a file, and for its value.
-pub fn no_answers() -> [u8; MOST_BYTES]
-    ensures { result ≡ replicate most_bytes 0 }
-{
-    [0; MOST_BYTES]
+// Why the files are no run: a fault of the table, a fault of the trace, or what was lent is too short.
+#[derive(Clone, Copy, Debug, PartialEq, Eq)]
+pub enum FilesFault {
+    Table(Refusal),
+    Trace(Refusal),
+    NoRoom(Refusal),
 }
 
-pub fn no_values() -> [u32; MOST_BYTES]
-    ensures { result ≡ replicate most_bytes 0 }
-{
-    [0; MOST_BYTES]
-}
-
-// A memory with room for every other.
-pub fn no_memory() -> [u32; MOST_WORDS]
-    ensures { result ≡ replicate most_words 0 }
-{
-    [0; MOST_WORDS]
+// What playing files is lent, with room for every two files: a memory, and for each event its answer, 1 or 0 as it gave a value or
+// none, and the value or 0. These are three runs, as a replay is lent them by C.
+#[derive(Drop)]
+pub struct PlayRoom {
+    pub memory: [u32; MOST_WORDS],
+    pub answers: [u8; MOST_BYTES],
+    pub given: [u8; MOST_BYTES],
+    pub values: [u32; MOST_BYTES],
 }
 
 // A memory and buffers of these lengths have room for every file.
 fn have_room(memory: usize, answers: usize, given: usize, values: usize) -> bool
     ensures { result ≡ leb most_words memory && (leb most_bytes answers && leb most_bytes given && leb most_bytes values) }
 {
-    if memory < MOST_WORDS {
-        return false;
-    }
-    if answers < MOST_BYTES {
-        return false;
-    }
-    if given < MOST_BYTES {
-        return false;
-    }
-    MOST_BYTES <= values
-}
-
-// "Memory all zero": what an earlier run left does not show in this one.
-fn clear(memory: &mut [u32])
-    ensures { memory.new ≡ replicate (length memory.old) 0 }
-{
-    let mut i: usize = 0;
-    while i < memory.len() {
-        memory[i] = 0;
-        i += 1;
-    }
+    MOST_WORDS <= memory && MOST_BYTES <= answers && MOST_BYTES <= given && MOST_BYTES <= values
 }
 
 // Plays the events of a trace from a place on, on a queue and a memory all zero.
@@ -93,33 +65,26 @@ fn play_events(
     answers: &mut [u8],
     given: &mut [u8],
     values: &mut [u32],
-) -> FilesPlayed
+) -> Result<FilesRun, Refusal>
     requires { Playable (contents_of queue) trace.now memory.old (record { answers = answers.old; given = given.old; values = values.old }) }
     ensures { HasPlayed (played_on memory.old
         (record { answers = answers.old; given = given.old; values = values.old })
-        (start_files (start_of (contents_of queue) (events_from trace.now at)))) result memory.new
+        (start_files (start_of (contents_of queue) (events_from trace.now at)))) (of_the_trace result) memory.new
         (record { answers = answers.new; given = given.new; values = values.new }) }
 {
-    let frame = queue.frame;
-    let words = frame.memory_length as usize;
-    let none = Counts {
-        loads: 0,
-        forwarded: 0,
-    };
-    let front = &mut memory[..words];
-    let played = replay_from(queue, trace, at, front, none, answers, given, values);
-    if played.answer != 0 {
-        return FilesPlayed::TraceFault(played.answer);
-    }
-    let counts = played.counts;
-    FilesPlayed::Run {
-        events: played.events,
-        memory_length: words,
+    let memory_length = queue.frame.memory_length as usize;
+    let front = &mut memory[..memory_length];
+    let mut counts = Counts::default();
+    let events = replay_from(queue, trace, at, front, &mut counts, answers, given, values)?;
+    Ok(FilesRun {
+        events,
+        memory_length,
         counts,
-    }
+    })
 }
 
-// Plays a trace, once its table is read. Every fault is found before anything that was lent is changed; then the memory is cleared.
+// Plays a trace, once its table is read. Every fault is found before anything that was lent is changed; then the memory is cleared:
+// "memory all zero", so what an earlier run left does not show in this one.
 fn play_trace(
     table: Table,
     trace: &[u8],
@@ -127,29 +92,20 @@ fn play_trace(
     answers: &mut [u8],
     given: &mut [u8],
     values: &mut [u32],
-) -> FilesPlayed
+) -> Result<FilesRun, Refusal>
     requires { Room memory.old (record { answers = answers.old; given = given.old; values = values.old }) }
     ensures { HasPlayed (played_on memory.old
         (record { answers = answers.old; given = given.old; values = values.old })
-        (trace_files (groups_of table) trace.now)) result memory.new
+        (trace_files (groups_of table) trace.now)) (of_the_trace result) memory.new
         (record { answers = answers.new; given = given.new; values = values.new }) }
 {
     if MOST_BYTES < trace.len() {
-        return FilesPlayed::TraceFault(FILE_TOO_LONG);
+        return Err(Refusal::FileTooLong);
     }
-    let opened = open_trace(table, trace);
-    if opened.answer != 0 {
-        return FilesPlayed::TraceFault(opened.answer);
-    }
-    let queue = opened.queue;
-    let count = count_events(trace, opened.at);
-    match count {
-        EventCount::Events(_) => {
-            clear(memory);
-            play_events(queue, trace, opened.at, memory, answers, given, values)
-        }
-        EventCount::BadEvent(number) => FilesPlayed::TraceFault(number),
-    }
+    let (queue, at) = open_trace(table, trace)?;
+    count_events(trace, at)?;
+    memory.fill(0);
+    play_events(queue, trace, at, memory, answers, given, values)
 }
 
 // Plays both files' bytes. It is lent a memory of at least `MOST_WORDS` words and three buffers of at least `MOST_BYTES` places;
@@ -163,22 +119,52 @@ pub fn play_files(
     answers: &mut [u8],
     given: &mut [u8],
     values: &mut [u32],
-) -> FilesPlayed
+) -> Result<FilesRun, FilesFault>
     ensures { HasPlayed (played_in memory.old
         (record { answers = answers.old; given = given.old; values = values.old })
         (files table.now trace.now)) result memory.new
         (record { answers = answers.new; given = given.new; values = values.new }) }
 {
     if !have_room(memory.len(), answers.len(), given.len(), values.len()) {
-        return FilesPlayed::NoRoom(TOO_SHORT);
+        return Err(FilesFault::NoRoom(Refusal::TooShort));
     }
     if MOST_BYTES < table.len() {
-        return FilesPlayed::TableFault(FILE_TOO_LONG);
+        return Err(FilesFault::Table(Refusal::FileTooLong));
     }
-    let read = read_table(table);
-    if read.answer != 0 {
-        return FilesPlayed::TableFault(read.answer);
+    let groups = read_table(table).map_err(FilesFault::Table)?;
+    play_trace(groups, trace, memory, answers, given, values).map_err(FilesFault::Trace)
+}
+
+impl PlayRoom {
+    // It is empty: all of it is 0.
+    pub fn new() -> PlayRoom
+        ensures { result ≡ record {
+          memory = replicate most_words 0;
+          answers = replicate most_bytes 0;
+          given = replicate most_bytes 0;
+          values = replicate most_bytes 0;
+        } }
+    {
+        PlayRoom {
+            memory: [0; MOST_WORDS],
+            answers: [0; MOST_BYTES],
+            given: [0; MOST_BYTES],
+            values: [0; MOST_BYTES],
+        }
     }
-    let groups = read.table;
-    play_trace(groups, trace, memory, answers, given, values)
+
+    // Plays both files' bytes here. There is room for them, so only a file can be at fault.
+    pub fn play(&mut self, table: &[u8], trace: &[u8]) -> Result<FilesRun, FilesFault>
+        ensures { HasPlayed (played_on self.old.memory (lent_by self.old) (files table.now trace.now)) result self.new.memory
+            (lent_by self.new) }
+    {
+        play_files(
+            table,
+            trace,
+            &mut self.memory,
+            &mut self.answers,
+            &mut self.given,
+            &mut self.values,
+        )
+    }
 }

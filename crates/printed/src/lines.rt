@@ -3,10 +3,12 @@ ghost use Rattle.std.specs.Prelude.{◌+◌, ◌*◌, ◌≤◌, length, take};
 ghost use Rattle.printed.specs.Text.{event_line, event_lines, word_line, word_lines, counts_line, run_text};
 ghost use Rattle.number.specs.Number.{Puts, PutIfFits};
 ghost use Rattle.printed.specs.Files.{fault_text};
+ghost use Rattle.printed.specs.Played.{fault_line};
 ghost use Rattle.printed.specs.Internal.{item, logged_as, rows, RunFits};
 
+use crate::files::{FilesFault, FilesRun, PlayRoom};
 use crate::put::put_item;
-use counts::{Counts, share};
+use counts::Counts;
 use number::texts::put_bytes;
 
 // Puts an event's line: its number, its answer, and the value or `-`.
@@ -22,18 +24,15 @@ fn put_event(out: &mut [u8], at: usize, number: u64, answer: u8, given: u8, word
     put_bytes(out, place, b"-\n")
 }
 
-// Puts the lines of the first events, from what a replay put down of them.
-fn put_events(out: &mut [u8], answers: &[u8], given: &[u8], values: &[u32], count: usize) -> usize
-    requires { (count ≤ length answers.now) × (count ≤ length given.now) × (count ≤ length values.now)
-        × (63 * count ≤ length out.old) }
-    ensures { Puts out.old 0 (event_lines 1 (take count (rows answers.now given.now values.now)))
-        result out.new }
+// Puts the lines of events, from what a replay put down of each: three runs, as it was lent them.
+fn put_events(out: &mut [u8], answers: &[u8], given: &[u8], values: &[u32]) -> usize
+    requires { (length answers.now ≤ length given.now) × (length answers.now ≤ length values.now)
+        × (63 * length answers.now ≤ length out.old) }
+    ensures { Puts out.old 0 (event_lines 1 (rows answers.now given.now values.now)) result out.new }
 {
     let mut place: usize = 0;
-    let mut i: usize = 0;
-    while i < count {
-        place = put_event(out, place, i as u64 + 1, answers[i], given[i], values[i]);
-        i += 1;
+    for (i, &answer) in answers.iter().enumerate() {
+        place = put_event(out, place, i as u64 + 1, answer, given[i], values[i]);
     }
     place
 }
@@ -56,10 +55,8 @@ fn put_words(out: &mut [u8], at: usize, memory: &[u32]) -> usize
     ensures { Puts out.old at (word_lines 0 memory.now) result out.new }
 {
     let mut place = at;
-    let mut i: usize = 0;
-    while i < memory.len() {
-        place = put_word(out, place, i as u64, memory[i]);
-        i += 1;
+    for (address, &word) in memory.iter().enumerate() {
+        place = put_word(out, place, address as u64, word);
     }
     place
 }
@@ -71,31 +68,21 @@ fn put_counts(out: &mut [u8], at: usize, counts: Counts) -> usize
 {
     let place = put_item(out, at, b"loads ", counts.loads as u64, 32);
     let place = put_item(out, place, b"forwarded ", counts.forwarded as u64, 32);
-    put_item(out, place, b"share ", share(counts), 10)
+    put_item(out, place, b"share ", counts.share(), 10)
 }
 
-// Puts the text of a run: the lines of its first events, of its memory and of its counts.
-pub(crate) fn put_run(
-    out: &mut [u8],
-    answers: &[u8],
-    given: &[u8],
-    values: &[u32],
-    count: usize,
-    memory: &[u32],
-    counts: Counts,
-) -> usize
-    requires { RunFits count answers.now given.now values.now memory.now out.old }
-    ensures { Puts out.old 0
-        (run_text (take count (rows answers.now given.now values.now)) memory.now counts) result out.new }
+// Puts the text of a run, from what it left where it was played: the lines of its events, of its memory and of its counts.
+pub(crate) fn put_run(out: &mut [u8], room: &PlayRoom, run: FilesRun) -> usize
+    requires { RunFits run room.now out.old }
+    ensures { Puts out.old 0 (run_text (take run.events (rows room.now.answers room.now.given room.now.values))
+        (take run.memory_length room.now.memory) run.counts) result out.new }
 {
-    let place = put_events(out, answers, given, values, count);
-    let place = put_words(out, place, memory);
-    put_counts(out, place, counts)
-}
-
-// Room for the longest line of a fault.
-fn no_line() -> [u8; 32] {
-    [0; 32]
+    let answers = &room.answers[..run.events];
+    let given = &room.given[..run.events];
+    let values = &room.values[..run.events];
+    let place = put_events(out, answers, given, values);
+    let place = put_words(out, place, &room.memory[..run.memory_length]);
+    put_counts(out, place, run.counts)
 }
 
 // Puts a word and a number as a line at a buffer's front, where it fits.
@@ -103,13 +90,15 @@ fn put_line(out: &mut [u8], word: &[u8], number: u8) -> usize
     requires { length word.now ≤ 11 }
     ensures { PutIfFits out.old 0 (item word.now number 10) result out.new }
 {
-    let mut line = no_line();
+    // room for the longest line of a fault
+    let mut line = [0; 32];
     let end = put_item(&mut line, 0, word, number as u64, 10);
     put_bytes(out, 0, &line[..end])
 }
 
 // Puts the line of a fault, of the table or of the trace, at a buffer's front, and says where it ends; where it does not fit,
-// nothing is put. No such line is longer than 10 bytes (`fault-few`).
+// nothing is put. No such line is longer than 10 bytes (`fault-few`). It takes a flag and a number, and no `FilesFault`: callers may
+// hand it any number (docs/STATEMENTS.md names it).
 pub fn put_fault(out: &mut [u8], of_table: bool, number: u8) -> usize
     ensures { PutIfFits out.old 0 (fault_text of_table number) result out.new }
 {
@@ -117,4 +106,18 @@ pub fn put_fault(out: &mut [u8], of_table: bool, number: u8) -> usize
         return put_line(out, b"table ", number);
     }
     put_line(out, b"trace ", number)
+}
+
+impl FilesFault {
+    // Puts its line at a buffer's front, and says where it ends; where it does not fit, nothing is put. A want of room is no fault of
+    // the files, and has no line.
+    pub fn put_line(self, out: &mut [u8]) -> usize
+        ensures { PutIfFits out.old 0 (fault_line self) result out.new }
+    {
+        match self {
+            FilesFault::Table(refusal) => put_fault(out, true, refusal.number()),
+            FilesFault::Trace(refusal) => put_fault(out, false, refusal.number()),
+            FilesFault::NoRoom(_) => 0,
+        }
+    }
 }

@@ -4,10 +4,9 @@ ghost use Rattle.number.specs.Number.{HasWritten, Puts};
 ghost use Rattle.printed.specs.Text.{text};
 ghost use Rattle.printed.specs.Outcome.{most_text, printed};
 
-use crate::files::{FilesPlayed, no_answers, no_memory, no_values, play_files};
-use crate::lines::{put_fault, put_run};
-use number::BytesWritten;
-use number::refusal::TOO_SHORT;
+use crate::files::PlayRoom;
+use crate::lines::put_run;
+use number::refusal::Refusal;
 
 // no text is longer
 pub const MOST_TEXT: usize = 1224789;
@@ -17,45 +16,19 @@ fn put_text(out: &mut [u8], table: &[u8], trace: &[u8]) -> usize
     requires { most_text ≤ length out.old }
     ensures { Puts out.old 0 (text table.now trace.now) result out.new }
 {
-    let mut memory = no_memory();
-    let mut answers = no_answers();
-    let mut given = no_answers();
-    let mut values = no_values();
-    let played = play_files(
-        table,
-        trace,
-        &mut memory,
-        &mut answers,
-        &mut given,
-        &mut values,
-    );
-    match played {
-        FilesPlayed::TableFault(number) => put_fault(out, true, number),
-        FilesPlayed::TraceFault(number) => put_fault(out, false, number),
-        FilesPlayed::Run {
-            events,
-            memory_length,
-            counts,
-        } => put_run(
-            out,
-            &answers,
-            &given,
-            &values,
-            events,
-            &memory[..memory_length],
-            counts,
-        ),
-        // What is lent here has room, so this is never met.
-        FilesPlayed::NoRoom(_) => 0,
+    let mut room = PlayRoom::new();
+    match room.play(table, trace) {
+        Ok(run) => put_run(out, &room, run),
+        Err(fault) => fault.put_line(out),
     }
 }
 
 // Writes the text of both files' bytes at the front of a buffer that has room for every text.
-pub fn print(table: &[u8], trace: &[u8], out: &mut [u8]) -> BytesWritten
+pub fn print(table: &[u8], trace: &[u8], out: &mut [u8]) -> Result<usize, Refusal>
     ensures { HasWritten (printed table.now trace.now out.old) result out.new }
 {
     if out.len() < MOST_TEXT {
-        return BytesWritten::Unwritten(TOO_SHORT);
+        return Err(Refusal::TooShort);
     }
-    BytesWritten::Bytes(put_text(out, table, trace))
+    Ok(put_text(out, table, trace))
 }

@@ -1,21 +1,19 @@
 use Prim.Native.Nat.{◌≤◌}
-use mathlib.Core.List.{◌++◌}
-use mathlib.Core.Path.{sym}
+use mathlib.Core.Path.{◌≡◌, sym}
 use native.Mathlib.Omega.{arith}
-use lib.ListN.{length, drop}
+use lib.ListN.{length}
 use lib.Seq.{length-take-le}
+use Rattle.std.specs.Prelude.{Err}
+use borrow.Author.Rules.{rules}
 use Rattle.queue.specs.Contents.{contents_of}
 use Rattle.queue.proofs.ContentsLaws.{words-held}
-use Rattle.replay.specs.Replay.{Buffers}
 use Rattle.replay.proofs.ReplayLaws.{buffers}
-use Rattle.printed.proofs.FilesLaws.{PlaysAs, plays}
+use Rattle.printed.specs.Files.{no_counts}
+use Rattle.printed.proofs.FilesLaws.{plays-fault, plays-run}
 use Rattle.printed.proofs.files.play_events.Goals as goal
 
 pub slice_bounds-front-end : goal.slice_bounds-front-end
-slice_bounds-front-end c =
-    let few_words : c.args.queue.frame.memory_length ≤ length c.args.memory.now =
-    omega (arith, words-held c.args.queue, c.requires.memory_few, c.requires.cleared.room.words) in
-    few_words
+slice_bounds-front-end c = omega (arith, words-held c.args.queue, c.requires.memory_few, c.requires.cleared.room.words)
 
 pub slice_bounds-front-end-2 : goal.slice_bounds-front-end-2
 slice_bounds-front-end-2 c =
@@ -23,24 +21,20 @@ slice_bounds-front-end-2 c =
     omega (arith, words-held c.args.queue, c.requires.memory_few, c.requires.cleared.room.words) in
     sym (length-take-le _ c.args.memory.now few_words)
 
-pub returns-then-played-ne0 : goal.returns-then-played-ne0
-returns-then-played-ne0 c =
-    let lent : Buffers = let a = c.args in buffers a.answers.now a.given.now a.values.now in
-    let filled : Buffers = let l = c.replay_from-played.new in buffers l.answers l.given l.values in
-    let told : let a = c.args in let words = a.queue.frame.memory_length in PlaysAs
-    (contents_of a.queue) a.trace.now a.at a.memory.now lent words c.replay_from-played.result
-    (c.replay_from-played.new.memory ++ drop words a.memory.now) filled = let a = c.args in
-    plays (contents_of a.queue) a.at a.queue.frame.memory_length c.replay_from-played.result c.replay_from-played.new.memory filled
-    c.requires (sym (words-held a.queue)) c.replay_from-played.ensures in
-    told.fault c.if-played-ne0.true
+pub returns-in_err-events : goal.returns-in_err-events
+returns-in_err-events c =
+    let a = c.args in
+    let l = c.replay_from.new in
+    let e = c.in_err-events.field-0.0 in
+    let none : c.default-counts.result ≡ no_counts = search rules in
+    let is : c.from_residual.result ≡ Err e = search rules in
+    rw is (plays-fault (contents_of a.queue) a.at a.queue.frame.memory_length l.counts l.memory (buffers l.answers l.given l.values) c.requires
+    (sym (words-held a.queue)) e (rw none at c.in_err-events.ensures))
 
 pub returns : goal.returns
 returns c =
-    let lent : Buffers = let a = c.args in buffers a.answers.now a.given.now a.values.now in
-    let filled : Buffers = let l = c.replay_from-played.new in buffers l.answers l.given l.values in
-    let told : let a = c.args in let words = a.queue.frame.memory_length in PlaysAs
-    (contents_of a.queue) a.trace.now a.at a.memory.now lent words c.replay_from-played.result
-    (c.replay_from-played.new.memory ++ drop words a.memory.now) filled = let a = c.args in
-    plays (contents_of a.queue) a.at a.queue.frame.memory_length c.replay_from-played.result c.replay_from-played.new.memory filled
-    c.requires (sym (words-held a.queue)) c.replay_from-played.ensures in
-    told.well c.if-played-ne0.false
+    let a = c.args in
+    let l = c.replay_from.new in
+    let none : c.default-counts.result ≡ no_counts = search rules in
+    plays-run (contents_of a.queue) a.at a.queue.frame.memory_length l.counts l.memory (buffers l.answers l.given l.values) c.requires
+    (sym (words-held a.queue)) c.in_ok-events.events (rw none at c.in_ok-events.ensures)

@@ -1,6 +1,8 @@
 -- The numbers that a command takes.
 use Rattle.std.specs.Prelude.{ℕ, zero, suc, ◌+◌, ◌*◌, ◌/◌, Bool, true, false, List, Option, Some, None, eqb, ltb, leb, length, get_or, slice_get}
+use Rattle.arrayvec.specs.ArrayVec.{ArrayVec}
 use Rattle.script.specs.Lines.{pick}
+use Rattle.script.specs.Decimal.{numbers_from}
 
 -- the largest number that a letter stands for: f k g q p r l b h a, and 32 bits for the others
 abbrev pub most_of : ℕ → ℕ
@@ -23,3 +25,11 @@ fit_from shapes base numbers i (suc left) =
 -- eight letters for each command say what numbers it takes
 abbrev pub taken : List ℕ → ℕ → List ℕ → Bool
 taken shapes command numbers = pick (ltb command (length shapes / 8)) (fit_from shapes (command * 8) numbers 0 8) false
+
+-- the numbers of a line from a place on, if a command with these letters takes them
+abbrev pub if_taken : List ℕ → Option (ArrayVec ℕ) → Option (ArrayVec ℕ)
+if_taken shape None = None
+if_taken shape (Some numbers) = pick (taken shape 0 numbers.items) (Some numbers) None
+
+abbrev pub numbers_as : List ℕ → List ℕ → ℕ → Option (ArrayVec ℕ)
+numbers_as shape line from = if_taken shape (numbers_from line from)

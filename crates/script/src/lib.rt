@@ -3,7 +3,7 @@
 #![tactic(auto)]
 
 ghost use Rattle.std.specs.Prelude.{◌≡◌, ◌%◌, ◌^◌, drop, slice_get};
-ghost use Rattle.script.specs.Shapes.{most_of, fits_of, taken};
+ghost use Rattle.script.specs.Shapes.{most_of, fits_of, taken, numbers_as};
 ghost use Rattle.std.specs.Option.{unwrap_or};
 ghost use Rattle.std.specs.Iterator.{YieldsFirstRef, item_count};
 ghost use Rattle.script.specs.Lines.{NextByte, until, is_text, lines_in};
@@ -275,4 +275,15 @@ pub fn takes(shapes: &[u8], command: usize, numbers: &[u64]) -> bool
         }
     }
     true
+}
+
+// The numbers of a line from a place on, if a command with these eight letters takes them.
+pub fn numbers_as(shape: &[u8; 8], line: &[u8], from: usize) -> Option<Numbers>
+    ensures { result ≡ numbers_as shape.now line.now from }
+{
+    let numbers = numbers_of(line, from)?;
+    if takes(shape, 0, &numbers) {
+        return Some(numbers);
+    }
+    None
 }

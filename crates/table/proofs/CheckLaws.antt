@@ -11,21 +11,24 @@ use lib.ListN.{get_or-map, drop_of_length-le}
 use lib.Seq.{get_or-take, get_or-drop, drop-cons}
 use native.Mathlib.Numerals.{add-one}
 use borrow.Author.Tests.{le-leb, lt-leb, leb-true, leb-false, lt-ltb, le-ltb, ltb-true, ltb-false, eq-eqb, ne_eqb, eqb-true, not-true}
+use Rattle.std.specs.Prelude.{Result, Ok, Err}
+use Rattle.number.specs.declared.refusal.Refusal.{Refusal}
 use Rattle.table.specs.declared.Pair.{Pair}
 use Rattle.table.specs.declared.Group.{Group}
 use Rattle.table.specs.declared.Span.{Span}
 use Rattle.table.specs.declared.Table.{Table}
+use Rattle.table.specs.declared.check.Rule.{Rule}
 use Rattle.number.specs.Refusal.{bad_group_count, bad_counts, bad_offset, bad_port, port_seen}
-use Rattle.number.specs.Reply.{passed, number}
+use Rattle.number.specs.Reply.{Reply, refuse, passed}
 use Rattle.number.specs.Basics.{pick, held, count_where, within}
 use Rattle.table.specs.Packed.{pair_in, group_in}
 use Rattle.table.specs.Group.{GroupPairs, blank_pair, list_of, Inside, pairs_of, before_store}
 use Rattle.table.specs.Table.{span_meant, group_at, meant_in, groups_of, load_rule, store_rule, check_pair, check_pairs, seeing, counts_right, Seen, none_seen}
 use Rattle.table.specs.Table.{seen_after, check_group, check_groups, check_table}
-use Rattle.table.specs.Internal.{rule_of, Rising, RuleRight, GroupInside}
+use Rattle.table.specs.Internal.{Checks, rule_of, Rising, RuleRight, GroupInside}
 use Rattle.number.proofs.Both.{and_left, and_right}
 use Rattle.number.proofs.HeldLaws.{held-here, held-length}
-use Rattle.number.proofs.ReplyLaws.{need-accepts, both-passed, some_refused}
+use Rattle.number.proofs.ReplyLaws.{need-accepts, both-passed}
 
 -- ---- accesses from a place on
 module _ (places : List ℕ) (s : Span) where
@@ -112,19 +115,28 @@ pub long : {A B : Type 0} (f : A → B) (l : List A) (n : ℕ) → length (map f
 long f [] n p = p
 long f (x ∷ xs) n p = ap suc (long f xs (length (map f xs)) refl) ∙ p
 
-module _ (places : List ℕ) (loads : Span) (n i : ℕ) (r : Rising 0 (list_of places loads)) where
+-- the numbers of a span are as many as it counts
+pub among-length : (numbers places : List ℕ) (s : Span) → map pair_in numbers ≡ list_of places s → length numbers ≡ s.count
+among-length numbers places s e = sym (length-map numbers pair_in) ∙ ap length e ∙ view-length places s
+
+-- the pair that a number of some holds
+pub pair-at : (numbers : List ℕ) (i : ℕ) → get_or (map pair_in numbers) i blank_pair ≡ pair_in (get_or numbers i 0)
+unfolding pair_in
+pair-at numbers i = get_or-map pair_in numbers i 0
+
+module _ (loads : List ℕ) (n i : ℕ) (r : Rising 0 (map pair_in loads)) where
   abbrev listed : List Pair
-  listed = list_of places loads
+  listed = map pair_in loads
 
-  size : length listed ≡ loads.count
-  size = view-length places loads
+  size : length listed ≡ length loads
+  size = length-map loads pair_in
 
-  pub none_more : loads.count ≤ n → false ≡ ltb n (count_where (before_store i) (list_of places loads))
+  pub none_more : length loads ≤ n → false ≡ ltb n (count_where (before_store i) (map pair_in loads))
   none_more h = sym (le-ltb n _ (omega (arith, size, count_most (before_store i) listed)))
 
-  pub more-at : n < loads.count → leb (pair_in (get_or places (loads.first + n) 0)).offset i ≡ ltb n (count_where (before_store i) (list_of places loads))
+  pub more-at : n < length loads → leb (pair_in (get_or loads n 0)).offset i ≡ ltb n (count_where (before_store i) (map pair_in loads))
   more-at h =
-      rw (← view-at places loads n h) (go (leb (offset_at listed n) i) refl)
+      rw (← pair-at loads n) (go (leb (offset_at listed n) i) refl)
     where
       go : (t : Bool) → leb (offset_at listed n) i ≡ t → leb (offset_at listed n) i ≡ ltb n (count_where (before_store i) listed)
       go true e = rw (e, lt-ltb n _ (count-above 0 listed n i r (omega (arith, size)) (leb-true _ _ e)))
@@ -211,10 +223,9 @@ module _ {rule : ℕ → ℕ → ℕ → Bool} {seen : List Bool} {l : List Pair
     here : drop i l ≡ p ∷ drop (suc i) l
     here = drop-cons l i blank_pair h ∙ rw is
 
-    pub checking-stop : {n : ℕ} → n ≡ number (check_pair (rule low i p.offset) marks p.port) → (n ≡ 0 → ⊥)
-        → n ≡ number (check_pairs rule 0 0 seen l)
+    pub checking-stop : {n : ℕ} → check_pair (rule low i p.offset) marks p.port ≡ refuse n → check_pairs rule 0 0 seen l ≡ refuse n
     unfolding check_pairs
-    checking-stop e z = rw (w.is, here, some_refused (check_pair (rule low i p.offset) marks p.port) e z)
+    checking-stop e = rw (w.is, here, e)
 
     pub checking-more : check_pair (rule low i p.offset) marks p.port ≡ passed → Checking rule seen l (i + 1) p.offset (set marks p.port true)
     unfolding check_pairs seeing
@@ -224,32 +235,32 @@ module _ {rule : ℕ → ℕ → ℕ → Bool} {seen : List Bool} {l : List Pair
       long_marks = length-set marks p.port true ∙ w.long_marks;
     }
 
-  pub checking-end : length l ≤ i → (0 ≡ number (check_pairs rule 0 0 seen l)) × (marks ≡ seeing l seen)
+  pub checking-end : length l ≤ i → (check_pairs rule 0 0 seen l ≡ passed) × (marks ≡ seeing l seen)
   unfolding check_pairs seeing
   checking-end h = (rw (w.is, drop_of_length-le l h), rw (w.seen_are, drop_of_length-le l h))
 
 -- ---- checking a group
 module _ (ls ss : List ℕ) (g : Group) (seen : Seen) where
-  pub group-counts : counts_right g.loads.count g.stores.count ≡ false → bad_counts ≡ number (check_group seen (pairs_of ls ss g))
+  pub group-counts : counts_right g.loads.count g.stores.count ≡ false → check_group seen (pairs_of ls ss g) ≡ refuse bad_counts
   unfolding check_group
   group-counts e = rw (view-length ls g.loads, view-length ss g.stores, e)
 
   module _ (right : counts_right g.loads.count g.stores.count ≡ true) where
-    pub group-loads : {n : ℕ} → n ≡ number (check_pairs (load_rule g.stores.count) 0 0 seen.loads (list_of ls g.loads)) → (n ≡ 0 → ⊥)
-        → n ≡ number (check_group seen (pairs_of ls ss g))
+    pub group-loads : {n : ℕ} → check_pairs (load_rule g.stores.count) 0 0 seen.loads (list_of ls g.loads) ≡ refuse n
+        → check_group seen (pairs_of ls ss g) ≡ refuse n
     unfolding check_group
-    group-loads e some = rw (
-      view-length ls g.loads,
-      view-length ss g.stores,
-      right,
-      some_refused (check_pairs (load_rule g.stores.count) 0 0 seen.loads (list_of ls g.loads)) e some,
-    )
+    group-loads e = rw (view-length ls g.loads, view-length ss g.stores, right, e)
 
-    pub group-stores : {n : ℕ} → check_pairs (load_rule g.stores.count) 0 0 seen.loads (list_of ls g.loads) ≡ passed
-        → n ≡ number (check_pairs (store_rule (list_of ls g.loads)) 0 0 seen.stores (list_of ss g.stores))
-        → n ≡ number (check_group seen (pairs_of ls ss g))
+    pub group-stores : check_pairs (load_rule g.stores.count) 0 0 seen.loads (list_of ls g.loads) ≡ passed
+        → check_group seen (pairs_of ls ss g) ≡ check_pairs (store_rule (list_of ls g.loads)) 0 0 seen.stores (list_of ss g.stores)
     unfolding check_group
-    group-stores d e = rw (view-length ls g.loads, view-length ss g.stores, right, d) e
+    group-stores d = rw (view-length ls g.loads, view-length ss g.stores, right, d)
+
+-- what a check gives is what the whole gives whose last check it is
+pub checks-last : {last whole : Reply (Unit {0})} {Then Whole : Type 0} (r : Result (Unit {0}) Refusal) → whole ≡ last → (Then → Whole)
+    → Checks last Then r → Checks whole Whole r
+checks-last (Ok t) e f (h, k) = (e ∙ h, f k)
+checks-last (Err n) e f h = e ∙ h
 
 -- ---- checking groups one by one
 pub record Passing (seen : Seen) (gs : List GroupPairs) (i : ℕ) (now : Seen) : Type 0 where
@@ -263,15 +274,15 @@ module _ {seen : Seen} {gs : List GroupPairs} {i : ℕ} {now : Seen} (w : Passin
     this : drop i gs ≡ g ∷ drop (suc i) gs
     this = drop-cons gs i d h ∙ rw is
 
-    pub passing-stop : {n : ℕ} → n ≡ number (check_group now g) → (n ≡ 0 → ⊥) → n ≡ number (check_groups seen gs)
+    pub passing-stop : {n : ℕ} → check_group now g ≡ refuse n → check_groups seen gs ≡ refuse n
     unfolding check_groups
-    passing-stop e z = rw (w.is, this, some_refused (check_group now g) e z)
+    passing-stop e = rw (w.is, this, e)
 
     pub passing-more : {next : Seen} → check_group now g ≡ passed → next ≡ seen_after g now → Passing seen gs (i + 1) next
     unfolding check_groups
     passing-more e q = record { is = w.is ∙ rw (this, e, q, add-one) }
 
-  pub passing-end : length gs ≤ i → 0 ≡ number (check_groups seen gs)
+  pub passing-end : length gs ≤ i → check_groups seen gs ≡ passed
   unfolding check_groups
   passing-end h = rw (w.is, drop_of_length-le gs h)
 
@@ -303,24 +314,17 @@ module _ (t : Table) where
     pub group_at_lem : {g : Group} → g ≡ group_at t.groups i → get_or (groups_of t) i d ≡ pairs_of t.loads t.stores g
     group_at_lem e = groups-at ∙ ap (pairs_of t.loads t.stores) (sym e)
 
-  pub table-count : within 1 16 t.count ≡ false → bad_group_count ≡ number (check_table (groups_of t))
+  pub table-count : within 1 16 t.count ≡ false → check_table (groups_of t) ≡ refuse bad_group_count
   unfolding check_table
   table-count e = rw (groups-size, e)
 
-  pub table-groups : within 1 16 t.count ≡ true → (n : ℕ) → n ≡ number (check_groups none_seen (groups_of t))
-      → n ≡ number (check_table (groups_of t))
+  pub table-groups : within 1 16 t.count ≡ true → check_table (groups_of t) ≡ check_groups none_seen (groups_of t)
   unfolding check_table
-  table-groups e n d = rw (groups-size, e) d
+  table-groups e = rw (groups-size, e)
 
 -- a right offset is at most 16
-pub rule_small : (storing : Bool) (stores : ℕ) (places : List ℕ) (loads : Span) (low i offset : ℕ) → RuleRight storing stores places loads
-    → rule_of storing stores (list_of places loads) low i offset ≡ true → offset ≤ 16
-rule_small true stores places loads low i offset w e =
-    omega (
-      arith,
-      eqb-true offset (count_where (before_store i) (list_of places loads)) e,
-      count_most (before_store i) (list_of places loads),
-      view-length places loads,
-      w.few,
-    )
-rule_small false stores places loads low i offset w e = omega (arith, leb-true offset stores (and_right (leb low offset) _ e), w.few_stores)
+pub rule_small : (rule : Rule) (low i offset : ℕ) → RuleRight rule → rule_of rule low i offset ≡ true → offset ≤ 16
+rule_small (Rule.Stores loads) low i offset w e =
+    let l = map pair_in loads.now in
+    omega (arith, eqb-true offset (count_where (before_store i) l) e, count_most (before_store i) l, length-map loads.now pair_in, w.0)
+rule_small (Rule.Loads stores) low i offset w e = omega (arith, leb-true offset stores (and_right (leb low offset) _ e), w)

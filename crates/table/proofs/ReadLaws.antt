@@ -11,7 +11,7 @@ use lib.Seq.{length-take-le, take-suc-set, drop-set-lt, drop-drop}
 use Rattle.table.specs.declared.Pair.{Pair}
 use Rattle.table.specs.declared.read.Pairs.{Pairs}
 use Rattle.table.specs.declared.Table.{Table}
-use Rattle.table.specs.declared.read.GroupRead.{GroupRead}
+use Rattle.table.specs.declared.read.NewGroup.{NewGroup}
 use Rattle.number.specs.Refusal.{bad_counts}
 use Rattle.number.specs.Reply.{Reply, refuse, accept, need, and_then, passed}
 use Rattle.number.specs.Number.{Got, got, then_read, read_number, place_of, reading, read_in, before}
@@ -19,9 +19,9 @@ use Rattle.table.specs.Packed.{pair, pair_in, packed_pair, SmallPair}
 use Rattle.table.specs.Group.{GroupPairs}
 use Rattle.table.specs.Table.{load_rule, store_rule, check_pair, seeing, counts_right, Seen, none_seen, seen_after, check_group}
 use Rattle.table.specs.TableBytes.{read_pairs, read_group, read_groups, pack}
-use Rattle.table.specs.Internal.{Two, two_numbers, read_two, Finds, Tells, seen_of, pairs_in, pack_pairs, GroupFound, Growing, Grown}
-use Rattle.number.proofs.ReplyLaws.{then_read_accepts, refuses_among, then_read_among, not_zero}
-use Rattle.number.proofs.RoundTrip.{NumberGot, number_got, number-among}
+use Rattle.table.specs.Internal.{Two, two_numbers, read_two, Finds, pairs_in, pack_pairs, GroupFound, Growing, Grown}
+use Rattle.number.proofs.ReplyLaws.{then_read_accepts}
+use Rattle.number.proofs.RoundTrip.{NumberGot, number_got}
 use Rattle.table.proofs.PackedLaws.{pairs_read_back, map-append}
 use Rattle.number.proofs.HeldLaws.{held-few}
 use Rattle.table.proofs.PackLaws.{Marks, marks_none, marks-room, marks-more, Packed, packed_none, packed_more}
@@ -70,12 +70,6 @@ two-answer s place {x} {y} {next} e =
         let t : two_numbers a b ≡ two_numbers x y = cc in
         let n : place_of s s₂ ≡ next = cc in
         moved (ap (λ (u : Two). u.first) t) (ap (λ (u : Two). u.second) t) n (record { is = rw (v.is, w.is); inside = w.inside })
-
-pub two_among : (s : List ℕ) → refuses_among not_zero (read_two s) ≡ true
-unfolding read_two
-two_among s =
-    then_read_among not_zero (read_number s) _ (number-among not_zero refl refl refl s) λ x s₁.
-    then_read_among not_zero (read_number s₁) _ (number-among not_zero refl refl refl s₁) λ y s₂. refl
 
 -- ---- pairs, one by one
 
@@ -189,14 +183,6 @@ module _ (n i : ℕ) (places : List ℕ) (e : n ≡ i) (g : length (take i place
   pub held-pairs : i ≤ length places → pairs_in (made n places) ≡ map pair_in (take i places)
   held-pairs h = rw e (ap (map pair_in) (held-few 0 i places h))
 
--- ---- what a caller is told, where the bytes give a refusal and where they give what was read
-module _ {A : Type 0} {g : Reply (Got A)} {s : List ℕ} {answer next : ℕ} {Found : A → Type 0} where
-  pub tells-refused : {k : ℕ} → g ≡ refuse k → answer ≡ k → (k ≡ 0 → ⊥) → Tells g s answer next Found
-  tells-refused e f some = record { refused = λ z. e ∙ ap refuse (sym f); given = λ z. absurd (some (sym f ∙ z)) }
-
-  pub tells-given : answer ≡ 0 → Finds g s next Found → Tells g s answer next Found
-  tells-given e f = record { refused = λ some. absurd (some e); given = λ z. f }
-
 -- ---- a group
 -- what follows both counts
 abbrev group_rest : Seen → ℕ → ℕ → List ℕ → Reply (Got GroupPairs)
@@ -242,16 +228,16 @@ module _ {n : ℕ} {s : List ℕ} {start i : ℕ} {seen : Seen} {place : ℕ} {t
   pub gathering-refused : {k : ℕ} → i < n → read_group seen (drop place s) ≡ refuse k → read_groups n none_seen (drop start s) ≡ refuse k
   gathering-refused h e = w.is ∙ rw (next-group h, e)
 
-  module _ {r : GroupRead} (h : i < n) (few : n ≤ 16)
-      (g : Finds (read_group seen (drop place s)) s r.next (GroupFound seen r)) (right : check_group seen g.what ≡ passed) where
-    loads-count : r.group.loads.count ≡ length g.what.loads
+  module _ {r : NewGroup} {after_group : Seen} {next : ℕ} (h : i < n) (few : n ≤ 16)
+      (g : Finds (read_group seen (drop place s)) s next (GroupFound seen after_group r)) (right : check_group seen g.what ≡ passed) where
+    loads-count : r.loads.count ≡ length g.what.loads
     loads-count = rw g.found.group
 
-    stores-count : r.group.stores.count ≡ length g.what.stores
+    stores-count : r.stores.count ≡ length g.what.stores
     stores-count = rw g.found.group
 
     -- the ports seen leave room for the group
-    pub gathering-room : Growing table loads stores r.group
+    pub gathering-room : Growing table loads stores r
     gathering-room =
         let m = marks-room (marks-more w.marks g.what right) in
         record {
@@ -260,12 +246,12 @@ module _ {n : ℕ} {s : List ℕ} {start i : ℕ} {seen : Seen} {place : ℕ} {t
           stores_room = rw stores-count m.1;
         }
 
-    pub gathering-more : {t : Table} → Grown table loads stores r.group t
-        → PairsGathering n s start (i + 1) (seen_of r.seen) r.next t (loads + r.group.loads.count) (stores + r.group.stores.count)
+    pub gathering-more : {t : Table} → Grown table loads stores r t
+        → PairsGathering n s start (i + 1) after_group next t (loads + r.loads.count) (stores + r.stores.count)
     gathering-more v = record {
       done = w.done ++ g.what ∷ [];
       is = w.is ∙ rw (next-group h, g.is, ← g.found.marks)
-          (after-before w.done g.what (read_groups (n - (i + 1)) (seen_of r.seen) (drop r.next s)));
+          (after-before w.done g.what (read_groups (n - (i + 1)) after_group (drop next s)));
       many = rw (length-append, w.many);
       packed_is = packed_more w.packed_is g.what g.found.group (omega (arith, w.many)) v;
       marks = rw (g.found.marks, loads-count, stores-count) (marks-more w.marks g.what right);

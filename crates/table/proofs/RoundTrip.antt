@@ -9,7 +9,6 @@ use lib.Dec.{eqb}
 use lib.ListN.{length, set, drop}
 use borrow.Author.Tests.{eqb-true}
 use Rattle.table.specs.declared.Pair.{Pair}
-use Rattle.table.specs.declared.TableRead.{TableRead}
 use Rattle.number.specs.Basics.{flat_map, within}
 use Rattle.number.specs.Refusal.{bad_fields, bad_group_count, bad_counts, left_over}
 use Rattle.number.specs.Reply.{Reply, refuse, accept, and_then, passed}
@@ -17,7 +16,7 @@ use Rattle.number.specs.Number.{got, read_number, bytes_of, Fit, fit_none, fit_o
 use Rattle.table.specs.Group.{GroupPairs}
 use Rattle.table.specs.Table.{load_rule, store_rule, check_pair, check_pairs, counts_right, Seen, none_seen, seen_after}
 use Rattle.table.specs.Table.{groups_of, check_group, check_groups, check_table}
-use Rattle.table.specs.TableBytes.{read_pairs, read_group, read_groups, read_table, table_answer, wrote_table}
+use Rattle.table.specs.TableBytes.{read_pairs, read_group, read_groups, read_table, TableRead, table_answer, wrote_table}
 use Rattle.table.specs.TableBytes.{pair_numbers, group_numbers, table_numbers, table_bytes}
 use Rattle.table.specs.RoundTrip.{FaultsAreRead, TablesReadBack, OnlyRightTables, TablesAreWritten, EqualTablesEqualBytes, TablesWrittenBack}
 use Rattle.number.proofs.ReplyLaws.{need-accepts, and_then_accepts, then_read_accepts, not_zero, refused_some}

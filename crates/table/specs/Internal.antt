@@ -1,29 +1,28 @@
 -- What the crate's own functions promise each other: nothing here is promised to a caller from outside.
-use Rattle.std.specs.Prelude.{ℕ, ◌+◌, ◌≤◌, ◌<◌, ◌≡◌, Bool, true, List, [], ◌∷◌, ◌++◌, length, set, take, drop}
+use Rattle.std.specs.Prelude.{ℕ, ◌+◌, ◌≤◌, ◌<◌, ◌≡◌, Bool, true, List, [], ◌∷◌, ◌++◌, Result, Ok, Err, map, length, set, take, drop}
 use Rattle.table.specs.declared.Pair.{Pair}
 use Rattle.table.specs.declared.Span.{Span}
 use Rattle.table.specs.declared.Group.{Group}
 use Rattle.table.specs.declared.Table.{Table}
-use Rattle.table.specs.declared.read.TwoRead.{TwoRead}
-use Rattle.table.specs.declared.read.Ports.{Ports}
+use Rattle.table.specs.declared.check.Ports.{Ports}
+use Rattle.table.specs.declared.check.Rule.{Rule}
 use Rattle.table.specs.declared.read.Pairs.{Pairs}
 use Rattle.table.specs.declared.read.NewGroup.{NewGroup}
-use Rattle.table.specs.declared.read.PairsRead.{PairsRead}
-use Rattle.table.specs.declared.read.GroupRead.{GroupRead}
-use Rattle.table.specs.declared.read.GroupsRead.{GroupsRead}
-use Rattle.number.specs.Reply.{Reply, refuse, accept, number}
+use Rattle.number.specs.declared.refusal.Refusal.{Refusal}
+use Rattle.number.specs.Refusal.{refusal_number}
+use Rattle.number.specs.Reply.{Reply, refuse, accept, passed}
 use Rattle.number.specs.Number.{Got, got, then_read, read_number, Reading, reading}
 use Rattle.table.specs.TableBytes.{filled, pack}
-use Rattle.table.specs.Packed.{packed_group}
-use Rattle.number.specs.Basics.{pick}
+use Rattle.table.specs.Packed.{pair_in, packed_group}
 use Rattle.table.specs.Group.{GroupPairs, list_of, Inside}
 use Rattle.table.specs.Table.{load_rule, store_rule, check_pairs, seeing, Seen, seen_after, check_group}
 
 -- ---- checking and reading a group's pairs
 
 -- the rule for the offsets of a group's pairs of one kind: a store's goes by the loads, a load's by the store count
-abbrev pub rule_of : Bool → ℕ → List Pair → ℕ → ℕ → ℕ → Bool
-rule_of storing stores loads low i offset = pick storing (store_rule loads low i offset) (load_rule stores low i offset)
+abbrev pub rule_of : Rule → ℕ → ℕ → ℕ → Bool
+rule_of (Rule.Loads stores) = load_rule stores
+rule_of (Rule.Stores loads) = store_rule (map pair_in loads.now)
 
 -- offsets that never fall, from `low` on
 abbrev pub Rising : ℕ → List Pair → Type 0
@@ -31,25 +30,26 @@ Rising low [] = Unit {0}
 Rising low (p ∷ ps) = (low ≤ p.offset) × Rising p.offset ps
 
 -- what the rule needs: a store's looks into the loads, which have been found to rise
-pub record RuleRight (storing : Bool) (stores : ℕ) (places : List ℕ) (loads : Span) : Type 0 where
-  pub inside : Inside loads
-  pub few : loads.count ≤ 16
-  pub few_stores : stores ≤ 16
-  pub rising : storing ≡ true → Rising 0 (list_of places loads)
+abbrev pub RuleRight : Rule → Type 0
+RuleRight (Rule.Loads stores) = stores ≤ 16
+RuleRight (Rule.Stores loads) = (length loads.now ≤ 16) × Rising 0 (map pair_in loads.now)
 
--- what checking pairs gives: their first fault and, where there is none, the marks after them
-pub record PairsChecked (rule : ℕ → ℕ → ℕ → Bool) (seen : List Bool) (ps : List Pair) (after : List Bool) (r : ℕ) : Type 0 where
-  pub answer : r ≡ number (check_pairs rule 0 0 seen ps)
-  pub marks : r ≡ 0 → after ≡ seeing ps seen
+-- what a check gives: its refusal or, where it is passed, what holds then
+abbrev pub Checks : Reply (Unit {0}) → Type 0 → Result (Unit {0}) Refusal → Type 0
+Checks r Then (Ok t) = (r ≡ passed) × Then
+Checks r Then (Err e) = r ≡ refuse (refusal_number e)
 
--- the ports that the marks say were seen
-abbrev pub seen_in : List Bool → List Bool → Seen
-seen_in loads stores = record { loads = loads; stores = stores }
+-- checking pairs gives their first fault or, where there is none, the marks after them
+abbrev pub PairsChecked : (ℕ → ℕ → ℕ → Bool) → List Bool → List Pair → List Bool → Result (Unit {0}) Refusal → Type 0
+PairsChecked rule seen ps after r = Checks (check_pairs rule 0 0 seen ps) (after ≡ seeing ps seen) r
+
+-- the ports that a record of marks says were seen
+abbrev pub seen_of : Ports → Seen
+seen_of p = record { loads = p.loads; stores = p.stores }
 
 -- the same of a group
-pub record GroupChecked (seen : Seen) (g : GroupPairs) (after : Seen) (r : ℕ) : Type 0 where
-  pub answer : r ≡ number (check_group seen g)
-  pub marks : r ≡ 0 → after ≡ seen_after g seen
+abbrev pub GroupChecked : Seen → GroupPairs → Seen → Result (Unit {0}) Refusal → Type 0
+GroupChecked seen g after r = Checks (check_group seen g) (after ≡ seen_after g seen) r
 
 -- ---- reading a table
 
@@ -64,18 +64,10 @@ two_numbers x y = record { first = x; second = y }
 unfoldable pub read_two : List ℕ → Reply (Got Two)
 read_two s = then_read (read_number s) λ x s₁. then_read (read_number s₁) λ y s₂. accept (got (two_numbers x y) s₂)
 
--- the number and the values of each case of `TwoRead`
-abbrev pub two_reply : TwoRead → Reply (Reading Two)
-two_reply (TwoRead.Two x y next) = accept (reading (two_numbers x y) next)
-two_reply (TwoRead.NoTwo k) = refuse k
-
--- its number: 0 where both were read
-abbrev pub two_refusal : TwoRead → ℕ
-two_refusal read = number (two_reply read)
-
--- the ports that a record of marks says were seen
-abbrev pub seen_of : Ports → Seen
-seen_of p = seen_in p.loads p.stores
+-- what a call that reads two numbers replies
+abbrev pub two_reply : Result (ℕ × ℕ × ℕ) Refusal → Reply (Reading Two)
+two_reply (Ok (x, y, next)) = accept (reading (two_numbers x y) next)
+two_reply (Err e) = refuse (refusal_number e)
 
 -- what was read, and where the bytes after it begin
 pub record Finds {A : Type 0} (g : Reply (Got A)) (s : List ℕ) (next : ℕ) (Found : A → Type 0) : Type 0 where
@@ -84,10 +76,10 @@ pub record Finds {A : Type 0} (g : Reply (Got A)) (s : List ℕ) (next : ℕ) (F
   pub inside : next ≤ length s
   pub found : Found what
 
--- what a call that reads in s tells, where the bytes give `g`: the number of the refusal, or 0 and what was found
-pub record Tells {A : Type 0} (g : Reply (Got A)) (s : List ℕ) (answer next : ℕ) (Found : A → Type 0) : Type 0 where
-  pub refused : (answer ≡ 0 → ⊥) → g ≡ refuse answer
-  pub given : answer ≡ 0 → Finds g s next Found
+-- what a call that reads in s tells, where the bytes give `g`: the refusal, or what was found
+abbrev pub Tells : {A B : Type 0} → Reply (Got A) → List ℕ → (B → A → Type 0) → Result (B × ℕ) Refusal → Type 0
+Tells g s Found (Ok (b, next)) = Finds g s next (Found b)
+Tells g s Found (Err e) = g ≡ refuse (refusal_number e)
 
 -- pairs that were read stand from the first place on
 abbrev pub front : ℕ → Span
@@ -104,32 +96,23 @@ abbrev pub pack_group : GroupPairs → NewGroup
 pack_group g = record { loads = pack_pairs g.loads; stores = pack_pairs g.stores }
 
 -- the record of the pairs that were read, and the marks after them
-pub record PairsFound (seen : List Bool) (r : PairsRead) (ps : List Pair) : Type 0 where
-  pub pairs : r.pairs ≡ pack_pairs ps
-  pub holds : pairs_in r.pairs ≡ ps
-  pub marks : r.seen ≡ seeing ps seen
+pub record PairsFound (seen after : List Bool) (r : Pairs) (ps : List Pair) : Type 0 where
+  pub pairs : r ≡ pack_pairs ps
+  pub holds : pairs_in r ≡ ps
+  pub marks : after ≡ seeing ps seen
 
-abbrev pub PairsResult : List ℕ → List Bool → Reply (Got (List Pair)) → PairsRead → Type 0
-PairsResult s seen g r = Tells g s r.answer r.next (PairsFound seen r)
+abbrev pub PairsResult : List ℕ → List Bool → Reply (Got (List Pair)) → List Bool → Result (Pairs × ℕ) Refusal → Type 0
+PairsResult s seen g after r = Tells g s (PairsFound seen after) r
 
--- the record of a group, made of what reading its loads and its stores gave
-abbrev pub group_made : PairsRead → PairsRead → GroupRead
-group_made l t = record {
-  answer = 0;
-  next = t.next;
-  group = record { loads = l.pairs; stores = t.pairs };
-  seen = record { loads = l.seen; stores = t.seen };
-}
+pub record GroupFound (seen after : Seen) (r : NewGroup) (g : GroupPairs) : Type 0 where
+  pub group : r ≡ pack_group g
+  pub marks : after ≡ seen_after g seen
 
-pub record GroupFound (seen : Seen) (r : GroupRead) (g : GroupPairs) : Type 0 where
-  pub group : r.group ≡ pack_group g
-  pub marks : seen_of r.seen ≡ seen_after g seen
+abbrev pub GroupResult : List ℕ → Seen → Reply (Got GroupPairs) → Seen → Result (NewGroup × ℕ) Refusal → Type 0
+GroupResult s seen g after r = Tells g s (GroupFound seen after) r
 
-abbrev pub GroupResult : List ℕ → Seen → Reply (Got GroupPairs) → GroupRead → Type 0
-GroupResult s seen g r = Tells g s r.answer r.next (GroupFound seen r)
-
-abbrev pub GroupsResult : List ℕ → Reply (Got (List GroupPairs)) → GroupsRead → Type 0
-GroupsResult s g r = Tells g s r.answer r.next (λ gs. r.table ≡ pack gs)
+abbrev pub GroupsResult : List ℕ → Reply (Got (List GroupPairs)) → Result (Table × ℕ) Refusal → Type 0
+GroupsResult s g r = Tells g s (λ (t : Table) gs. t ≡ pack gs) r
 
 -- there is room for a group behind those of a table, which have `loads` loads and `stores` stores
 pub record Growing (t : Table) (loads stores : ℕ) (g : NewGroup) : Type 0 where

@@ -4,7 +4,6 @@ use Rattle.std.specs.Prelude.{ℕ, zero, suc, ◌+◌, ◌-◌, Bool, true, List
 use Rattle.table.specs.declared.Pair.{Pair}
 use Rattle.table.specs.declared.Group.{Group}
 use Rattle.table.specs.declared.Table.{Table}
-use Rattle.table.specs.declared.TableRead.{TableRead}
 use Rattle.number.specs.Basics.{flat_map, within}
 use Rattle.number.specs.Refusal.{bad_fields, bad_group_count, bad_counts, left_over}
 use Rattle.number.specs.Reply.{Reply, refuse, accept, need, and_then}
@@ -69,7 +68,15 @@ stores_in gs = flat_map (λ (g : GroupPairs). g.stores) gs
 abbrev pub pack : List GroupPairs → Table
 pack gs = record { count = length gs; groups = spans 0 0 gs ++ replicate (16 - length gs) 0; loads = filled (loads_in gs); stores = filled (stores_in gs) }
 
--- the answer of a call that reads a table; a refused one holds the table of no groups, which means nothing
+-- what a call that reads a table replies: the record of its groups
+abbrev pub table_reply : Reply (List GroupPairs) → Reply Table
+table_reply r = and_then r λ gs. accept (pack gs)
+
+-- the same as a number and a record: 0 and the table, or the refusal number and the table of no groups, which means nothing
+pub record TableRead : Type 0 where
+  pub answer : ℕ
+  pub table : Table
+
 abbrev pub table_answer : Reply (List GroupPairs) → TableRead
 table_answer (accept gs) = record { answer = 0; table = pack gs }
 table_answer (refuse n) = record { answer = n; table = pack [] }

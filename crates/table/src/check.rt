@@ -1,177 +1,127 @@
 // When a table is right: 4, 5, 8, 6, 7 in the order of checking.
-ghost use Rattle.std.specs.Prelude.{◌≡◌, ltb};
+ghost use Rattle.std.specs.Prelude.{◌≡◌, ltb, length, map};
 ghost use Rattle.number.specs.Basics.{count_where};
-ghost use Rattle.number.specs.Reply.{number};
-ghost use Rattle.table.specs.Group.{list_of, pairs_of, before_store, Inside};
-ghost use Rattle.table.specs.Table.{counts_right, check_pair, check_table, groups_in, groups_of};
-ghost use Rattle.table.specs.Internal.{rule_of, Rising, RuleRight, PairsChecked, seen_in, GroupChecked, GroupInside};
+ghost use Rattle.number.specs.Reply.{reply};
+ghost use Rattle.table.specs.Packed.{pair_in};
+ghost use Rattle.table.specs.Group.{pairs_of, before_store};
+ghost use Rattle.table.specs.Table.{counts_right, check_pair, check_table, groups_of};
+ghost use Rattle.table.specs.Internal.{rule_of, Rising, RuleRight, PairsChecked, seen_of, GroupChecked, GroupInside};
 
-use crate::parts::{group_at, unpack_pair};
-use crate::{Group, Span, Table};
-use number::refusal::{BAD_COUNTS, BAD_GROUP_COUNT, BAD_OFFSET, BAD_PORT, PORT_SEEN};
+use crate::parts::unpack_pair;
+use crate::{Group, Table};
+use number::refusal::Refusal;
+
+// The ports seen so far in a table, a mark for each.
+#[derive(Clone, Copy)]
+pub(crate) struct Ports {
+    pub loads: [bool; 32],
+    pub stores: [bool; 32],
+}
+
+// The rule for the offsets of a group's pairs of one kind.
+#[derive(Clone, Copy)]
+pub(crate) enum Rule<'a> {
+    // a load's goes by the group's store count
+    Loads { stores: u32 },
+    // a store's goes by the group's loads
+    Stores { loads: &'a [u16] },
+}
 
 // Do more than n loads come before store i? Their offsets never fall, so it is enough to look at load n.
-fn more_before(places: &[u16; 32], loads: Span, n: u32, i: u32) -> bool
-    requires { Inside loads × Rising 0 (list_of places.now loads) }
-    ensures { result ≡ ltb n (count_where (before_store i) (list_of places.now loads)) }
+fn more_before(loads: &[u16], n: u32, i: usize) -> bool
+    requires { Rising 0 (map pair_in loads.now) }
+    ensures { result ≡ ltb n (count_where (before_store i) (map pair_in loads.now)) }
 {
-    if loads.count as u32 <= n {
-        return false;
+    match loads.get(n as usize) {
+        Some(&number) => unpack_pair(number).offset as usize <= i,
+        None => false,
     }
-    let at = loads.first as usize + n as usize;
-    let load = unpack_pair(places[at]);
-    load.offset as u32 <= i
 }
 
-// Is it the right offset for the ith pair, where the pair before has the offset `low`? A store's goes by the loads, a load's by the store count.
-pub(crate) fn offset_right(
-    storing: bool,
-    stores: u8,
-    places: &[u16; 32],
-    loads: Span,
-    low: u32,
-    i: u32,
-    offset: u32,
-) -> bool
-    requires { RuleRight storing stores places.now loads }
-    ensures { result ≡ rule_of storing stores (list_of places.now loads) low i offset }
-{
-    if storing {
-        if more_before(places, loads, offset, i) {
-            return false;
+impl<'a> Rule<'a> {
+    // Is it the right offset for the ith pair, where the pair before has the offset `low`?
+    pub(crate) fn allows(self, low: u32, i: usize, offset: u32) -> bool
+        requires { RuleRight self }
+        ensures { result ≡ rule_of self.entry low i offset }
+    {
+        match self {
+            Rule::Loads { stores } => low <= offset && offset <= stores,
+            Rule::Stores { loads } => {
+                !more_before(loads, offset, i) && (offset == 0 || more_before(loads, offset - 1, i))
+            }
         }
-        if offset == 0 {
-            return true;
-        }
-        return more_before(places, loads, offset - 1, i);
     }
-    if offset < low {
-        return false;
-    }
-    offset <= stores as u32
 }
 
-// A pair's first fault, or 0. The marks are lent: a copy for each pair would cost more than the test.
-pub(crate) fn pair_fault(right: bool, seen: &[bool; 32], port: u32) -> u8
-    ensures { result ≡ number (check_pair right seen.now port) }
+// The first fault of a pair. The marks are lent: a copy for each pair would cost more than the test.
+pub(crate) fn check_pair(right: bool, seen: &[bool; 32], port: u32) -> Result<(), Refusal>
+    ensures { reply result ≡ check_pair right seen.now port }
 {
     if !right {
-        return BAD_OFFSET;
+        return Err(Refusal::BadOffset);
     }
     if 31 < port {
-        return BAD_PORT;
+        return Err(Refusal::BadPort);
     }
-    let at = port as usize;
-    if seen[at] {
-        return PORT_SEEN;
+    if seen[port as usize] {
+        return Err(Refusal::PortSeen);
     }
-    0
+    Ok(())
 }
 
-// The first fault of a group's pairs of one kind, or 0. The marks of the ports seen are lent, and take in the pairs' own.
-fn check_pairs<'a>(
-    storing: bool,
-    stores: u8,
-    load_places: &'a [u16; 32],
-    loads: Span,
-    places: &'a [u16; 32],
-    pairs: Span,
-    seen: &mut [bool; 32],
-) -> u8
-    requires { RuleRight storing stores load_places.now loads × Inside pairs }
-    ensures { PairsChecked (rule_of storing stores (list_of load_places.now loads)) seen.old
-        (list_of places.now pairs) seen.new result }
+// The first fault of a group's pairs of one kind. The marks of the ports seen are lent, and take in the pairs' own.
+fn check_pairs<'a>(rule: Rule<'a>, pairs: &'a [u16], seen: &mut [bool; 32]) -> Result<(), Refusal>
+    requires { RuleRight rule }
+    ensures { PairsChecked (rule_of rule.entry) seen.old (map pair_in pairs.now) seen.new result }
 {
-    let first = pairs.first as usize;
-    let count = pairs.count as usize;
     let mut low: u32 = 0;
-    let mut i: usize = 0;
-    while i < count {
-        let pair = unpack_pair(places[first + i]);
-        let port = pair.port as u32;
+    for (i, &number) in pairs.iter().enumerate() {
+        let pair = unpack_pair(number);
         let offset = pair.offset as u32;
-        let right = offset_right(storing, stores, load_places, loads, low, i as u32, offset);
-        let answer = pair_fault(right, seen, port);
-        if answer != 0 {
-            return answer;
-        }
-        let at = port as usize;
-        seen[at] = true;
+        check_pair(rule.allows(low, i, offset), seen, pair.port as u32)?;
+        seen[pair.port as usize] = true;
         low = offset;
-        i += 1;
     }
-    0
+    Ok(())
 }
 
 // A group's counts are each 0 to 16; an empty group has none of either.
 pub(crate) fn counts_right(loads: u32, stores: u32) -> bool
     ensures { result ≡ counts_right loads stores }
 {
-    if 16 < loads {
-        return false;
-    }
-    stores <= 16
+    loads <= 16 && stores <= 16
 }
 
-// A group's first fault, or 0: 5 counts, then its loads, then its stores. The marks of the ports seen are lent.
-fn check_group<'a>(
-    group: Group,
-    loads: &'a [u16; 32],
-    stores: &'a [u16; 32],
-    seen_loads: &mut [bool; 32],
-    seen_stores: &mut [bool; 32],
-) -> u8
+// A group's first fault: 5 counts, then its loads, then its stores. The marks of the ports seen are lent.
+fn check_group(table: &Table, group: Group, seen: &mut Ports) -> Result<(), Refusal>
     requires { GroupInside group }
-    ensures { GroupChecked (seen_in seen_loads.old seen_stores.old)
-        (pairs_of loads.now stores.now group) (seen_in seen_loads.new seen_stores.new) result }
+    ensures { GroupChecked (seen_of seen.old) (pairs_of table.now.loads table.now.stores group) (seen_of seen.new) result }
 {
-    let load_span = group.loads;
-    let store_span = group.stores;
-    let few = store_span.count;
-    if !counts_right(load_span.count as u32, few as u32) {
-        return BAD_COUNTS;
+    let few = group.stores.count as u32;
+    if !counts_right(group.loads.count as u32, few) {
+        return Err(Refusal::BadCounts);
     }
-    let answer = check_pairs(false, few, loads, load_span, loads, load_span, seen_loads);
-    if answer != 0 {
-        return answer;
-    }
-    check_pairs(true, few, loads, load_span, stores, store_span, seen_stores)
+    let loads = group.loads.among(&table.loads);
+    check_pairs(Rule::Loads { stores: few }, loads, &mut seen.loads)?;
+    let stores = group.stores.among(&table.stores);
+    check_pairs(Rule::Stores { loads }, stores, &mut seen.stores)
 }
 
-// The first of 4, 5, 8, 6, 7 that a table of these parts meets, or 0: the table is right. Its arrays are lent, so that they are
-// not copied. They may come from anywhere.
-pub fn fault_in<'a>(
-    count: u8,
-    groups: &'a [u32; 16],
-    loads: &'a [u16; 32],
-    stores: &'a [u16; 32],
-) -> u8
-    ensures { result ≡ number (check_table (groups_in count groups.now loads.now stores.now)) }
-{
-    let many = count as usize;
-    if many < 1 {
-        return BAD_GROUP_COUNT;
-    }
-    if 16 < many {
-        return BAD_GROUP_COUNT;
-    }
-    let mut seen_loads = [false; 32];
-    let mut seen_stores = [false; 32];
-    let mut i: usize = 0;
-    while i < many {
-        let group = group_at(groups, i);
-        let answer = check_group(group, loads, stores, &mut seen_loads, &mut seen_stores);
-        if answer != 0 {
-            return answer;
+impl Table {
+    // The first of 4, 5, 8, 6, 7 that it meets, or it is right. It is lent, so that it is not copied. It may come from anywhere.
+    pub fn check(&self) -> Result<(), Refusal>
+        ensures { reply result ≡ check_table (groups_of self.now) }
+    {
+        if self.count < 1 || 16 < self.count {
+            return Err(Refusal::BadGroupCount);
         }
-        i += 1;
+        let mut seen = Ports {
+            loads: [false; 32],
+            stores: [false; 32],
+        };
+        for i in 0..self.count as usize {
+            check_group(self, self.group(i), &mut seen)?;
+        }
+        Ok(())
     }
-    0
-}
-
-// The same of a table's record.
-pub fn table_fault(table: Table) -> u8
-    ensures { result ≡ number (check_table (groups_of table)) }
-{
-    fault_in(table.count, &table.groups, &table.loads, &table.stores)
 }

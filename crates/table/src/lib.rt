@@ -11,7 +11,7 @@ pub mod write;
 
 // An access of a group: how many accesses of the other kind come before it in the group, and its port.
 #[repr(C)]
-#[derive(Clone, Copy)]
+#[derive(Clone, Copy, Debug, PartialEq, Eq)]
 pub struct Pair {
     pub offset: u8,
     pub port: u8,
@@ -19,7 +19,7 @@ pub struct Pair {
 
 // Where the accesses of one kind in a group stand, in program order: `count` of them, from the place `first` on.
 #[repr(C)]
-#[derive(Clone, Copy)]
+#[derive(Clone, Copy, Debug, PartialEq, Eq)]
 pub struct Span {
     pub first: u8,
     pub count: u8,
@@ -27,7 +27,7 @@ pub struct Span {
 
 // A group: where its loads and its stores stand in a table.
 #[repr(C)]
-#[derive(Clone, Copy)]
+#[derive(Clone, Copy, Debug, PartialEq, Eq)]
 pub struct Group {
     pub loads: Span,
     pub stores: Span,
@@ -37,17 +37,10 @@ pub struct Group {
 // a number (`parts`), since arrays of numbers can be lent and need no copy. A port stands once in a table, so 32 places of
 // each kind are enough. Places beyond the count, or that no group has, mean nothing.
 #[repr(C)]
-#[derive(Clone, Copy)]
+#[derive(Clone, Copy, Debug, PartialEq, Eq)]
 pub struct Table {
     pub count: u8,
     pub groups: [u32; 16],
     pub loads: [u16; 32],
     pub stores: [u16; 32],
-}
-
-// What reading a table answers: 0 and the table, or the refusal number and a table that means nothing.
-#[derive(Clone, Copy)]
-pub struct TableRead {
-    pub answer: u8,
-    pub table: Table,
 }

@@ -1,9 +1,10 @@
 // A table's groups and accesses, and the numbers that they are packed into.
-ghost use Rattle.std.specs.Prelude.{◌≡◌, get_or, take};
+ghost use Rattle.std.specs.Prelude.{◌≡◌, get_or, map, take, drop};
 ghost use Rattle.table.specs.Packed.{pair_in, packed_pair, span_in, group_in, packed_group};
+ghost use Rattle.table.specs.Group.{list_of, Inside};
 ghost use Rattle.table.specs.Table.{span_meant, group_at};
 
-use crate::{Group, Pair, Span};
+use crate::{Group, Pair, Span, Table};
 
 // The pair that a number holds: the offset in its lowest eight bits, the port in the others.
 pub fn unpack_pair(number: u16) -> Pair
@@ -72,19 +73,31 @@ fn span_meant(span: Span) -> Span
 fn number_at(groups: &[u32; 16], i: usize) -> u32
     ensures { result ≡ get_or (take 16 groups.now) i 0 }
 {
-    if i < 16 {
-        return groups[i];
-    }
-    0
+    groups.get(i).copied().unwrap_or(0)
 }
 
-// The group at a place of a table, whether or not the count goes so far: its accesses stand within the places. The record may
-// come from anywhere.
-pub fn group_at(groups: &[u32; 16], i: usize) -> Group
-    ensures { result ≡ group_at groups.now i }
-{
-    let group = unpack_group(number_at(groups, i));
-    let loads = span_meant(group.loads);
-    let stores = span_meant(group.stores);
-    Group { loads, stores }
+impl Table {
+    // The group at a place, whether or not the count goes so far: its accesses stand within the places. The record may come from
+    // anywhere.
+    pub fn group(&self, i: usize) -> Group
+        ensures { result ≡ group_at self.now.groups i }
+    {
+        let group = unpack_group(number_at(&self.groups, i));
+        Group {
+            loads: span_meant(group.loads),
+            stores: span_meant(group.stores),
+        }
+    }
+}
+
+impl Span {
+    // The places of its accesses among those of a table, which hold them all.
+    pub fn among<'a>(self, places: &'a [u16; 32]) -> &'a [u16]
+        requires { Inside self }
+        ensures numbers { result.now ≡ take self.count (drop self.first places.now) }
+        ensures pairs { map pair_in result.now ≡ list_of places.now self }
+    {
+        let first = self.first as usize;
+        &places[first..first + self.count as usize]
+    }
 }

@@ -1,38 +1,21 @@
 // Reading tables, number by number.
-ghost use Rattle.std.specs.Prelude.{◌≡◌, ◌+◌, ◌≤◌, length, drop, []};
-ghost use Rattle.table.specs.TableBytes.{read_pairs, read_group, read_groups, read_table, table_answer, pack};
-ghost use Rattle.table.specs.Internal.{read_two, two_reply, two_refusal, rule_of, RuleRight, front, pairs_in, pack_pairs, PairsResult};
-ghost use Rattle.table.specs.Internal.{seen_of, group_made, GroupResult, put_in, Growing, Grown, GroupsResult};
+ghost use Rattle.std.specs.Prelude.{◌≡◌, ◌+◌, ◌≤◌, length, drop, map, []};
+ghost use Rattle.table.specs.Packed.{pair_in};
+ghost use Rattle.table.specs.TableBytes.{read_pairs, read_group, read_groups, read_table, table_reply, pack};
+ghost use Rattle.table.specs.Internal.{read_two, two_reply, rule_of, RuleRight, pairs_in, pack_pairs, PairsResult};
+ghost use Rattle.table.specs.Internal.{seen_of, GroupResult, put_in, Growing, Grown, GroupsResult};
 ghost use Rattle.table.specs.Table.{none_seen};
-ghost use Rattle.number.specs.Reply.{refuse};
+ghost use Rattle.number.specs.Reply.{reply};
 ghost use Rattle.number.specs.Number.{read_in};
 
-use crate::check::{counts_right, offset_right, pair_fault};
+use crate::check::{Ports, Rule, check_pair, counts_right};
 use crate::parts::{pack_group, pack_pair};
-use crate::{Group, Pair, Span, Table, TableRead};
-use number::NumberRead;
-use number::reading::{number_refusal, read_number};
-use number::refusal::{BAD_COUNTS, BAD_FIELDS, BAD_GROUP_COUNT, LEFT_OVER};
+use crate::{Group, Pair, Span, Table};
+use number::reading::read_number;
+use number::refusal::Refusal;
 
-// Two numbers, one after the other, and the place after them; or the refusal number.
-#[derive(Clone, Copy)]
-pub(crate) enum TwoRead {
-    Two {
-        first: u32,
-        second: u32,
-        next: usize,
-    },
-    NoTwo(u8),
-}
-
-// The ports seen so far in a table, a mark for each.
-#[derive(Clone, Copy)]
-pub(crate) struct Ports {
-    pub loads: [bool; 32],
-    pub stores: [bool; 32],
-}
-
-// A group's pairs of one kind that were read, each packed into a number: `count` of them, from the first place on.
+// A group's pairs of one kind that were read, each packed into a number: `count` of them, from the first place on. A group has
+// at most 16, and there is no heap.
 #[derive(Clone, Copy)]
 pub(crate) struct Pairs {
     pub count: u8,
@@ -46,291 +29,134 @@ pub(crate) struct NewGroup {
     pub stores: Pairs,
 }
 
-// The pairs that were read and the ports seen by then; or the refusal number, and the rest means nothing.
-#[derive(Clone, Copy)]
-pub(crate) struct PairsRead {
-    pub answer: u8,
-    pub next: usize,
-    pub pairs: Pairs,
-    pub seen: [bool; 32],
-}
-
-// The group that was read and the ports seen by then; or the refusal number, and the rest means nothing.
-#[derive(Clone, Copy)]
-pub(crate) struct GroupRead {
-    pub answer: u8,
-    pub next: usize,
-    pub group: NewGroup,
-    pub seen: Ports,
-}
-
-// The groups that were read; or the refusal number, and the rest means nothing.
-#[derive(Clone, Copy)]
-pub(crate) struct GroupsRead {
-    pub answer: u8,
-    pub next: usize,
-    pub table: Table,
-}
-
-// Reads two numbers.
-fn read_two(bytes: &[u8], at: usize) -> TwoRead
+// Reads two numbers, and says where they end.
+fn read_two(bytes: &[u8], at: usize) -> Result<(u32, u32, usize), Refusal>
     ensures { two_reply result ≡ read_in bytes.now (read_two (drop at bytes.now)) }
 {
-    let read = read_number(bytes, at);
-    let NumberRead::Number {
-        value: first,
-        next: place,
-    } = read
-    else {
-        return TwoRead::NoTwo(number_refusal(read));
-    };
-    let read = read_number(bytes, place);
-    let NumberRead::Number {
-        value: second,
-        next,
-    } = read
-    else {
-        return TwoRead::NoTwo(number_refusal(read));
-    };
-    TwoRead::Two {
-        first,
-        second,
-        next,
+    let (first, place) = read_number(bytes, at)?;
+    let (second, place) = read_number(bytes, place)?;
+    Ok((first, second, place))
+}
+
+impl Pairs {
+    // No pairs.
+    fn none() -> Pairs
+        ensures { result ≡ pack_pairs [] }
+    {
+        Pairs {
+            count: 0,
+            places: [0; 32],
+        }
+    }
+
+    // The numbers that hold them.
+    fn numbers(&self) -> &[u16]
+        requires { self.now.count ≤ 32 }
+        ensures { map pair_in result.now ≡ pairs_in self.now }
+    {
+        &self.places[..self.count as usize]
     }
 }
 
-fn two_refusal(read: TwoRead) -> u8
-    ensures { result ≡ two_refusal read }
-{
-    match read {
-        TwoRead::Two {
-            first: _,
-            second: _,
-            next: _,
-        } => 0,
-        TwoRead::NoTwo(number) => number,
-    }
-}
-
-// No pairs.
-fn no_pairs() -> Pairs
-    ensures { result ≡ pack_pairs [] }
-{
-    Pairs {
-        count: 0,
-        places: [0; 32],
-    }
-}
-
-// Refused pairs.
-fn no_pairs_read(answer: u8, seen: [bool; 32]) -> PairsRead
-    ensures { result.answer ≡ answer }
-{
-    PairsRead {
-        answer,
-        next: 0,
-        pairs: no_pairs(),
-        seen,
-    }
-}
-
-// Reads a group's pairs of one kind: each whole, and then 8, 6, 7.
-fn read_pairs(
-    bytes: &[u8],
+// Reads a group's pairs of one kind, each whole and then 8, 6, 7, and says where they end. The marks of the ports seen are lent, and
+// take in the pairs' own.
+fn read_pairs<'a>(
+    bytes: &'a [u8],
     at: usize,
-    count: u32,
-    storing: bool,
-    stores: u8,
-    loads: Pairs,
-    seen: [bool; 32],
-) -> PairsRead
-    requires { (count ≤ 16) × (at ≤ length bytes.now) × RuleRight storing stores loads.places (front loads.count) }
-    ensures { PairsResult bytes.now seen
-        (read_pairs (rule_of storing stores (pairs_in loads)) count 0 0 seen (drop at bytes.now)) result }
+    count: usize,
+    rule: Rule<'a>,
+    seen: &mut [bool; 32],
+) -> Result<(Pairs, usize), Refusal>
+    requires { (count ≤ 16) × (at ≤ length bytes.now) × RuleRight rule }
+    ensures { PairsResult bytes.now seen.old (read_pairs (rule_of rule.entry) count 0 0 seen.old (drop at bytes.now)) seen.new result }
 {
-    let load_places = loads.places;
-    let load_span = Span {
-        first: 0,
-        count: loads.count,
-    };
-    let mut pairs = no_pairs();
-    let mut marks = seen;
+    let mut pairs = Pairs::none();
     let mut low: u32 = 0;
     let mut place = at;
-    let mut i: u32 = 0;
-    while i < count {
-        let read = read_two(bytes, place);
-        let TwoRead::Two {
-            first: offset,
-            second: port,
-            next,
-        } = read
-        else {
-            return no_pairs_read(two_refusal(read), marks);
-        };
-        let right = offset_right(storing, stores, &load_places, load_span, low, i, offset);
-        let answer = pair_fault(right, &marks, port);
-        if answer != 0 {
-            return no_pairs_read(answer, marks);
-        }
-        let pair = Pair {
+    for i in 0..count {
+        let (offset, port, next) = read_two(bytes, place)?;
+        check_pair(rule.allows(low, i, offset), seen, port)?;
+        pairs.places[i] = pack_pair(Pair {
             offset: offset as u8,
             port: port as u8,
-        };
-        pairs.places[i as usize] = pack_pair(pair);
-        marks[port as usize] = true;
+        });
+        seen[port as usize] = true;
         low = offset;
         place = next;
-        i += 1;
     }
     pairs.count = count as u8;
-    PairsRead {
-        answer: 0,
-        next: place,
-        pairs,
-        seen: marks,
-    }
+    Ok((pairs, place))
 }
 
-// A refused group.
-fn no_group(answer: u8, seen: Ports) -> GroupRead
-    ensures { result.answer ≡ answer }
+// Reads a group: both counts, 5, its loads, its stores; and says where it ends.
+fn read_group(bytes: &[u8], at: usize, seen: &mut Ports) -> Result<(NewGroup, usize), Refusal>
+    ensures { GroupResult bytes.now (seen_of seen.old) (read_group (seen_of seen.old) (drop at bytes.now)) (seen_of seen.new) result }
 {
-    let none = no_pairs();
-    let group = NewGroup {
-        loads: none,
-        stores: none,
-    };
-    GroupRead {
-        answer,
-        next: 0,
-        group,
-        seen,
-    }
-}
-
-// The group whose loads and then stores were read.
-fn group_made(first: PairsRead, second: PairsRead) -> GroupRead
-    ensures { result ≡ group_made first second }
-{
-    let loads = first.pairs;
-    let stores = second.pairs;
-    let group = NewGroup { loads, stores };
-    let load_marks = first.seen;
-    let store_marks = second.seen;
-    let marks = Ports {
-        loads: load_marks,
-        stores: store_marks,
-    };
-    GroupRead {
-        answer: 0,
-        next: second.next,
-        group,
-        seen: marks,
-    }
-}
-
-// Reads a group: both counts, 5, its loads, its stores.
-fn read_group(bytes: &[u8], at: usize, seen: Ports) -> GroupRead
-    ensures { GroupResult bytes.now (seen_of seen) (read_group (seen_of seen) (drop at bytes.now)) result }
-{
-    let read = read_two(bytes, at);
-    let TwoRead::Two {
-        first: load_count,
-        second: store_count,
-        next,
-    } = read
-    else {
-        return no_group(two_refusal(read), seen);
-    };
+    let (load_count, store_count, place) = read_two(bytes, at)?;
     if !counts_right(load_count, store_count) {
-        return no_group(BAD_COUNTS, seen);
+        return Err(Refusal::BadCounts);
     }
-    let none = no_pairs();
-    let few_stores = store_count as u8;
-    let load_marks = seen.loads;
-    let first = read_pairs(bytes, next, load_count, false, few_stores, none, load_marks);
-    if first.answer != 0 {
-        return no_group(first.answer, seen);
-    }
-    let loads = first.pairs;
-    let store_marks = seen.stores;
-    let second = read_pairs(
-        bytes,
-        first.next,
-        store_count,
-        true,
-        few_stores,
-        loads,
-        store_marks,
-    );
-    if second.answer != 0 {
-        return no_group(second.answer, seen);
-    }
-    group_made(first, second)
+    let rule = Rule::Loads {
+        stores: store_count,
+    };
+    let (loads, place) = read_pairs(bytes, place, load_count as usize, rule, &mut seen.loads)?;
+    let rule = Rule::Stores {
+        loads: loads.numbers(),
+    };
+    let (stores, place) = read_pairs(bytes, place, store_count as usize, rule, &mut seen.stores)?;
+    Ok((NewGroup { loads, stores }, place))
 }
 
-// The table of no groups: what a refused reading holds.
-pub fn no_table() -> Table
-    ensures { result ≡ pack [] }
-{
-    Table {
-        count: 0,
-        groups: [0; 16],
-        loads: [0; 32],
-        stores: [0; 32],
-    }
-}
-
-// The places with a group's accesses put in from a place on.
-fn with_pairs(mut places: [u16; 32], from: usize, pairs: Pairs) -> [u16; 32]
+// Puts a group's accesses into the places from a place on.
+fn put_pairs(places: &mut [u16; 32], from: usize, pairs: Pairs)
     requires { from + pairs.count ≤ 32 }
-    ensures { result ≡ put_in places from pairs }
+    ensures { places.new ≡ put_in places.old from pairs }
 {
     let count = pairs.count as usize;
-    let mut i: usize = 0;
-    while i < count {
-        places[from + i] = pairs.places[i];
-        i += 1;
+    places[from..from + count].copy_from_slice(&pairs.places[..count]);
+}
+
+impl Table {
+    // The table of no groups.
+    pub fn none() -> Table
+        ensures { result ≡ pack [] }
+    {
+        Table {
+            count: 0,
+            groups: [0; 16],
+            loads: [0; 32],
+            stores: [0; 32],
+        }
     }
-    places
+
+    // Puts a group behind those that it has: `loads` and `stores` are the places behind theirs.
+    fn push(&mut self, loads: u8, stores: u8, group: NewGroup)
+        requires { Growing self.old loads stores group }
+        ensures { Grown self.old loads stores group self.new }
+    {
+        let placed = Group {
+            loads: Span {
+                first: loads,
+                count: group.loads.count,
+            },
+            stores: Span {
+                first: stores,
+                count: group.stores.count,
+            },
+        };
+        self.groups[self.count as usize] = pack_group(placed);
+        put_pairs(&mut self.loads, loads as usize, group.loads);
+        put_pairs(&mut self.stores, stores as usize, group.stores);
+        self.count += 1;
+    }
 }
 
-// A table with a group more: `loads` and `stores` are the places behind those of the groups that it has.
-fn with_group(mut table: Table, loads: u8, stores: u8, group: NewGroup) -> Table
-    requires { Growing table loads stores group }
-    ensures { Grown table loads stores group result }
-{
-    let new_loads = group.loads;
-    let new_stores = group.stores;
-    let at = table.count as usize;
-    let load_span = Span {
-        first: loads,
-        count: new_loads.count,
-    };
-    let store_span = Span {
-        first: stores,
-        count: new_stores.count,
-    };
-    let placed = Group {
-        loads: load_span,
-        stores: store_span,
-    };
-    table.groups[at] = pack_group(placed);
-    let load_places = table.loads;
-    let store_places = table.stores;
-    table.loads = with_pairs(load_places, loads as usize, new_loads);
-    table.stores = with_pairs(store_places, stores as usize, new_stores);
-    table.count += 1;
-    table
-}
-
-// Reads `count` groups.
-fn read_groups(bytes: &[u8], at: usize, count: u32) -> GroupsRead
+// Reads `count` groups, and says where they end.
+fn read_groups(bytes: &[u8], at: usize, count: u32) -> Result<(Table, usize), Refusal>
     requires { (count ≤ 16) × (at ≤ length bytes.now) }
     ensures { GroupsResult bytes.now (read_groups count none_seen (drop at bytes.now)) result }
 {
-    let mut table = no_table();
+    let mut table = Table::none();
     let mut loads: u8 = 0;
     let mut stores: u8 = 0;
     let mut seen = Ports {
@@ -338,79 +164,31 @@ fn read_groups(bytes: &[u8], at: usize, count: u32) -> GroupsRead
         stores: [false; 32],
     };
     let mut place = at;
-    let mut i: u32 = 0;
-    while i < count {
-        let read = read_group(bytes, place, seen);
-        if read.answer != 0 {
-            return GroupsRead {
-                answer: read.answer,
-                next: place,
-                table,
-            };
-        }
-        let group = read.group;
-        table = with_group(table, loads, stores, group);
-        let new_loads = group.loads;
-        let new_stores = group.stores;
-        loads += new_loads.count;
-        stores += new_stores.count;
-        seen = read.seen;
-        place = read.next;
-        i += 1;
+    for _i in 0..count {
+        let (group, next) = read_group(bytes, place, &mut seen)?;
+        table.push(loads, stores, group);
+        loads += group.loads.count;
+        stores += group.stores.count;
+        place = next;
     }
-    GroupsRead {
-        answer: 0,
-        next: place,
-        table,
-    }
-}
-
-// A refused table.
-fn refused(answer: u8) -> TableRead
-    ensures { result ≡ table_answer (refuse answer) }
-{
-    TableRead {
-        answer,
-        table: no_table(),
-    }
+    Ok((table, place))
 }
 
 // Reads a table: the whole of the bytes.
-pub fn read_table(bytes: &[u8]) -> TableRead
-    ensures { result ≡ table_answer (read_table bytes.now) }
+pub fn read_table(bytes: &[u8]) -> Result<Table, Refusal>
+    ensures { reply result ≡ table_reply (read_table bytes.now) }
 {
-    let read = read_number(bytes, 0);
-    let NumberRead::Number {
-        value: fields,
-        next: place,
-    } = read
-    else {
-        return refused(number_refusal(read));
-    };
+    let (fields, place) = read_number(bytes, 0)?;
     if fields != 2 {
-        return refused(BAD_FIELDS);
+        return Err(Refusal::BadFields);
     }
-    let read = read_number(bytes, place);
-    let NumberRead::Number {
-        value: count,
-        next: place,
-    } = read
-    else {
-        return refused(number_refusal(read));
-    };
-    if count < 1 {
-        return refused(BAD_GROUP_COUNT);
+    let (count, place) = read_number(bytes, place)?;
+    if count < 1 || 16 < count {
+        return Err(Refusal::BadGroupCount);
     }
-    if 16 < count {
-        return refused(BAD_GROUP_COUNT);
+    let (table, place) = read_groups(bytes, place, count)?;
+    if place != bytes.len() {
+        return Err(Refusal::LeftOver);
     }
-    let groups = read_groups(bytes, place, count);
-    if groups.answer != 0 {
-        return refused(groups.answer);
-    }
-    if groups.next != bytes.len() {
-        return refused(LEFT_OVER);
-    }
-    let table = groups.table;
-    TableRead { answer: 0, table }
+    Ok(table)
 }

@@ -1,59 +1,49 @@
 -- The store's rule looks into the loads, which the first half of the check has found to rise.
-use Prim.Native.Nat.{◌≤◌}
-use mathlib.Core.Path.{◌≡◌, sym, ◌∙◌}
-use mathlib.Core.Bool.{true}
+use mathlib.Core.Path.{◌≡◌, sym, ap₂, ◌∙◌}
+use mathlib.Core.Bool.{Bool, true}
+use mathlib.Core.List.{List}
 use native.Mathlib.Omega.{arith}
-use Rattle.table.specs.Table.{counts_right}
-use Rattle.table.specs.Internal.{seen_in, GroupInside}
-use Rattle.table.proofs.CheckLaws.{counts-few, rising-checked, group-counts, group-loads, group-stores}
-use Rattle.table.proofs.Among.{pairs-zero}
+use borrow.Author.Rules.{rules}
+use Rattle.std.specs.Prelude.{Err}
+use Rattle.table.specs.Table.{Seen, counts_right}
+use Rattle.table.specs.Internal.{seen_of}
+use Rattle.table.proofs.CheckLaws.{counts-few, rising-checked, among-length, group-counts, group-loads, group-stores, checks-last}
 use Rattle.table.proofs.check.check_group.Goals as goal
+use Rattle.table.proofs.check.check_group.Goals.{After-among-loads}
+
+right : (c : After-among-loads) → counts_right c.args.group.loads.count c.args.group.stores.count ≡ true
+right c = sym c.counts_right.ensures ∙ c.if-not-counts_right.false
 
 pub returns-then-not-counts_right : goal.returns-then-not-counts_right
 returns-then-not-counts_right c =
-    record {
-      answer = group-counts c.args.loads.now c.args.stores.now c.args.group (seen_in c.args.seen_loads.now c.args.seen_stores.now)
-          (sym c.counts_right.ensures ∙ c.if-not-counts_right.true);
-      marks = λ z. absurd (omega arith);
-    }
-
-pub returns-then-answer-ne0 : goal.returns-then-answer-ne0
-returns-then-answer-ne0 c =
-    let right : counts_right c.args.group.loads.count c.args.group.stores.count ≡ true =
-    sym c.counts_right.ensures ∙ c.if-not-counts_right.false in
-    record {
-      answer = group-loads c.args.loads.now c.args.stores.now c.args.group
-          (seen_in c.args.seen_loads.now c.args.seen_stores.now) right c.check_pairs-answer.ensures.answer c.if-answer-ne0.true;
-      marks = λ z. absurd (c.if-answer-ne0.true z);
-    }
+    let a = c.args in
+    group-counts a.table.now.loads a.table.now.stores a.group (seen_of a.seen.now) (sym c.counts_right.ensures ∙ c.if-not-counts_right.true)
 
 pub check_pairs-requires : goal.check_pairs-requires
-check_pairs-requires c =
-    let pre : GroupInside c.args.group = c.requires in
-    let right : counts_right c.args.group.loads.count c.args.group.stores.count ≡ true =
-    sym c.counts_right.ensures ∙ c.if-not-counts_right.false in
-    let few : (c.args.group.loads.count ≤ 16) × (c.args.group.stores.count ≤ 16) =
-    counts-few c.args.group.loads.count c.args.group.stores.count right in
-    let f = few in
-    let i = pre in (
-      record {
-        inside = i.0;
-        few = f.0;
-        few_stores = f.1;
-        rising =
-            λ e. rising-checked _ _ _ _ _ (pairs-zero _ _ _ _ _ (sym c.check_pairs-answer.ensures.answer ∙ c.if-answer-ne0.false));
-      },
-      i.1,
-    )
+check_pairs-requires c = (counts-few _ _ (right (goal.at.check_pairs-requires c).After-among-loads)).1
+
+pub returns-in_err-check_pairs : goal.returns-in_err-check_pairs
+returns-in_err-check_pairs c =
+    let a = c.args in
+    let r : c.from_residual.result ≡ Err c.in_err-check_pairs.field-0.0 = search rules in
+    let fault = rw c.among-loads.ensures.pairs at c.in_err-check_pairs.ensures in
+    rw r (group-loads a.table.now.loads a.table.now.stores a.group (seen_of a.seen.now)
+    (right (goal.at.returns-in_err-check_pairs c).After-among-loads) fault)
+
+pub check_pairs-requires-2 : goal.check_pairs-requires-2
+check_pairs-requires-2 c =
+    let few = counts-few c.args.group.loads.count c.args.group.stores.count (right (goal.at.check_pairs-requires-2 c).After-among-loads) in
+    let size = among-length c.among-loads.result.now c.args.table.now.loads c.args.group.loads c.among-loads.ensures.pairs in
+    let loads = c.in_ok-check_pairs.ensures in
+    (omega (arith, few.0, size), rising-checked _ _ _ _ _ loads.0)
 
 pub returns : goal.returns
 returns c =
-    let right : counts_right c.args.group.loads.count c.args.group.stores.count ≡ true =
-    sym c.counts_right.ensures ∙ c.if-not-counts_right.false in
-    let d = c.if-answer-ne0.false in
-    record {
-      answer = group-stores c.args.loads.now c.args.stores.now c.args.group (seen_in c.args.seen_loads.now c.args.seen_stores.now) right
-          (pairs-zero _ _ _ _ _ (sym c.check_pairs-answer.ensures.answer ∙ d))
-          c.check_pairs.ensures.answer;
-      marks = λ z. rw (c.check_pairs-answer.ensures.marks d, c.check_pairs.ensures.marks z);
-    }
+    let a = c.args in
+    let passed = c.in_ok-check_pairs.ensures in
+    let stores = rw (c.among-loads.ensures.pairs, c.among-stores.ensures.pairs) at c.check_pairs-2.ensures in
+    let loads = rw c.among-loads.ensures.pairs at passed.0 in
+    let marks = rw c.among-loads.ensures.pairs at passed.1 in
+    checks-last c.check_pairs-2.result
+    (group-stores a.table.now.loads a.table.now.stores a.group (seen_of a.seen.now) (right (goal.at.returns c).After-among-loads) loads)
+    (λ e. ap₂ (λ (x y : List Bool). record { loads = x; stores = y }) marks e) stores

@@ -1,92 +1,79 @@
 -- Both counts, then the loads, then the stores, whose rule goes by the loads that were read.
 use Prim.Native.Nat.{◌≤◌}
 use mathlib.Core.Path.{◌≡◌, refl, sym, ap, ap₂, ◌∙◌}
-use mathlib.Core.Bool.{true}
+use mathlib.Core.Bool.{Bool, true}
+use mathlib.Core.List.{List, map}
 use native.Mathlib.Omega.{arith}
-use lib.ListN.{length, drop}
+use borrow.Author.Rules.{rules}
+use lib.ListN.{length, drop, length-map}
+use Rattle.std.specs.Prelude.{Err}
 use Rattle.table.specs.declared.read.Pairs.{Pairs}
-use Rattle.table.specs.Table.{load_rule, counts_right}
-use Rattle.table.specs.TableBytes.{read_pairs}
-use Rattle.table.specs.Internal.{seen_in, read_two, two_reply, two_refusal, Finds, PairsFound}
+use Rattle.table.specs.Packed.{pair_in}
+use Rattle.table.specs.Table.{counts_right}
+use Rattle.table.specs.Internal.{seen_of, read_two}
 use Rattle.number.proofs.RoundTrip.{read_refused}
-use Rattle.number.proofs.ReplyLaws.{refused_some}
 use Rattle.table.proofs.CheckLaws.{counts-few, rising-checked}
-use Rattle.table.proofs.ReadLaws.{TwoGot, two-answer, two_among, group-two, tells-refused, tells-given}
-use Rattle.table.proofs.RoundTrip.{PairsWritten, pairs-written}
+use Rattle.table.proofs.ReadLaws.{TwoGot, two-answer, group-two}
+use Rattle.table.proofs.RoundTrip.{pairs-written}
 use Rattle.table.proofs.read.read_group.Goals as goal
+use Rattle.table.proofs.read.read_group.Goals.{After-counts_right, After-read_pairs}
 
-pub returns-in_default : goal.returns-in_default
-returns-in_default c =
+counts : (c : After-counts_right) → TwoGot c.args.bytes.now c.args.at c.in_ok-load_count.load_count c.in_ok-load_count.store_count c.in_ok-load_count.place
+counts c = two-answer c.args.bytes.now c.args.at c.in_ok-load_count.ensures
+
+right : (c : After-read_pairs) → counts_right c.in_ok-load_count.load_count c.in_ok-load_count.store_count ≡ true
+right c = sym c.counts_right.ensures ∙ c.if-not-counts_right.false
+
+pub returns-in_err-load_count : goal.returns-in_err-load_count
+returns-in_err-load_count c =
     let a = c.args in
     let two = read_two (drop a.at a.bytes.now) in
-    let e = read_refused a.bytes.now two (sym (ap two_reply c.in_default.is) ∙ c.read_two-read.ensures) in
-    tells-refused (group-two _ _ ∙ rw e) (c.no_group.ensures ∙ c.two_refusal.ensures ∙ ap two_refusal c.in_default.is)
-    (refused_some two (two_among _) e)
+    let e = read_refused a.bytes.now two c.in_err-load_count.ensures in
+    let r : c.from_residual.result ≡ Err c.in_err-load_count.field-0.0 = search rules in
+    rw r (group-two _ _ ∙ rw e)
 
 pub returns-then-not-counts_right : goal.returns-then-not-counts_right
 returns-then-not-counts_right c =
-    let counts : TwoGot c.args.bytes.now c.args.at c.in-Two.load_count c.in-Two.store_count c.in-Two.next =
-    two-answer _ _ (sym (ap two_reply c.in-Two.is) ∙ c.read_two-read.ensures) in
     let wrong = sym c.counts_right.ensures ∙ c.if-not-counts_right.true in
-    tells-refused (group-two _ _ ∙ rw (counts.is, wrong)) c.no_group-then-not-counts_right.ensures (λ z. omega arith)
+    group-two _ _ ∙ rw ((counts (goal.at.returns-then-not-counts_right c).After-counts_right).is, wrong)
 
-pub returns-then-first-ne0 : goal.returns-then-first-ne0
-returns-then-first-ne0 c =
-    let counts : TwoGot c.args.bytes.now c.args.at c.in-Two.load_count c.in-Two.store_count c.in-Two.next =
-    two-answer _ _ (sym (ap two_reply c.in-Two.is) ∙ c.read_two-read.ensures) in
-    let right : counts_right c.in-Two.load_count c.in-Two.store_count ≡ true = sym c.counts_right.ensures ∙ c.if-not-counts_right.false in
-    let wrong = c.read_pairs-first.ensures.refused c.if-first-ne0.true in
-    tells-refused (group-two _ _ ∙ rw (counts.is, right, wrong)) c.no_group-then-first-ne0.ensures c.if-first-ne0.true
+pub returns-in_err-loads : goal.returns-in_err-loads
+returns-in_err-loads c =
+    let g = goal.at.returns-in_err-loads c in
+    let r : c.from_residual-in_err-loads.result ≡ Err c.in_err-loads.field-0.0 = search rules in
+    rw r (group-two _ _ ∙ rw ((counts g.After-counts_right).is, right g.After-read_pairs, c.in_err-loads.ensures))
 
-pub read_pairs-second-requires : goal.read_pairs-second-requires
-read_pairs-second-requires c =
-    let right : counts_right c.in-Two.load_count c.in-Two.store_count ≡ true = sym c.counts_right.ensures ∙ c.if-not-counts_right.false in
-    let few : (c.in-Two.load_count ≤ 16) × (c.in-Two.store_count ≤ 16) = counts-few c.in-Two.load_count c.in-Two.store_count right in
-    let loads : Finds (read_pairs (load_rule c.in-Two.store_count) c.in-Two.load_count 0 0 c.args.seen.loads
-    (drop c.in-Two.next c.args.bytes.now)) c.args.bytes.now c.read_pairs-first.result.next
-    (PairsFound c.args.seen.loads c.read_pairs-first.result) = c.read_pairs-first.ensures.given c.if-first-ne0.false in
-    let loads_right : PairsWritten (load_rule c.in-Two.store_count) c.in-Two.load_count 0 0 c.args.seen.loads
-    (drop c.in-Two.next c.args.bytes.now) loads.what (drop c.read_pairs-first.result.next c.args.bytes.now)
-    = pairs-written _ _ _ _ _ _ loads.is in
-    let loads-few : length loads.what ≤ 16 = omega (arith, loads_right.many, few.0) in (
-      few.1,
-      loads.inside,
-      record {
-        inside = rw loads.found.pairs (omega (arith, loads-few));
-        few = rw loads.found.pairs (loads-few);
-        few_stores = few.1;
-        rising = λ z. rw loads.found.holds (rising-checked _ _ _ _ _ loads_right.right);
-      },
-    )
+pub read_pairs-requires-2 : goal.read_pairs-requires-2
+read_pairs-requires-2 c =
+    let few = counts-few c.in_ok-load_count.load_count c.in_ok-load_count.store_count (right (goal.at.read_pairs-requires-2 c).After-read_pairs) in
+    let loads = c.in_ok-loads.ensures in
+    let loads_right = pairs-written _ _ _ _ _ _ loads.is in
+    let same : map pair_in c.numbers.result.now ≡ loads.what = c.numbers.ensures ∙ loads.found.holds in
+    let size : length c.numbers.result.now ≡ length loads.what = sym (length-map c.numbers.result.now pair_in) ∙ ap length same in
+    (few.1, loads.inside, (omega (arith, size, loads_right.many, few.0), rw same (rising-checked _ _ _ _ _ loads_right.right)))
 
-pub returns-then-second-ne0 : goal.returns-then-second-ne0
-returns-then-second-ne0 c =
-    let counts : TwoGot c.args.bytes.now c.args.at c.in-Two.load_count c.in-Two.store_count c.in-Two.next =
-    two-answer _ _ (sym (ap two_reply c.in-Two.is) ∙ c.read_two-read.ensures) in
-    let right : counts_right c.in-Two.load_count c.in-Two.store_count ≡ true = sym c.counts_right.ensures ∙ c.if-not-counts_right.false in
-    let loads : Finds (read_pairs (load_rule c.in-Two.store_count) c.in-Two.load_count 0 0 c.args.seen.loads
-    (drop c.in-Two.next c.args.bytes.now)) c.args.bytes.now c.read_pairs-first.result.next
-    (PairsFound c.args.seen.loads c.read_pairs-first.result) = c.read_pairs-first.ensures.given c.if-first-ne0.false in
-    let wrong = rw loads.found.holds at (c.read_pairs-second.ensures.refused c.if-second-ne0.true) in
-    tells-refused (group-two _ _ ∙ rw (counts.is, right, loads.is, wrong)) c.no_group-then-second-ne0.ensures c.if-second-ne0.true
+pub returns-in_err-stores : goal.returns-in_err-stores
+returns-in_err-stores c =
+    let g = goal.at.returns-in_err-stores c in
+    let loads = c.in_ok-loads.ensures in
+    let same : map pair_in c.numbers.result.now ≡ loads.what = c.numbers.ensures ∙ loads.found.holds in
+    let wrong = rw same at c.in_err-stores.ensures in
+    let r : c.from_residual-in_err-stores.result ≡ Err c.in_err-stores.field-0.0 = search rules in
+    rw r (group-two _ _ ∙ rw ((counts g.After-counts_right).is, right g.After-read_pairs, loads.is, wrong))
 
 pub returns : goal.returns
 returns c =
-    let counts : TwoGot c.args.bytes.now c.args.at c.in-Two.load_count c.in-Two.store_count c.in-Two.next =
-    two-answer _ _ (sym (ap two_reply c.in-Two.is) ∙ c.read_two-read.ensures) in
-    let right : counts_right c.in-Two.load_count c.in-Two.store_count ≡ true = sym c.counts_right.ensures ∙ c.if-not-counts_right.false in
-    let loads : Finds (read_pairs (load_rule c.in-Two.store_count) c.in-Two.load_count 0 0 c.args.seen.loads
-    (drop c.in-Two.next c.args.bytes.now)) c.args.bytes.now c.read_pairs-first.result.next
-    (PairsFound c.args.seen.loads c.read_pairs-first.result) = c.read_pairs-first.ensures.given c.if-first-ne0.false in
-    let t = c.read_pairs-second.ensures.given c.if-second-ne0.false in
-    let is = rw loads.found.holds at t.is in
-    rw c.group_made.ensures
-    (tells-given refl (record {
-      what = record { loads = loads.what; stores = t.what };
-      is = group-two _ _ ∙ rw (counts.is, right, loads.is, is);
-      inside = t.inside;
+    let g = goal.at.returns c in
+    let loads = c.in_ok-loads.ensures in
+    let stores = c.in_ok-stores.ensures in
+    let same : map pair_in c.numbers.result.now ≡ loads.what = c.numbers.ensures ∙ loads.found.holds in
+    let is = rw same at stores.is in
+    record {
+      what = record { loads = loads.what; stores = stores.what };
+      is = group-two _ _ ∙ rw ((counts g.After-counts_right).is, right g.After-read_pairs, loads.is, is);
+      inside = stores.inside;
       found = record {
-        group = ap₂ (λ (x y : Pairs). record { loads = x; stores = y }) loads.found.pairs t.found.pairs;
-        marks = ap₂ seen_in loads.found.marks t.found.marks;
+        group = ap₂ (λ (x y : Pairs). record { loads = x; stores = y }) loads.found.pairs stores.found.pairs;
+        marks = ap₂ (λ (x y : List Bool). record { loads = x; stores = y }) loads.found.marks stores.found.marks;
       };
-    }))
+    }

@@ -15,10 +15,10 @@ use Rattle.table.proofs.write.put_group.Goals.{After-put_number-after_counts}
 -- both counts have been put, and there is room for the accesses
 room : (c : After-put_number-after_counts) → c.args.at +
     (length (number_bytes c.args.group.loads.count) + length (number_bytes c.args.group.stores.count) + length
-    (bytes_of (flat_map pair_numbers (list_of c.args.loads.now c.args.group.loads))) + length
-    (bytes_of (flat_map pair_numbers (list_of c.args.stores.now c.args.group.stores)))) ≤ length c.args.out.now
+    (bytes_of (flat_map pair_numbers (list_of c.args.table.now.loads c.args.group.loads))) + length
+    (bytes_of (flat_map pair_numbers (list_of c.args.table.now.stores c.args.group.stores)))) ≤ length c.args.out.now
 room c = omega
-    (arith, group-bytes c.args.loads.now c.args.stores.now c.args.group, c.requires.1)
+    (arith, group-bytes c.args.table.now.loads c.args.table.now.stores c.args.group, c.requires.1)
 
 first_put : (c : After-put_number-after_counts) → let a = c.args in Puts a.out.now a.at
     (number_bytes a.group.loads.count) c.put_number-after_loads.result c.put_number-after_loads.new.out
@@ -48,24 +48,19 @@ counts_put c = put_two put_none c.args.group.loads.count c.args.group.stores.cou
 pub put_pairs-after_pairs-requires : goal.put_pairs-after_pairs-requires
 put_pairs-after_pairs-requires c =
     let p = (goal.at.put_pairs-after_pairs-requires c).After-put_number-after_counts in
-    (c.requires.0.0, omega (arith, (room p), (counts_end p).0, (counts_end p).1))
+    rw c.among.ensures.pairs (omega (arith, room p, (counts_end p).0, (counts_end p).1))
 
 pub put_pairs-requires : goal.put_pairs-requires
 put_pairs-requires c =
     let p = (goal.at.put_pairs-requires c).After-put_number-after_counts in
-    let loads-end : (c.put_pairs-after_pairs.result ≡ c.args.at + length (number_bytes c.args.group.loads.count) + length
-    (number_bytes c.args.group.stores.count) + length
-    (bytes_of (flat_map pair_numbers (list_of c.args.loads.now c.args.group.loads)))) ×
-    (length c.put_pairs-after_pairs.new.out ≡ length c.args.out.now) = (
-      omega (arith, (counts_end p).0, c.put_pairs-after_pairs.ensures.ends),
-      omega
-          (arith, (counts_end p).1, c.put_pairs-after_pairs.auto.out),
-    ) in
-    (c.requires.0.1, omega (arith, (room p), loads-end.0, loads-end.1))
+    let loads = rw c.among.ensures.pairs at c.put_pairs-after_pairs.ensures.ends in
+    rw c.among-2.ensures.pairs (omega (arith, room p, (counts_end p).0, (counts_end p).1, loads, c.put_pairs-after_pairs.auto.out))
 
 pub returns : goal.returns
 returns c =
     let p = (goal.at.returns c).After-put_number-after_counts in
-    let w = put-group c.args.loads.now c.args.stores.now c.args.group (counts_put p) c.requires.1 c.put_pairs-after_pairs.ensures.is
-    c.put_pairs-after_pairs.ensures.ends c.put_pairs.ensures.is c.put_pairs.ensures.ends in
+    let t = c.args.table.now in
+    let loads = rw c.among.ensures.pairs at c.put_pairs-after_pairs.ensures in
+    let stores = rw c.among-2.ensures.pairs at c.put_pairs.ensures in
+    let w = put-group t.loads t.stores c.args.group (counts_put p) c.requires.1 loads.is loads.ends stores.is stores.ends in
     record { ends = w.ends; is = w.is }

@@ -8,3 +8,4 @@ pub mod NumberLaws
 pub mod SpliceLaws
 pub mod PutLaws
 pub mod RoundTrip
+pub mod AnswerLaws

@@ -43,6 +43,10 @@ accepted (accept a) = true
 abbrev pub passed : Reply (Unit {0})
 passed = accept tt
 
+-- the check alone: it is passed where something is given
+abbrev pub check_of : {A : Type 0} → Reply A → Reply (Unit {0})
+check_of r = and_then r λ a. passed
+
 -- both checks are passed, or the first refusal is told
 abbrev pub both : Reply (Unit {0}) → Reply (Unit {0}) → Reply (Unit {0})
 both first second = and_then first λ t. second

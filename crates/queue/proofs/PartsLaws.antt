@@ -4,14 +4,13 @@ use borrow.Author.Tests.{not-true, not-false}
 use Rattle.queue.specs.declared.Queue.{Queue}
 use Rattle.queue.specs.declared.Kind.TheVariants.{Load as load, Store as store}
 use Rattle.queue.specs.declared.Frame.{Frame}
-use Rattle.queue.specs.declared.opening.OpenedFrame.{OpenedFrame}
 use Rattle.number.specs.Refusal.{unsound}
 use Rattle.number.specs.Reply.{Reply, refuse, accept, need}
 use Rattle.queue.specs.Contents.{Contents, contents_of}
 use Rattle.queue.specs.Sound.{sound}
 use Rattle.queue.specs.Open.{fresh_queue, no_queue}
 use Rattle.queue.specs.Outcome.{Opens}
-use Rattle.queue.specs.Parts.{whole, on_parts, OnWholeRuns, OpensFrame}
+use Rattle.queue.specs.Parts.{whole, on_parts, OnWholeRuns, OpenedFrame, OpensFrame}
 use Rattle.number.proofs.Both.{and_left, and_right}
 use Rattle.queue.proofs.SoundLaws.{count_most}
 

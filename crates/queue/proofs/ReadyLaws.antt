@@ -1,6 +1,6 @@
 -- What serve and write accept goes by the entry and the entries before it, and not by the memory's words; and the serials that
 -- pass, gathered from the oldest.
-use Rattle.std.proofs.Common.{◌≡◌, ℕ, zero, suc, ◌+◌, ◌-◌, ◌^◌, ◌<◌, ◌≤◌, Bool, true, false, not, eqb, leb, List, [], ◌∷◌, ◌++◌, length, get_or, take, drop, set, sym, refl, ap, ◌∙◌, ap₂, append_assoc, append-nil, le_trans, le_of_suc-le-suc, not-suc-le-zero, add-one, arith, length-append, length-drop, length-take-le}
+use Rattle.std.proofs.Common.{◌≡◌, ℕ, zero, suc, ◌+◌, ◌-◌, ◌^◌, ◌<◌, ◌≤◌, Bool, true, false, not, eqb, leb, Result, Ok, Err, List, [], ◌∷◌, ◌++◌, length, get_or, take, drop, set, sym, refl, ap, ◌∙◌, ap₂, append_assoc, append-nil, le_trans, le_of_suc-le-suc, not-suc-le-zero, add-one, arith, length-append, length-drop, length-take-le}
 use native.Mathlib.Nat.{sub-zero}
 use mathlib.Core.Option.{Option, none, some}
 use lib.ListN.{length-replicate, get_elem?}
@@ -9,22 +9,21 @@ use Rattle.number.specs.Basics.{pick, keep_where}
 use Rattle.queue.specs.declared.Kind.{Kind}
 use Rattle.queue.specs.declared.Kind.TheVariants.{Load as load, Store as store}
 use Rattle.queue.specs.declared.ready.Serials.{Serials}
-use Rattle.queue.specs.declared.ready.ReadyCount.{ReadyCount}
 use Rattle.queue.specs.declared.Queue.{Queue}
-use Rattle.queue.specs.declared.Readied.{Readied}
-use Rattle.number.specs.Refusal.{too_short, unsound, no_serial}
-use Rattle.number.specs.Reply.{Reply, refuse, accept, need, have, and_then, number, accepted}
+use Rattle.number.specs.declared.refusal.Refusal.{Refusal}
+use Rattle.number.specs.Refusal.{too_short, unsound, no_serial, refusal_number}
+use Rattle.number.specs.Reply.{Reply, refuse, accept, need, have, and_then, number, accepted, reply}
 use Rattle.queue.specs.Entry.{Entry, entry_in, unpacked, served}
 use Rattle.queue.specs.Contents.{Contents, contents_of, after, age, oldest, place_of, entries_held, others_before}
 use Rattle.queue.specs.Sound.{sound}
 use Rattle.queue.specs.Serve.{unsettled, Source, from_store, from_memory, source, loaded_from, may_serve, served_with, serve_at, serve}
 use Rattle.queue.specs.Write.{may_write, written_with, write_at, write}
-use Rattle.queue.specs.Ready.{serials, count_of, oldest_of, answer_to, any_memory, would, ready_serials, ready, Readies, Fronts}
-use Rattle.queue.specs.Parts.{readied_of}
+use Rattle.queue.specs.Ready.{serials, count_of, oldest_of, answer_to, any_memory, would, ready_serials, ready, Readied, readied, Readies}
 use Rattle.queue.specs.Internal.{may_write_at, load_ready, ready_at, InReach, serials_listed, Noted, Lists, HandedOut}
 use Rattle.queue.proofs.ContentsLaws.{counts_of, side_next, side-count, side-get_elem?, side-take}
+use Rattle.number.proofs.AnswerLaws.{refusals_positive}
 use Rattle.number.proofs.ReplyLaws.{accepted_number}
-use Rattle.queue.proofs.Refusals.{need_same, have_same, may_write_proper, serve_proper, write_proper}
+use Rattle.queue.proofs.Refusals.{proper, need_same, have_same, small-proper, ready-small, may_write_proper, serve_proper, write_proper}
 use Rattle.queue.proofs.Serials.{place_of_serial, oldest-small}
 use Rattle.queue.proofs.SoundLaws.{count_most, before-held}
 use Rattle.queue.proofs.ServeLaws.{serve_by_place}
@@ -146,8 +145,14 @@ gathering_none {ready} {from} {n} numbers e h = record { few = omega arith; long
     front p [] = refl
     front p (x ∷ l) = refl
 
+-- one more serial, where it is ready
+record NotedIf (s : Serials) (serial : ℕ) (ready : Bool) (r : Serials) : Type 0 where
+  few : r.count ≤ s.count + 1
+  long : length r.numbers ≡ length s.numbers
+  are : serials_listed r ≡ serials_listed s ++ pick ready (serial ∷ []) []
+
 module _ {ready : ℕ → Bool} {from n i serial : ℕ} {s : Serials} (w : ReadyGathering ready from n i serial s) where
-  pub gathering-more : i < n → {now : Bool} → now ≡ ready i → {r : Serials} → Noted s serial now r → {next : ℕ} → next ≡ after serial 1
+  gathering-more : i < n → {now : Bool} → now ≡ ready i → {r : Serials} → NotedIf s serial now r → {next : ℕ} → next ≡ after serial 1
       → ReadyGathering ready from n (i + 1) next r
   gathering-more h {now} e {r} c {next} d =
       let few = w.few in
@@ -170,39 +175,18 @@ module _ {ready : ℕ → Bool} {from n i serial : ℕ} {s : Serials} (w : Ready
           rw (m, d, ← k) (pass p (p serial)) in
           w.are p agrees ∙ rw (split, c.are) (sym (append_assoc (serials_listed s) (pick now (serial ∷ []) []) (keep_where p (serials next (n - (i + 1))))))
 
+  pub gathering-ready : i < n → true ≡ ready i → {r : Serials} → Noted s serial r → {next : ℕ} → next ≡ after serial 1
+      → ReadyGathering ready from n (i + 1) next r
+  gathering-ready h e c d = gathering-more h e (record { few = omega (arith, c.few); long = c.long; are = c.are }) d
+
+  pub gathering-unready : i < n → false ≡ ready i → {next : ℕ} → next ≡ after serial 1 → ReadyGathering ready from n (i + 1) next s
+  gathering-unready h e d = gathering-more h e (record { few = omega arith; long = refl; are = sym append-nil }) d
+
   pub gathering-end : n ≤ i → (p : ℕ → Bool) → ((j : ℕ) → j < n → p (after from j) ≡ ready j)
       → serials_listed s ≡ keep_where p (serials from n)
   gathering-end h p agrees =
       let m : n - i ≡ 0 = omega arith in
       sym (w.are p agrees ∙ rw (m, append-nil))
-
--- ---- a list copied to the front of another: j elements have been copied
-pub record Copied (source old : List ℕ) (j : ℕ) (l : List ℕ) : Type 0 where
-  pub is : l ≡ take j source ++ drop j old
-
-copy_set : (source old : List ℕ) (j z : ℕ) → j < length old → j < length source
-    → set (take j source ++ drop j old) j (get_or source j z) ≡ take (suc j) source ++ drop (suc j) old
-copy_set [] old j z h k = absurd (not-suc-le-zero k)
-copy_set (x ∷ s) [] j z h k = absurd (not-suc-le-zero h)
-copy_set (x ∷ s) (y ∷ old) zero z h k = refl
-copy_set (x ∷ s) (y ∷ old) (suc j) z h k = rw (copy_set s old j z (le_of_suc-le-suc h) (le_of_suc-le-suc k))
-
-pub copied_none : {source old : List ℕ} → Copied source old 0 old
-copied_none {source} {old} = record { is = front source old }
-  where
-    front : (s l : List ℕ) → l ≡ take 0 s ++ drop 0 l
-    front [] l = refl
-    front (x ∷ s) l = refl
-
-module _ {source old : List ℕ} {j : ℕ} {l : List ℕ} (w : Copied source old j l) where
-  pub copied-length : j ≤ length source → j ≤ length old → length l ≡ length old
-  copied-length h k = ap length w.is ∙ rw (length-append, length-take-le j source h, length-drop) (omega arith)
-
-  pub copied_more : (z : ℕ) → j < length old → j < length source → Copied source old (j + 1) (set l j (get_or source j z))
-  copied_more z h k = record { is = rw (w.is, add-one) (copy_set source old j z h k) }
-
-  pub copied-whole : (n : ℕ) → j ≡ n → l ≡ take n source ++ drop n old
-  copied-whole n e = rw e at w.is
 
 -- ---- the serials of a record, once all of a kind's places have been looked at
 module _ (kind : Kind) (q : Queue) (right : sound (contents_of q) ≡ true) where
@@ -227,24 +211,42 @@ module _ (kind : Kind) (q : Contents) (run : List ℕ) where
   ready-sound right = rw right
 
 -- serials that were handed out are what the rule gives
-pub handed : (q : Queue) {found lent run : List ℕ} {s : Serials} {r : ReadyCount} → Lists found s → HandedOut s lent r run
-    → Readies q lent (need (leb (length found) (length lent)) too_short (accept found)) (readied_of r q) run
-handed q {found} {lent} {run} {s} {r} l h = rw (← l.size) (go (leb s.count (length lent)) h.gives h.leaves)
+readied_reply : Reply ℕ → Queue → Readied
+readied_reply (accept n) q = record { answer = 0; count = n; queue = q }
+readied_reply (refuse n) q = record { answer = n; count = 0; queue = q }
+
+readied_replies : (r : Result ℕ Refusal) (q : Queue) → readied r q ≡ readied_reply (reply r) q
+readied_replies (Ok n) q = refl
+readied_replies (Err e) q = refl
+
+pub handed : (q : Queue) {found lent run : List ℕ} {s : Serials} {r : Result ℕ Refusal} → Lists found s → HandedOut s lent r run
+    → Readies q lent (need (leb (length found) (length lent)) too_short (accept found)) (readied r q) run
+handed q {found} {lent} {run} {s} {r} l h = rw (← l.size, readied_replies r q) (go (leb s.count (length lent)) h.gives h.leaves)
   where
-    go : (room : Bool) → r ≡ pick room (record { answer = 0; count = s.count }) (record { answer = too_short; count = 0 })
-        → run ≡ pick room (serials_listed s ++ drop s.count lent) lent
-        → Readies q lent (need room too_short (accept found)) (readied_of r q) run
+    go : (room : Bool) → reply r ≡ need room too_short (accept s.count) → run ≡ pick room (serials_listed s ++ drop s.count lent) lent
+        → Readies q lent (need room too_short (accept found)) (readied_reply (reply r) q) run
     go true e d = record { outcome = rw (e, l.size); run_is = d ∙ rw (l.are, l.size) }
     go false e d = record { outcome = rw e; run_is = d }
 
--- the front part that is handed back
-pub fronts : (q : Queue) (lent : List ℕ) (rule : Reply (List ℕ)) (r : Readied) (run : List ℕ) → Readies q lent rule r run
-    → (r.count ≤ length run) × Fronts q rule r.answer (take r.count run) r.queue
-fronts q lent (refuse n) r run w = rw w.outcome (omega arith, record { answer_is = refl; serials_are = none run; queue_is = refl })
-  where
-    none : (l : List ℕ) → take 0 l ≡ []
-    none [] = refl
-    none (x ∷ l) = refl
-fronts q lent (accept found) r run w =
-    rw (w.outcome, w.run_is)
-    (simp length-append (omega arith), record { answer_is = refl; serials_are = take-append_seam found (drop (length found) lent); queue_is = refl })
+-- the front part that is handed back, and what a refused call told
+module _ (kind : Kind) (q : Queue) (lent run : List ℕ) where
+  pub fronts : (count : ℕ) → Readies q lent (ready kind (contents_of q) lent) (readied (Ok count) q) run
+      → (count ≤ length run) × (ready kind (contents_of q) lent ≡ accept (take count run))
+  fronts count w = go (ready kind (contents_of q) lent) (small-proper _ (ready-small kind (contents_of q) lent)) w
+    where
+      go : (rule : Reply (List ℕ)) → proper rule ≡ true → Readies q lent rule (readied (Ok count) q) run
+          → (count ≤ length run) × (rule ≡ accept (take count run))
+      go (refuse n) p v = let z : 0 ≡ n = ap (λ (r : Readied). r.answer) v.outcome in absurd (rw (← z) at p)
+      go (accept found) p v =
+          let e : count ≡ length found = ap (λ (r : Readied). r.count) v.outcome in
+          rw (v.run_is, e) (simp length-append (omega arith), ap accept (sym (take-append_seam found (drop (length found) lent))))
+
+  pub refused : (e : Refusal) → Readies q lent (ready kind (contents_of q) lent) (readied (Err e) q) run
+      → ready kind (contents_of q) lent ≡ refuse (refusal_number e)
+  refused e w = go (ready kind (contents_of q) lent) w
+    where
+      go : (rule : Reply (List ℕ)) → Readies q lent rule (readied (Err e) q) run → rule ≡ refuse (refusal_number e)
+      go (refuse n) v = ap refuse (sym (ap (λ (r : Readied). r.answer) v.outcome))
+      go (accept found) v =
+          let z : refusal_number e ≡ 0 = ap (λ (r : Readied). r.answer) v.outcome in
+          absurd (omega (arith, z, refusals_positive e))

@@ -6,11 +6,12 @@ use lib.ListN.{length-map}
 use lib.Seq.{take-nil}
 use Rattle.number.specs.Basics.{pick, held, front_while, after_while}
 use Rattle.queue.specs.declared.Frame.{Frame}
+use Rattle.queue.specs.declared.Side.{Side as SideStruct}
 use Rattle.queue.specs.Entry.{Entry, unpacked, entry_in, number_of}
 use Rattle.queue.specs.Contents.{entries_held, contents_of}
 use Rattle.queue.specs.Retire.{finished, retiring, after_retiring, retire}
 use Rattle.queue.specs.Parts.{queue_of}
-use Rattle.queue.specs.Internal.{set_before, Shifted, shorter, frame_with_sides}
+use Rattle.queue.specs.Internal.{set_before, Shifted, shorter}
 use Rattle.queue.proofs.Lists.{map_same}
 use Rattle.queue.proofs.ContentsLaws.{mapped-few, mapped-length}
 use Rattle.queue.proofs.EntryLaws.{anew_number}
@@ -117,10 +118,14 @@ side-retired others n l {old} {new} e w =
     let k : l + (n - l) ≡ n = (let m : l ≤ n = rw e (entries-retiring n old) in omega arith) in
     w.holds ∙ rw (k, e, drop-retiring (entries_held n old))
 
+-- a frame with these sides
+abbrev pub with_sides : Frame → SideStruct → SideStruct → Frame
+with_sides frame l s = record { table = frame.table; memory_length = frame.memory_length; loads = l; stores = s }
+
 pub retire-sides : (frame : Frame) {loads stores ls ss : List ℕ} {l s : ℕ}
     → l ≡ retiring (entries_held frame.loads.count loads) → s ≡ retiring (entries_held frame.stores.count stores)
     → Shifted l (frame.loads.count - l) s loads ls → Shifted s (frame.stores.count - s) l stores ss
-    → contents_of (queue_of (frame_with_sides frame (record { loads = shorter frame.loads l; stores = shorter frame.stores s })) ls ss)
+    → contents_of (queue_of (with_sides frame (shorter frame.loads l) (shorter frame.stores s)) ls ss)
     ≡ retire (contents_of (queue_of frame loads stores))
 unfolding contents_of
 retire-sides frame {loads} {stores} {ls} {ss} {l} {s} el es ml ms =

@@ -1,20 +1,20 @@
 -- What serving the load at a place answers, by what the record holds there.
-use Rattle.std.proofs.Common.{◌≡◌, ℕ, ◌<◌, ◌≤◌, Bool, true, false, List, length, get_or, sym, ap, ◌∙◌, eq-eqb, ne_eqb}
-use mathlib.Core.Option.{Option}
+use Rattle.std.proofs.Common.{◌≡◌, ℕ, ◌<◌, ◌≤◌, Bool, true, false, Ok, List, length, get_or, sym, refl, ap, ◌∙◌, eq-eqb, ne_eqb}
+use mathlib.Core.Option.{Option, some}
 use Rattle.counts.specs.declared.Counts.{Counts}
+use Rattle.counts.specs.Counts.{counted}
 use Rattle.queue.specs.declared.Kind.TheVariants.{Load as load, Store as store}
 use Rattle.queue.specs.declared.Entry.{Entry as EntryStruct}
 use Rattle.queue.specs.declared.Queue.{Queue}
-use Rattle.queue.specs.declared.serving.Service.{Service}
 use Rattle.number.specs.Refusal.{unsound, wrong_memory, no_serial, already_done, no_address}
 use Rattle.number.specs.Reply.{refuse, accept, have, and_then}
 use Rattle.queue.specs.Entry.{Entry, entry_of, unpacked, with_word}
 use Rattle.queue.specs.Contents.{Contents, contents_of, age, oldest, place_of, others_before}
 use Rattle.queue.specs.Sound.{sound}
 use Rattle.queue.specs.Serve.{Source, source, loaded_from, may_serve, served_with, serve_at, serve}
-use Rattle.queue.specs.Outcome.{value_in, ServedWell}
-use Rattle.queue.specs.Parts.{queue_of, counted_of}
-use Rattle.queue.specs.Internal.{Has64, may_serve_at, served_as, MadeAnew}
+use Rattle.queue.specs.Outcome.{gave, with_counts, ServedWell}
+use Rattle.queue.specs.Parts.{queue_of}
+use Rattle.queue.specs.Internal.{Has64, may_serve_at, MadeAnew}
 use Rattle.queue.proofs.ContentsLaws.{side-past, side-get_elem?, side-take, side-place, side-anew, words-held}
 
 -- ---- 26, 27, and then by the source
@@ -44,19 +44,14 @@ module _ (q : Queue) (memory : List ℕ) (place : ℕ) where
         ∙ ap (λ (l : List Entry). and_then (may_serve memory l (entry_of e)) λ v. accept (served_with (contents_of q) place v)) (side-take store q e.before b)
 
 -- ---- an accepted serve: the load at the place has its value
-pub served-well : (q : Queue) (counts : Counts) (place word : ℕ) (forwarded : Bool) {r : Service} {left : List ℕ} → Has64 q.load_entries
+pub served-well : (q : Queue) (counts : Counts) (place word : ℕ) (forwarded : Bool) {r : ℕ} {after : Counts} {left : List ℕ} → Has64 q.load_entries
     → q.frame.loads.count ≤ 64 → place < q.frame.loads.count
-    → r ≡ served_as word forwarded counts → MadeAnew (with_word word) place q.load_entries left
+    → r ≡ word → after ≡ counted forwarded counts → MadeAnew (with_word word) place q.load_entries left
     → ServedWell (served_with (contents_of q) place (record { value = word; forwarded = forwarded })) counts
-    (counted_of r (queue_of q.frame left q.store_entries))
-served-well q counts place word forwarded {r} {left} whole few k e f =
+    (with_counts (gave (Ok r) (queue_of q.frame left q.store_entries)) after)
+served-well q counts place word forwarded whole few k e d f =
     let w : q.frame.loads.count ≤ length q.load_entries = rw whole few in
-    record {
-      answer = ap (λ (s : Service). s.answer) e;
-      gives = ap (λ (s : Service). value_in s.value) e;
-      holds = side-anew load q place w k f;
-      counts = ap (λ (s : Service). s.counts) e;
-    }
+    record { answer = refl; gives = ap some e; holds = side-anew load q place w k f; counts = d }
 
 -- ---- 40 and 30, and the place that a serial names
 pub serve_by_place : (q : Contents) (memory : List ℕ) (serial : ℕ) → sound q ≡ true → length memory ≡ q.memory_length

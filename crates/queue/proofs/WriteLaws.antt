@@ -6,62 +6,58 @@ use Rattle.queue.specs.declared.Kind.TheVariants.{Load as load, Store as store}
 use Rattle.queue.specs.declared.Entry.{Entry as EntryStruct}
 use Rattle.queue.specs.declared.Queue.{Queue}
 use Rattle.number.specs.Refusal.{unsound, wrong_memory, no_serial, already_done, no_address, no_data, load_conflict, store_conflict}
-use Rattle.number.specs.Reply.{Reply, refuse, accept, have, and_then, number}
+use Rattle.number.specs.Reply.{Reply, refuse, accept, have, and_then}
 use Rattle.queue.specs.Entry.{Entry, entry_of, unpacked, served, written}
 use Rattle.queue.specs.Contents.{Contents, contents_of, age, oldest, place_of, entries_held, others_before}
 use Rattle.queue.specs.Sound.{sound}
-use Rattle.queue.specs.Write.{no_conflict, may_write, written_with, write_at, write}
+use Rattle.queue.specs.Write.{no_conflict, WordPut, may_write, written_with, write_at, write}
 use Rattle.queue.specs.Internal.{may_write_at}
+use Rattle.number.proofs.ReplyLaws.{refused-accepted}
 use Rattle.queue.proofs.ContentsLaws.{side-past, side-get_elem?, side-take, side-place, words-held}
-
--- ---- an answer that is no 0 refuses with it
-pub refused_number : {A : Type 0} (x : Reply A) → (number x ≡ 0 → ⊥) → x ≡ refuse (number x)
-refused_number (refuse n) h = refl
-refused_number (accept a) h = absurd (h refl)
 
 -- ---- 26, 27, 29, 31, 32, in the order of checking
 module _ (ls : List Entry) (ss : List Entry) (e : EntryStruct) where
-  pub may-not-again : e.finished ≡ true → already_done ≡ number (may_write ls ss (entry_of e))
+  pub may-not-again : e.finished ≡ true → may_write ls ss (entry_of e) ≡ refuse already_done
   may-not-again w = rw w
 
   module _ (w : e.finished ≡ false) where
-    pub may-no-address : e.addressed ≡ false → no_address ≡ number (may_write ls ss (entry_of e))
+    pub may-no-address : e.addressed ≡ false → may_write ls ss (entry_of e) ≡ refuse no_address
     may-no-address a = rw (w, a)
 
     module _ (a : e.addressed ≡ true) where
-      pub may-no-data : e.filled ≡ false → no_data ≡ number (may_write ls ss (entry_of e))
+      pub may-no-data : e.filled ≡ false → may_write ls ss (entry_of e) ≡ refuse no_data
       may-no-data f = rw (w, a, f)
 
       module _ (f : e.filled ≡ true) where
-        pub may_load : all_of (no_conflict served e.address) ls ≡ false → load_conflict ≡ number (may_write ls ss (entry_of e))
+        pub may_load : all_of (no_conflict served e.address) ls ≡ false → may_write ls ss (entry_of e) ≡ refuse load_conflict
         may_load l = rw (w, a, f, l)
 
         pub may-store : all_of (no_conflict served e.address) ls ≡ true → all_of (no_conflict written e.address) ss ≡ false
-            → store_conflict ≡ number (may_write ls ss (entry_of e))
+            → may_write ls ss (entry_of e) ≡ refuse store_conflict
         may-store l s = rw (w, a, f, l, s)
 
         pub may-put : all_of (no_conflict served e.address) ls ≡ true → all_of (no_conflict written e.address) ss ≡ true
             → may_write ls ss (entry_of e) ≡ accept (record { address = e.address; word = e.word })
         may-put l s = rw (w, a, f, l, s)
 
-  -- answered 0, it has an address and data, and puts them
+  -- where it may be written, it has an address and data, and puts them
   pub record Puts : Type 0 where
     pub unwritten : e.finished ≡ false
     pub addressed : e.addressed ≡ true
     pub filled : e.filled ≡ true
     pub put : may_write ls ss (entry_of e) ≡ accept (record { address = e.address; word = e.word })
 
-  pub may-puts : number (may_write ls ss (entry_of e)) ≡ 0 → Puts
+  pub may-puts : {p : WordPut} → may_write ls ss (entry_of e) ≡ accept p → Puts
   may-puts h = go e.finished e.addressed e.filled (all_of (no_conflict served e.address) ls) (all_of (no_conflict written e.address) ss) refl
       refl refl refl refl
     where
       go : (w a f l s : Bool) → e.finished ≡ w → e.addressed ≡ a → e.filled ≡ f → all_of (no_conflict served e.address) ls ≡ l
           → all_of (no_conflict written e.address) ss ≡ s → Puts
-      go true a f l s ew ea ef el es = let z = may-not-again ew ∙ h in absurd (omega arith)
-      go false false f l s ew ea ef el es = let z = may-no-address ew ea ∙ h in absurd (omega arith)
-      go false true false l s ew ea ef el es = let z = may-no-data ew ea ef ∙ h in absurd (omega arith)
-      go false true true false s ew ea ef el es = let z = may_load ew ea ef el ∙ h in absurd (omega arith)
-      go false true true true false ew ea ef el es = let z = may-store ew ea ef el es ∙ h in absurd (omega arith)
+      go true a f l s ew ea ef el es = refused-accepted (sym (may-not-again ew) ∙ h)
+      go false false f l s ew ea ef el es = refused-accepted (sym (may-no-address ew ea) ∙ h)
+      go false true false l s ew ea ef el es = refused-accepted (sym (may-no-data ew ea ef) ∙ h)
+      go false true true false s ew ea ef el es = refused-accepted (sym (may_load ew ea ef el) ∙ h)
+      go false true true true false ew ea ef el es = refused-accepted (sym (may-store ew ea ef el es) ∙ h)
       go false true true true true ew ea ef el es = record { unwritten = ew; addressed = ea; filled = ef; put = may-put ew ea ef el es }
 
 -- ---- 25, and the store at a place

@@ -6,7 +6,7 @@ use Rattle.number.specs.Refusal.{unsound, no_port, bad_load_depth, bad_store_dep
 use Rattle.table.specs.Group.{GroupPairs, empty_group}
 use Rattle.table.specs.Table.{groups_of}
 use Rattle.queue.specs.declared.Queue.{Queue}
-use Rattle.queue.specs.declared.Outcome.{Outcome}
+use Rattle.queue.specs.Outcome.{Outcome}
 use Rattle.queue.specs.declared.arguments.Argument.{Argument}
 use Rattle.number.specs.Reply.{refuse, accept, need, number}
 use Rattle.queue.specs.Contents.{Contents, contents_of}

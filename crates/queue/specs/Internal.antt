@@ -1,33 +1,25 @@
 -- What the crate's own functions promise each other: nothing here is promised to a caller from outside.
-use Rattle.std.specs.Prelude.{◌≡◌, ℕ, ◌+◌, ◌-◌, ◌<◌, ◌≤◌, Bool, true, false, List, [], ◌∷◌, ◌++◌, map, length, take, drop, nat_le, nat_lt, slice_index, slice_index_or, slice_set}
+use Rattle.std.specs.Prelude.{◌≡◌, ℕ, ◌+◌, ◌-◌, ◌<◌, ◌≤◌, Bool, true, false, Option, Some, None, Result, List, [], ◌∷◌, ◌++◌, map, length, take, drop, nat_le, nat_lt, slice_index, slice_index_or, slice_set}
 use Rattle.std.proofs.Math.Option.{none, some}
 use Rattle.number.specs.Basics.{pick, is_some}
+use Rattle.number.specs.declared.refusal.Refusal.{Refusal}
 use Rattle.number.specs.Refusal.{none_waits, too_short}
-use Rattle.number.specs.Reply.{Reply, accepted}
-use Rattle.counts.specs.declared.Counts.{Counts}
-use Rattle.counts.specs.Counts.{counted}
-use Rattle.table.specs.declared.Table.{Table}
+use Rattle.number.specs.Reply.{Reply, accept, accepted, need, passed, reply}
 use Rattle.table.specs.declared.Pair.{Pair}
 use Rattle.table.specs.declared.Span.{Span}
 use Rattle.table.specs.Group.{GroupPairs, blank_pair, list_of, Inside}
 use Rattle.queue.specs.declared.Entry.{Entry as EntryStruct}
 use Rattle.queue.specs.declared.Side.{Side as SideStruct}
 use Rattle.queue.specs.declared.Frame.{Frame}
-use Rattle.queue.specs.declared.Outline.{Outline}
-use Rattle.queue.specs.declared.Value.TheVariants.{Nothing, Word}
 use Rattle.queue.specs.declared.Kind.{Kind}
 use Rattle.queue.specs.declared.Kind.TheVariants.{Load as load, Store as store}
-use Rattle.queue.specs.declared.answering.Step.{Step}
-use Rattle.queue.specs.declared.answering.Sides.{Sides}
 use Rattle.queue.specs.declared.entries.Mark.{Mark}
 use Rattle.queue.specs.declared.entries.Mark.TheVariants.{Addressed, Filled, Finished}
 use Rattle.queue.specs.declared.arguments.Argument.{Argument}
 use Rattle.queue.specs.declared.arguments.Argument.TheVariants.{LoadAddress, StoreAddress, StoreData}
 use Rattle.queue.specs.declared.serving.Source as coded
 use Rattle.queue.specs.declared.serving.Source.TheVariants.{Unknown, NoData, Forwarded, Memory}
-use Rattle.queue.specs.declared.serving.Service.{Service}
 use Rattle.queue.specs.declared.ready.Serials.{Serials}
-use Rattle.queue.specs.declared.ready.ReadyCount.{ReadyCount}
 use Rattle.queue.specs.Entry.{entry_struct, of_port_without, Entry, new_entry, data_of, written, entry_in}
 use Rattle.queue.specs.Contents.{Contents, contents_of, entries_held, with_sides, after, first_place}
 use Rattle.queue.specs.Touch.{same}
@@ -39,23 +31,13 @@ use Rattle.queue.specs.Write.{WordPut, may_write}
 use Rattle.queue.specs.Retire.{after_retiring}
 use Rattle.queue.specs.Parts.{queue_of}
 
--- ---- what a call on the parts gives where it is refused
-abbrev pub refused_step : ℕ → Outline → Step
-refused_step n outline = record { answer = n; value = Nothing; loads = outline.loads; stores = outline.stores }
-
 -- a run of entries, with just as many numbers as a side has places
 abbrev pub Has64 : List ℕ → Type 0
 Has64 l = length l ≡ 64
 
--- ---- functions that do not read the table
--- an outline, with a table
-abbrev pub frame_with : Table → Outline → Frame
-frame_with table outline = record { table = table; memory_length = outline.memory_length; loads = outline.loads; stores = outline.stores }
-
--- the check is behind them: both runs are whole, and with some table the queue is sound
-pub record Checked (outline : Outline) (loads stores : List ℕ) : Type 0 where
-  pub table : Table
-  pub right : sound (contents_of (queue_of (frame_with table outline) loads stores)) ≡ true
+-- the check is behind them: both runs are whole, and the queue is sound
+pub record Checked (frame : Frame) (loads stores : List ℕ) : Type 0 where
+  pub right : sound (contents_of (queue_of frame loads stores)) ≡ true
   pub loads_whole : Has64 loads
   pub stores_whole : Has64 stores
 
@@ -88,6 +70,11 @@ has Finished e = e.finished
 -- an entry of the port, without the mark
 abbrev pub lacks_mark : Mark → ℕ → Entry → Bool
 lacks_mark mark = of_port_without (has mark)
+
+-- the place of the first element that passes, or none where none does
+abbrev pub FirstPlace : {A : Type 0} → (A → Bool) → List A → Option ℕ → Type 0
+FirstPlace p l (Some i) = (first_place p l ≡ i) × (i < length l)
+FirstPlace p l None = first_place p l ≡ length l
 
 -- ---- activation by offsets
 -- Activation by offsets: what the functions that put a group's entries behind those held promise each other. In a right group
@@ -145,8 +132,8 @@ abbrev pub GivenAt : Bool → Argument → ℕ → ℕ → List ℕ → List ℕ
 GivenAt true argument x at l left = MadeAnew (with_argument argument x) at l left
 GivenAt false argument x at l left = left ≡ l
 
-pub record Given (n port : ℕ) (argument : Argument) (x : ℕ) (l : List ℕ) (answer : ℕ) (left : List ℕ) : Type 0 where
-  pub answers : answer ≡ pick (nat_lt (waiting_at n port argument l) n) 0 none_waits
+pub record Given (n port : ℕ) (argument : Argument) (x : ℕ) (l : List ℕ) (answer : Result (Unit {0}) Refusal) (left : List ℕ) : Type 0 where
+  pub answers : reply answer ≡ need (nat_lt (waiting_at n port argument l) n) none_waits passed
   pub leaves : GivenAt (nat_lt (waiting_at n port argument l) n) argument x (waiting_at n port argument l) l left
 
 -- ---- serving
@@ -167,13 +154,6 @@ Decides s found = (farther : Source) → source_in found ≡ decided same (writt
 abbrev pub may_serve_at : List ℕ → List ℕ → List ℕ → ℕ → Reply Loaded
 may_serve_at memory loads stores at = may_serve memory (entries_held (entry_in (slice_index loads at)).before stores) (entry_in (slice_index loads at))
 
--- a refused serve, and an accepted one
-abbrev pub serve_refused : ℕ → Counts → Service
-serve_refused n counts = record { answer = n; value = Nothing; counts = counts }
-
-abbrev pub served_as : ℕ → Bool → Counts → Service
-served_as word forwarded counts = record { answer = 0; value = Word word; counts = counted forwarded counts }
-
 -- ---- writing
 -- What the code that writes a store is written with.
 
@@ -192,10 +172,6 @@ pub record Shifted (gone left others : ℕ) (l after : List ℕ) : Type 0 where
 -- a side after `gone` of its entries have retired
 abbrev pub shorter : SideStruct → ℕ → SideStruct
 shorter side gone = record { depth = side.depth; count = side.count - gone; next = side.next }
-
--- a frame with these sides
-abbrev pub frame_with_sides : Frame → Sides → Frame
-frame_with_sides frame sides = record { table = frame.table; memory_length = frame.memory_length; loads = sides.loads; stores = sides.stores }
 
 -- ---- ready
 -- What the code that gathers ready serials is written with.
@@ -221,11 +197,11 @@ InReach store loads stores i = Reaches stores loads i
 abbrev pub serials_listed : Serials → List ℕ
 serials_listed s = take s.count s.numbers
 
--- one more serial, where it is ready
-pub record Noted (s : Serials) (serial : ℕ) (ready : Bool) (r : Serials) : Type 0 where
-  pub few : r.count ≤ s.count + 1
+-- one more serial
+pub record Noted (s : Serials) (serial : ℕ) (r : Serials) : Type 0 where
+  pub few : r.count ≡ s.count + 1
   pub long : length r.numbers ≡ length s.numbers
-  pub are : serials_listed r ≡ serials_listed s ++ pick ready (serial ∷ []) []
+  pub are : serials_listed r ≡ serials_listed s ++ serial ∷ []
 
 pub record Lists (l : List ℕ) (r : Serials) : Type 0 where
   pub few : r.count ≤ 64
@@ -233,6 +209,6 @@ pub record Lists (l : List ℕ) (r : Serials) : Type 0 where
   pub are : serials_listed r ≡ l
 
 -- the serials stand at the front of a run that has room for them
-pub record HandedOut (s : Serials) (lent : List ℕ) (r : ReadyCount) (run : List ℕ) : Type 0 where
-  pub gives : r ≡ pick (nat_le s.count (length lent)) (record { answer = 0; count = s.count }) (record { answer = too_short; count = 0 })
+pub record HandedOut (s : Serials) (lent : List ℕ) (r : Result ℕ Refusal) (run : List ℕ) : Type 0 where
+  pub gives : reply r ≡ need (nat_le s.count (length lent)) too_short (accept s.count)
   pub leaves : run ≡ pick (nat_le s.count (length lent)) (serials_listed s ++ drop s.count lent) lent

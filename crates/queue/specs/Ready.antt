@@ -1,11 +1,11 @@
 -- "The ready calls put the serials that serve (or write) would now accept with memory of the right length, oldest first, at
 -- the front of a lent run of numbers and give back that front part; the rest keeps its contents." "Ready: 10."
-use Rattle.std.specs.Prelude.{◌≡◌, ℕ, zero, suc, ◌^◌, ◌<◌, Bool, List, [], ◌∷◌, ◌++◌, length, drop, replicate, ◌==◌, nat_eq, nat_le}
+use Rattle.std.specs.Prelude.{◌≡◌, ℕ, zero, suc, ◌^◌, ◌<◌, Bool, Result, Ok, Err, List, [], ◌∷◌, ◌++◌, length, drop, replicate, ◌==◌, nat_eq, nat_le}
 use Rattle.number.specs.Basics.{any_of, keep_where}
-use Rattle.number.specs.Refusal.{too_short, unsound}
+use Rattle.number.specs.Refusal.{too_short, unsound, refusal_number}
 use Rattle.queue.specs.declared.Kind.{Kind}
 use Rattle.queue.specs.declared.Queue.{Queue}
-use Rattle.queue.specs.declared.Readied.{Readied}
+use Rattle.number.specs.declared.refusal.Refusal.{Refusal}
 use Rattle.number.specs.Reply.{Reply, refuse, accept, need, number}
 use Rattle.queue.specs.Contents.{Contents, of_kind, side_of, after, oldest}
 use Rattle.queue.specs.Sound.{sound}
@@ -52,7 +52,16 @@ abbrev pub ReadyExactly : Type 0
 ReadyExactly = (kind : Kind) (q : Contents) (memory : List ℕ) (serial : ℕ) → length memory ≡ q.memory_length → serial < 2 ^ 32
     → any_of (nat_eq serial) (ready_serials kind q) ≡ (answer_to kind q memory serial == 0)
 
--- ---- what a ready call hands back, first where the caller keeps the run of numbers
+-- ---- what a ready call hands back: how many serials stand at the front of the run, and the very queue
+pub record Readied : Type 0 where
+  pub answer : ℕ
+  pub count : ℕ
+  pub queue : Queue
+
+abbrev pub readied : Result ℕ Refusal → Queue → Readied
+readied (Ok n) q = record { answer = 0; count = n; queue = q }
+readied (Err e) q = record { answer = refusal_number e; count = 0; queue = q }
+
 -- a refused one: this number, no serial, the very queue, and the run as it was
 pub record Unready (q : Queue) (n : ℕ) (lent : List ℕ) (r : Readied) (run : List ℕ) : Type 0 where
   pub outcome : r ≡ record { answer = n; count = 0; queue = q }
@@ -67,13 +76,3 @@ pub record ReadyWell (q : Queue) (found lent : List ℕ) (r : Readied) (run : Li
 abbrev pub Readies : Queue → List ℕ → Reply (List ℕ) → Readied → List ℕ → Type 0
 Readies q lent (refuse n) r run = Unready q n lent r run
 Readies q lent (accept found) r run = ReadyWell q found lent r run
-
--- Where the front part is handed back: the answer's number, the serials, or none where it is refused, and the very queue.
-abbrev pub front_of : Reply (List ℕ) → List ℕ
-front_of (refuse n) = []
-front_of (accept found) = found
-
-pub record Fronts (q : Queue) (rule : Reply (List ℕ)) (answer : ℕ) (serials : List ℕ) (queue : Queue) : Type 0 where
-  pub answer_is : answer ≡ number rule
-  pub serials_are : serials ≡ front_of rule
-  pub queue_is : queue ≡ q

@@ -1,14 +1,12 @@
 // The group-allocated load-store queue: its record, and every call on it.
-// A call is handed the queue by value and gives back the queue that follows. The calls named `.._in` do the work: they are handed
-// an outline, and the table's arrays and both sides' entries are lent to them, so that nothing of these is copied.
+// A call changes the queue that is lent to it, or refuses and leaves it as it was. The calls named `.._in` do the work: a frame is
+// lent to them, and the entries of both sides as runs of numbers, so that a host may keep these apart.
 
 #![tactic(auto)]
 
-use counts::Counts;
 use table::Table;
 
 pub mod activation;
-pub mod answering;
 pub mod arguments;
 pub mod entries;
 pub mod opening;
@@ -22,14 +20,14 @@ pub mod taking;
 pub mod writing;
 
 // The kind of an access.
-#[derive(Clone, Copy)]
+#[derive(Clone, Copy, PartialEq, Eq)]
 pub enum Kind {
     Load,
     Store,
 }
 
 // An access that was activated, a load or a store. A queue holds it packed into a number (`entries`).
-#[derive(Clone, Copy)]
+#[derive(Clone, Copy, PartialEq, Eq)]
 pub struct Entry {
     pub port: u8,
     // how many queued entries of the other kind come before it
@@ -46,7 +44,7 @@ pub struct Entry {
 
 // One side of a queue: its depth, how many entries it holds, and the next serial.
 #[repr(C)]
-#[derive(Clone, Copy)]
+#[derive(Clone, Copy, PartialEq, Eq)]
 pub struct Side {
     pub depth: u8,
     pub count: u8,
@@ -55,7 +53,7 @@ pub struct Side {
 
 // All of a queue but its entries: its table, the memory length that it was opened for, and both sides.
 #[repr(C)]
-#[derive(Clone, Copy)]
+#[derive(Clone, Copy, PartialEq, Eq)]
 pub struct Frame {
     pub table: Table,
     pub memory_length: u16,
@@ -63,66 +61,10 @@ pub struct Frame {
     pub stores: Side,
 }
 
-// All of a frame but its table's arrays: the number of groups, the memory length, and both sides.
-#[derive(Clone, Copy)]
-pub struct Outline {
-    pub count: u8,
-    pub memory_length: u16,
-    pub loads: Side,
-    pub stores: Side,
-}
-
 // A queue: its frame, and each side's entries from the oldest, packed. Places beyond a side's count mean nothing.
-#[derive(Clone, Copy)]
+#[derive(Clone, Copy, PartialEq, Eq)]
 pub struct Queue {
     pub frame: Frame,
     pub load_entries: [u64; 64],
     pub store_entries: [u64; 64],
-}
-
-// The value that a call gives; "no value" is not the value 0.
-#[derive(Clone, Copy)]
-pub enum Value {
-    Word(u32),
-    Nothing,
-}
-
-// What a call on a queue hands back: its answer (0, or the refusal number), its value, and the queue that follows.
-#[derive(Clone, Copy)]
-pub struct Outcome {
-    pub answer: u8,
-    pub value: Value,
-    pub queue: Queue,
-}
-
-// What opening hands back. The queue of a refused opening means nothing.
-#[derive(Clone, Copy)]
-pub struct Opened {
-    pub answer: u8,
-    pub queue: Queue,
-}
-
-// What serving hands back where the counts go in and out by value.
-#[derive(Clone, Copy)]
-pub struct Counted {
-    pub answer: u8,
-    pub value: Value,
-    pub queue: Queue,
-    pub counts: Counts,
-}
-
-// What a ready call hands back where the caller keeps the run of numbers: how many serials stand at its front.
-#[derive(Clone, Copy)]
-pub struct Readied {
-    pub answer: u8,
-    pub count: usize,
-    pub queue: Queue,
-}
-
-// What a ready call hands back: its answer, the front part of the lent run with the serials, and the queue that follows.
-#[derive(Drop)]
-pub struct ReadySerials<'a> {
-    pub answer: u8,
-    pub serials: &'a mut [u32],
-    pub queue: Queue,
 }

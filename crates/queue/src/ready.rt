@@ -1,28 +1,38 @@
 // The ready calls: "the serials that serve (or write) would now accept with memory of the right length, oldest first".
-ghost use Rattle.std.specs.Prelude.{◌≡◌, ◌<◌, ◌≤◌, true, ◌++◌, length, drop};
-ghost use Rattle.table.specs.declared.Table.{Table};
+ghost use Rattle.std.specs.Prelude.{◌≡◌, ◌<◌, ◌≤◌, length, IfOk, IfErr};
+ghost use Rattle.number.specs.Reply.{accept, refuse};
+ghost use Rattle.number.specs.Refusal.{refusal_number};
 ghost use Rattle.queue.specs.Entry.{entry_of};
 ghost use Rattle.queue.specs.Contents.{entries_held, contents_of};
-ghost use Rattle.queue.specs.Sound.{sound};
-ghost use Rattle.queue.specs.Ready.{ready_serials, ready, Readies, Fronts};
-ghost use Rattle.queue.specs.Parts.{frame_of, queue_of, on_parts, readied_of};
-ghost use Rattle.queue.specs.Internal.{frame_with, Checked};
-ghost use Rattle.queue.specs.Internal.{load_ready, InReach, ready_at, serials_listed, Noted, Lists, HandedOut};
+ghost use Rattle.queue.specs.Ready.{ready_serials, ready, Readies, readied};
+ghost use Rattle.queue.specs.Parts.{queue_of, on_parts};
+ghost use Rattle.queue.specs.Internal.{Checked, load_ready, InReach, ready_at, Noted, Lists, HandedOut};
 
-use crate::answering::{outline_of, side_of};
 use crate::entries::unpack;
 use crate::serial::oldest_serial;
 use crate::serving::{Source, source_of};
 use crate::sound::sound_in;
 use crate::writing::write_fault;
-use crate::{Entry, Kind, Outline, Queue, Readied, ReadySerials};
-use number::refusal::{TOO_SHORT, UNSOUND};
+use crate::{Entry, Frame, Kind, Queue};
+use number::refusal::Refusal;
 
-// Serials, as many as a side can hold. Places beyond the count mean nothing.
+// Serials, as many as a side can hold. Places beyond the count mean nothing. No heap: what is ready is known only once it is gathered,
+// and nothing is written to the lent run before that.
 #[derive(Clone, Copy)]
 pub(crate) struct Serials {
     pub count: usize,
     pub numbers: [u32; 64],
+}
+
+impl Serials {
+    // One more.
+    fn push(&mut self, serial: u32)
+        requires { self.old.count < 64 }
+        ensures { Noted self.old serial self.new }
+    {
+        self.numbers[self.count] = serial;
+        self.count += 1;
+    }
 }
 
 // Would the load be served now?
@@ -30,45 +40,12 @@ fn load_ready(load: Entry, store_entries: &[u64]) -> bool
     requires { load.before ≤ length store_entries.now }
     ensures { result ≡ load_ready (entries_held load.before store_entries.now) (entry_of load) }
 {
-    if load.filled {
-        return false;
-    }
-    if !load.addressed {
+    if load.filled || !load.addressed {
         return false;
     }
     match source_of(store_entries, load.before as usize, load.address) {
-        Source::Unknown => false,
-        Source::NoData => false,
-        Source::Forwarded(_) => true,
-        Source::Memory => true,
-    }
-}
-
-// The serials with one more, where it is ready.
-fn noted(mut serials: Serials, serial: u32, ready: bool) -> Serials
-    requires { serials.count < 64 }
-    ensures { Noted serials serial ready result }
-{
-    if !ready {
-        return serials;
-    }
-    let at = serials.count;
-    serials.numbers[at] = serial;
-    serials.count = at + 1;
-    serials
-}
-
-// The serials at the front of the lent run; the rest keeps its contents.
-fn put_serials(serials: Serials, out: &mut [u32])
-    requires { (serials.count ≤ 64) × (serials.count ≤ length out.old) }
-    ensures { out.new ≡ serials_listed serials ++ drop serials.count out.old }
-{
-    let count = serials.count;
-    let mut i: usize = 0;
-    while i < count {
-        let serial = serials.numbers[i];
-        out[i] = serial;
-        i += 1;
+        Source::Unknown | Source::NoData => false,
+        Source::Forwarded(_) | Source::Memory => true,
     }
 }
 
@@ -78,143 +55,91 @@ fn ready_at(kind: Kind, load_entries: &[u64], store_entries: &[u64], i: usize) -
     ensures { result ≡ ready_at kind load_entries.now store_entries.now i }
 {
     match kind {
-        Kind::Load => {
-            let load = unpack(load_entries[i]);
-            load_ready(load, store_entries)
-        }
-        Kind::Store => {
-            let fault = write_fault(load_entries, store_entries, i);
-            fault == 0
-        }
+        Kind::Load => load_ready(unpack(load_entries[i]), store_entries),
+        Kind::Store => write_fault(load_entries, store_entries, i).is_ok(),
     }
 }
 
-// The serials of the loads that would be served now, or of the stores that would be written. It does not read the table, so it
-// speaks of every table that the queue is sound with.
+// The serials of the loads that would be served now, or of the stores that would be written.
 fn ready_serials(
-    outline: Outline,
+    frame: &Frame,
     kind: Kind,
     load_entries: &[u64],
     store_entries: &[u64],
 ) -> Serials
-    requires { Checked outline load_entries.now store_entries.now }
-    ensures { (table : Table) → let frame = frame_with table outline in
-        sound (contents_of (queue_of frame load_entries.now store_entries.now)) ≡ true →
-        Lists (ready_serials kind (contents_of (queue_of frame load_entries.now store_entries.now))) result }
+    requires { Checked frame.now load_entries.now store_entries.now }
+    ensures { Lists (ready_serials kind (contents_of (queue_of frame.now load_entries.now store_entries.now))) result }
 {
-    let side = side_of(kind, outline);
-    let count = side.count as usize;
+    let side = frame.side(kind);
     let mut found = Serials {
         count: 0,
         numbers: [0; 64],
     };
     let mut serial = oldest_serial(side.next, side.count);
-    let mut i: usize = 0;
-    while i < count {
-        let ready = ready_at(kind, load_entries, store_entries, i);
-        found = noted(found, serial, ready);
-        serial = std::num::wrapping_add_u32(serial, 1);
-        i += 1;
+    for i in 0..side.count as usize {
+        if ready_at(kind, load_entries, store_entries, i) {
+            found.push(serial);
+        }
+        serial = serial.wrapping_add(1);
     }
     found
 }
 
-// What a ready call on a queue's parts hands back: its answer, and how many serials stand at the front of the lent run.
-#[derive(Clone, Copy)]
-pub struct ReadyCount {
-    pub answer: u8,
-    pub count: usize,
-}
-
-// Puts the serials at the front of the lent run, where it has room for them: 10 where not.
-fn hand_out(found: Serials, out: &mut [u32]) -> ReadyCount
-    requires { found.count ≤ 64 }
-    ensures { HandedOut found out.old result out.new }
+// Puts the serials at the front of the lent run, where it has room for them: 10 where not. The rest keeps its contents.
+fn hand_out(found: &Serials, out: &mut [u32]) -> Result<usize, Refusal>
+    requires { found.now.count ≤ 64 }
+    ensures { HandedOut found.now out.old result out.new }
 {
     let count = found.count;
     if out.len() < count {
-        return ReadyCount {
-            answer: TOO_SHORT,
-            count: 0,
-        };
+        return Err(Refusal::TooShort);
     }
-    put_serials(found, out);
-    ReadyCount { answer: 0, count }
+    out[..count].copy_from_slice(&found.numbers[..count]);
+    Ok(count)
 }
 
-// Ready on a queue's parts: 40, 10.
-pub fn ready_in<'a>(
-    outline: Outline,
-    groups: &'a [u32; 16],
-    load_places: &'a [u16; 32],
-    store_places: &'a [u16; 32],
+// Ready on a queue's parts: 40, 10; how many serials stand at the front of the lent run.
+pub fn ready_in(
+    frame: &Frame,
     load_entries: &[u64],
     store_entries: &[u64],
     kind: Kind,
     out: &mut [u32],
-) -> ReadyCount
-    ensures { let frame = frame_of outline groups.now load_places.now store_places.now in
-        Readies (queue_of frame load_entries.now store_entries.now) out.old
-        (on_parts load_entries.now store_entries.now
-        (ready kind (contents_of (queue_of frame load_entries.now store_entries.now)) out.old))
-        (readied_of result (queue_of frame load_entries.now store_entries.now)) out.new }
+) -> Result<usize, Refusal>
+    ensures { let q = queue_of frame.now load_entries.now store_entries.now in
+        Readies q out.old (on_parts load_entries.now store_entries.now (ready kind (contents_of q) out.old))
+        (readied result q) out.new }
 {
-    if !sound_in(
-        outline,
-        groups,
-        load_places,
-        store_places,
-        load_entries,
-        store_entries,
-    ) {
-        return ReadyCount {
-            answer: UNSOUND,
-            count: 0,
-        };
+    if !sound_in(frame, load_entries, store_entries) {
+        return Err(Refusal::Unsound);
     }
-    let found = ready_serials(outline, kind, load_entries, store_entries);
-    hand_out(found, out)
+    let found = ready_serials(frame, kind, load_entries, store_entries);
+    hand_out(&found, out)
 }
 
 impl Queue {
     // Puts the serials of the loads that serve would now accept, or of the stores that write would, at the front of the lent run,
     // and says how many.
-    pub fn ready_into(self, kind: Kind, out: &mut [u32]) -> Readied
-        ensures { Readies self out.old (ready kind (contents_of self) out.old) result out.new }
+    pub fn ready_into(&self, kind: Kind, out: &mut [u32]) -> Result<usize, Refusal>
+        ensures { Readies self.now out.old (ready kind (contents_of self.now) out.old) (readied result self.now) out.new }
     {
-        let frame = self.frame;
-        let load_entries = self.load_entries;
-        let store_entries = self.store_entries;
-        let outline = outline_of(frame);
-        let ready = ready_in(
-            outline,
-            &frame.table.groups,
-            &frame.table.loads,
-            &frame.table.stores,
-            &load_entries,
-            &store_entries,
+        ready_in(
+            &self.frame,
+            &self.load_entries,
+            &self.store_entries,
             kind,
             out,
-        );
-        Readied {
-            answer: ready.answer,
-            count: ready.count,
-            queue: self,
-        }
+        )
     }
 
     // The same, and the front part is handed back. No contract can speak of the rest of the run once a part is handed out;
     // `ready_into` says that it keeps its contents.
-    pub fn ready<'a>(self, kind: Kind, out: &'a mut [u32]) -> ReadySerials<'a>
-        ensures { Fronts self (ready kind (contents_of self) out.old) result.answer result.serials.now result.queue
-            × (result.serials.ref_ptr ≡ out.entry.ref_ptr) }
+    pub fn ready<'a>(&self, kind: Kind, out: &'a mut [u32]) -> Result<&'a mut [u32], Refusal>
+        ensures fronts { IfOk result (λ serials. ready kind (contents_of self.now) out.old ≡ accept serials.now) }
+        ensures begins { IfOk result (λ serials. serials.ref_ptr ≡ out.entry.ref_ptr) }
+        ensures refused { IfErr result (λ e. ready kind (contents_of self.now) out.old ≡ refuse (refusal_number e)) }
     {
-        let readied = self.ready_into(kind, &mut *out);
-        let count = readied.count;
-        ReadySerials {
-            answer: readied.answer,
-            serials: &mut out[..count],
-            queue: readied.queue,
-        }
+        let count = self.ready_into(kind, &mut *out)?;
+        Ok(&mut out[..count])
     }
 }

@@ -6,7 +6,7 @@ ghost use Rattle.queue.specs.Contents.{age, oldest};
 pub(crate) fn oldest_serial(next: u32, count: u8) -> u32
     ensures { result ≡ oldest next count }
 {
-    std::num::wrapping_sub_u32(next, count as u32)
+    next.wrapping_sub(count as u32)
 }
 
 // The place, from the oldest, that a serial names. It is a place of the queue only if it is below the count.
@@ -14,5 +14,5 @@ pub(crate) fn place_of(next: u32, count: u8, serial: u32) -> u32
     ensures { result ≡ age (oldest next count) serial }
 {
     let oldest = oldest_serial(next, count);
-    std::num::wrapping_sub_u32(serial, oldest)
+    serial.wrapping_sub(oldest)
 }

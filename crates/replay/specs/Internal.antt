@@ -1,18 +1,15 @@
 -- What the crate's own functions promise each other: nothing here is promised to a caller from outside.
-use Rattle.std.specs.Prelude.{ℕ, ◌≡◌, true, List, [], length, set}
+use Rattle.std.specs.Prelude as code
+use Rattle.std.specs.Prelude.{ℕ, Result, ◌≡◌, true, List, [], length, set}
+use Rattle.number.specs.declared.refusal.Refusal.{Refusal}
 use Rattle.number.specs.Reply.{Reply, refuse, accept}
 use Rattle.trace.specs.declared.Event.{Event}
 use Rattle.counts.specs.declared.Counts.{Counts}
-use Rattle.queue.specs.declared.Value.{Value}
 use Rattle.queue.specs.declared.Queue.{Queue}
-use Rattle.queue.specs.declared.Frame.{Frame}
-use Rattle.queue.specs.declared.Counted.{Counted}
 use Rattle.queue.specs.Contents.{contents_of}
-use Rattle.queue.specs.Outcome.{value_in}
-use Rattle.queue.specs.Parts.{queue_of}
-use Rattle.replay.specs.declared.playing.Played.{Played}
+use Rattle.queue.specs.Outcome.{Counted}
 use Rattle.replay.specs.Events.{events_from}
-use Rattle.replay.specs.Playing.{Playing, playing, step_of, played, log, played_all, given_in, word_in}
+use Rattle.replay.specs.Playing.{Playing, playing, step_of, played, log, played_all, number_of, value_of, given_in, word_in}
 use Rattle.replay.specs.Replay.{Replay, Buffers, fits}
 
 -- every event from a place on can be read, and there is room for what each is answered
@@ -34,20 +31,11 @@ through p es = record { log = log p es; left = played_all p es }
 -- one event played on a queue, with the memory and the counts as they were and as they are left
 pub record Plays (q : Queue) (c : Counts) (memory : List ℕ) (e : Event) (r : Counted) (left : List ℕ) : Type 0 where
   pub answer : (step_of (playing (contents_of q) memory c) e).number ≡ r.answer
-  pub value : (step_of (playing (contents_of q) memory c) e).value ≡ value_in r.value
+  pub value : (step_of (playing (contents_of q) memory c) e).value ≡ r.value
   pub next : played (playing (contents_of q) memory c) e ≡ playing (contents_of r.queue) left r.counts
 
--- what it gave, and the entries that it left
-abbrev pub played_of : Frame → Played → List ℕ → List ℕ → Counted
-played_of frame r loads stores = record {
-  answer = r.answer;
-  value = r.value;
-  queue = queue_of (record { table = frame.table; memory_length = frame.memory_length; loads = r.loads; stores = r.stores }) loads stores;
-  counts = r.counts;
-}
-
 -- an answer and a value stand at a place of the buffers
-pub record PutAnswer (answer : ℕ) (value : Value) (i : ℕ) (b b₂ : Buffers) : Type 0 where
-  pub answers : b₂.answers ≡ set b.answers i answer
-  pub given : b₂.given ≡ set b.given i (given_in (value_in value))
-  pub values : b₂.values ≡ set b.values i (word_in (value_in value))
+pub record PutAnswer (answer : Result (code.Option ℕ) Refusal) (i : ℕ) (b b₂ : Buffers) : Type 0 where
+  pub answers : b₂.answers ≡ set b.answers i (number_of answer)
+  pub given : b₂.given ≡ set b.given i (given_in (value_of answer))
+  pub values : b₂.values ≡ set b.values i (word_in (value_of answer))

@@ -9,7 +9,7 @@ pub mod writing;
 use number::refusal::Refusal;
 
 // The four leading numbers of a trace: load depth, store depth, first serial, memory length.
-#[derive(Clone, Copy)]
+#[derive(Clone, Copy, PartialEq, Eq)]
 pub struct Header {
     pub load_depth: u32,
     pub store_depth: u32,
@@ -18,7 +18,7 @@ pub struct Header {
 }
 
 // An event of a trace: its kind, with its own numbers.
-#[derive(Clone, Copy)]
+#[derive(Clone, Copy, PartialEq, Eq)]
 pub enum Event {
     Activate { group: u32 },
     LoadAddress { port: u32, address: u32 },
@@ -30,7 +30,7 @@ pub enum Event {
 }
 
 // One step of a reader: what it yields, and where it stands then.
-#[derive(Clone, Copy)]
+#[derive(Clone, Copy, PartialEq, Eq)]
 pub struct Stepped {
     pub read: Result<Option<(Event, usize)>, Refusal>,
     pub next: usize,

@@ -97,9 +97,8 @@ pub struct Reader<'a> {
 impl<'a> Reader<'a> {
     // Yields one event, and moves past it; it stays at the end and where it is refused.
     pub fn step(&mut self) -> Result<Option<(Event, usize)>, Refusal>
-        ensures { (event_reply result ≡ event_at self.old.bytes.now self.old.at)
-            × (self.new ≡ moved_to self.old
-            (place_after self.old.at (event_at self.old.bytes.now self.old.at))) }
+        ensures yields { event_reply result ≡ event_at self.old.bytes.now self.old.at }
+        ensures moves { self.new ≡ moved_to self.old (place_after self.old.at (event_at self.old.bytes.now self.old.at)) }
     {
         let stepped = step_at(self.bytes, self.at);
         self.at = stepped.next;

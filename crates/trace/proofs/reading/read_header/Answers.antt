@@ -19,22 +19,22 @@ pub returns-in_err-first : goal.returns-in_err-first
 unfolding read_header
 returns-in_err-first c =
     let first = number_got c.args.bytes.now 0 c.in_ok-load_depth.ensures in
-    let second = number_got _ _ c.in_ok-store_depth.ensures in
+    let second = number_got c.args.bytes.now c.in_ok-load_depth.place c.in_ok-store_depth.ensures in
     rw (first.is, second.is, number_refused _ _ c.in_err-first.ensures) (search rules)
 
 pub returns-in_err-memory_length : goal.returns-in_err-memory_length
 unfolding read_header
 returns-in_err-memory_length c =
     let first = number_got c.args.bytes.now 0 c.in_ok-load_depth.ensures in
-    let second = number_got _ _ c.in_ok-store_depth.ensures in
-    let third = number_got _ _ c.in_ok-first.ensures in
+    let second = number_got c.args.bytes.now c.in_ok-load_depth.place c.in_ok-store_depth.ensures in
+    let third = number_got c.args.bytes.now c.in_ok-store_depth.place c.in_ok-first.ensures in
     rw (first.is, second.is, third.is, number_refused _ _ c.in_err-memory_length.ensures) (search rules)
 
 pub returns : goal.returns
 unfolding read_header
 returns c =
     let first = number_got c.args.bytes.now 0 c.in_ok-load_depth.ensures in
-    let second = number_got _ _ c.in_ok-store_depth.ensures in
-    let third = number_got _ _ c.in_ok-first.ensures in
-    let fourth = number_got _ _ c.in_ok-memory_length.ensures in
+    let second = number_got c.args.bytes.now c.in_ok-load_depth.place c.in_ok-store_depth.ensures in
+    let third = number_got c.args.bytes.now c.in_ok-store_depth.place c.in_ok-first.ensures in
+    let fourth = number_got c.args.bytes.now c.in_ok-first.place c.in_ok-memory_length.ensures in
     rw (first.is, second.is, third.is, fourth.is, place_drop _ _ fourth.inside)

@@ -7,7 +7,7 @@ use Rattle.trace.proofs.reading.read_kind.Goals as goal
 
 pub returns-in_err-second : goal.returns-in_err-second
 returns-in_err-second c =
-    let first = number_got _ _ c.in_ok-first.ensures in
+    let first = number_got c.args.bytes.now c.args.at c.in_ok-first.ensures in
     rw (
       le-leb _ _ c.if-kind-gt6.false,
       first.is,
@@ -18,8 +18,8 @@ returns-in_err-second c =
 
 pub returns : goal.returns
 returns c =
-    let first = number_got _ _ c.in_ok-first.ensures in
-    let second = number_got _ _ c.in_ok-second.ensures in
+    let first = number_got c.args.bytes.now c.args.at c.in_ok-first.ensures in
+    let second = number_got c.args.bytes.now c.in_ok-first.place c.in_ok-second.ensures in
     rw (
       c.event_of-2.ensures,
       le-leb _ _ c.if-kind-gt6.false,

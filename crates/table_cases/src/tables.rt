@@ -1,13 +1,8 @@
-// Tables made by hand: each command sets a part of the table that is kept. That the numbers fit the fields is tested before
-// (`command::takes`), so no remainder below changes a number.
-use crate::command;
-use crate::run::Run;
+// Tables made by hand: each command sets a part of the table that is kept. That the numbers fit the fields is tested before.
+use crate::command::Part;
+use script::{byte, word};
 use table::parts::{pack_group, pack_pair};
 use table::{Group, Pair, Span, Table};
-
-fn byte(value: u64) -> u8 {
-    (value % 256) as u8
-}
 
 // One group, and 255 everywhere else: what no table may hold.
 fn filled() -> Table {
@@ -32,56 +27,36 @@ fn filled() -> Table {
 }
 
 // Of the numbers: group, first load's place, loads, first store's place, stores.
-fn group_of(numbers: [u64; 8]) -> Group {
+fn set_group(groups: &mut [u32], numbers: &[u64]) {
     let loads = Span {
-        first: byte(numbers[1]),
-        count: byte(numbers[2]),
+        first: byte(numbers, 1),
+        count: byte(numbers, 2),
     };
     let stores = Span {
-        first: byte(numbers[3]),
-        count: byte(numbers[4]),
+        first: byte(numbers, 3),
+        count: byte(numbers, 4),
     };
-    Group { loads, stores }
-}
-
-// Of the numbers: place, offset, port.
-fn with_pair(mut places: [u16; 32], numbers: [u64; 8]) -> [u16; 32] {
-    let place = (numbers[0] % 32) as usize;
-    let pair = Pair {
-        offset: byte(numbers[1]),
-        port: byte(numbers[2]),
-    };
-    places[place] = pack_pair(pair);
-    places
-}
-
-fn table_with(mut table: Table, command: usize, numbers: [u64; 8]) -> Table {
-    let loads = table.loads;
-    let stores = table.stores;
-    let group = (numbers[0] % 16) as usize;
-    match command {
-        command::FILL => filled(),
-        command::SET_GROUPS => {
-            table.count = byte(numbers[0]);
-            table
-        }
-        command::SET_LOAD_PAIR => {
-            table.loads = with_pair(loads, numbers);
-            table
-        }
-        command::SET_STORE_PAIR => {
-            table.stores = with_pair(stores, numbers);
-            table
-        }
-        _ => {
-            table.groups[group] = pack_group(group_of(numbers));
-            table
-        }
+    if let Some(group) = groups.get_mut(word(numbers, 0) as usize) {
+        *group = pack_group(Group { loads, stores });
     }
 }
 
-pub(crate) fn set(mut run: Run, command: usize, numbers: [u64; 8]) -> Run {
-    let table = run.table;
-    run.table = table_with(table, command, numbers);
-    run
+// Of the numbers: place, offset, port.
+fn set_pair(places: &mut [u16], numbers: &[u64]) {
+    if let Some(place) = places.get_mut(word(numbers, 0) as usize) {
+        *place = pack_pair(Pair {
+            offset: byte(numbers, 1),
+            port: byte(numbers, 2),
+        });
+    }
+}
+
+pub(crate) fn set(table: &mut Table, part: Part, numbers: &[u64]) {
+    match part {
+        Part::All => *table = filled(),
+        Part::Count => table.count = byte(numbers, 0),
+        Part::Group => set_group(&mut table.groups, numbers),
+        Part::LoadPair => set_pair(&mut table.loads, numbers),
+        Part::StorePair => set_pair(&mut table.stores, numbers),
+    }
 }

@@ -1,9 +1,10 @@
 -- An argument on the record: where the oldest entry that waits stands, the rule by the record's parts, and what giving the
 -- argument makes of the record.
-use Rattle.std.proofs.Common.{◌≡◌, ℕ, suc, ◌<◌, ◌≤◌, Bool, true, false, ◌||◌, ltb, List, [], ◌∷◌, length, sym, refl, ◌∙◌, ap₂, arith, ltb-false, ltb-true, le-ltb, lt-ltb}
+use Rattle.std.proofs.Common.{◌≡◌, ℕ, suc, ◌<◌, ◌≤◌, Bool, true, false, ◌||◌, ltb, Result, List, [], ◌∷◌, length, sym, refl, ◌∙◌, ap₂, arith, ltb-false, ltb-true, le-ltb, lt-ltb}
 use Rattle.number.specs.Basics.{pick, any_of}
+use Rattle.number.specs.declared.refusal.Refusal.{Refusal}
 use Rattle.number.specs.Refusal.{unsound, no_port, bad_address, none_waits}
-use Rattle.number.specs.Reply.{accept, need}
+use Rattle.number.specs.Reply.{accept, need, passed, reply}
 use Rattle.table.specs.Table.{groups_of}
 use Rattle.queue.specs.declared.Side.{Side as SideStruct}
 use Rattle.queue.specs.declared.Frame.{Frame}
@@ -15,8 +16,8 @@ use Rattle.queue.specs.Entry.{Entry, unpacked, entry_in, number_of}
 use Rattle.queue.specs.Contents.{of_kind, contents_of, with_entries, update_at, first_place}
 use Rattle.queue.specs.Sound.{sound}
 use Rattle.queue.specs.Arguments.{kind_of, names_port, in_range, with_argument, lacks, asked_of, argument_given, give}
-use Rattle.queue.specs.Outcome.{Moves}
-use Rattle.queue.specs.Parts.{queue_of, queue_of_kind, answered}
+use Rattle.queue.specs.Outcome.{Moves, moved}
+use Rattle.queue.specs.Parts.{queue_of, queue_of_kind}
 use Rattle.queue.specs.Internal.{lacks_mark, mark_of, set_argument, waiting_at, GivenAt, Given}
 use Rattle.queue.proofs.ContentsLaws.{counts_of, numbers_of, with_numbers, same_numbers, side-held, side-count, side-anew}
 use Rattle.queue.proofs.EntryLaws.{address_number, word_number}
@@ -58,11 +59,11 @@ lacks_mark_lem StoreAddress port = refl
 lacks_mark_lem StoreData port = refl
 
 -- What giving answers and leaves is what the rest of the rule asks.
-given_moves : (argument : Argument) (q : Queue) {port x answer : ℕ} {left : List ℕ}
+given_moves : (argument : Argument) (q : Queue) {port x : ℕ} {answer : Result (Unit {0}) Refusal} {left : List ℕ}
     → let kind = kind_of argument in
     (counts_of kind q).count ≤ length (numbers_of kind q) → Given (counts_of kind q).count port argument x (numbers_of kind q) answer left
     → Moves q (need (any_of (lacks argument port) (asked_of argument (contents_of q))) none_waits (accept (argument_given argument port x (contents_of q))))
-    (answered answer (with_numbers kind q left))
+    (moved answer (with_numbers kind q left))
 given_moves argument q {port} {x} {answer} {left} w given =
     let kind : Kind = kind_of argument in
     let asked : List Entry = asked_of argument (contents_of q) in
@@ -71,12 +72,12 @@ given_moves argument q {port} {x} {answer} {left} w given =
     rw (any_place (lacks argument port) asked, side-count kind q, is)
     (go (waiting_at (counts_of kind q).count port argument (numbers_of kind q)) _ refl given.answers given.leaves)
   where
-    go : (at : ℕ) (t : Bool) → ltb at (counts_of (kind_of argument) q).count ≡ t → answer ≡ pick t 0 none_waits
+    go : (at : ℕ) (t : Bool) → ltb at (counts_of (kind_of argument) q).count ≡ t → reply answer ≡ need t none_waits passed
         → GivenAt t argument x at (numbers_of (kind_of argument) q) left
         → Moves q
         (need t none_waits (accept (with_entries (kind_of argument) (contents_of q) (update_at (with_argument argument x) at (asked_of argument (contents_of q))))))
-        (answered answer (with_numbers (kind_of argument) q left))
-    go at true e a m = record { answer = a; gives = refl; holds = side-anew (kind_of argument) q at w (ltb-true at _ e) m }
+        (moved answer (with_numbers (kind_of argument) q left))
+    go at true e a m = rw a (record { answer = refl; gives = refl; holds = side-anew (kind_of argument) q at w (ltb-true at _ e) m })
     go at false e a same = rw (a, same, same_numbers (kind_of argument) q)
 
 -- ---- the rule on the record
@@ -103,11 +104,11 @@ own_room StoreAddress frame own others f = f.stores_room
 own_room StoreData frame own others f = f.stores_room
 
 -- what giving the argument to the oldest answers and leaves is what the rest of the rule asks
-pub gives : (argument : Argument) (frame : Frame) (own others : List ℕ) {port x answer : ℕ} {left : List ℕ}
+pub gives : (argument : Argument) (frame : Frame) (own others : List ℕ) {port x : ℕ} {answer : Result (Unit {0}) Refusal} {left : List ℕ}
     → (side_for argument frame).count ≤ length own → Given (side_for argument frame).count port argument x own answer left
     → let q = queue_for argument frame own others in
     Moves q (need (any_of (lacks argument port) (asked_of argument (contents_of q))) none_waits (accept (argument_given argument port x (contents_of q))))
-    (answered answer (queue_for argument frame left others))
+    (moved answer (queue_for argument frame left others))
 gives LoadAddress frame own others = given_moves LoadAddress (queue_of frame own others)
 gives StoreAddress frame own others = given_moves StoreAddress (queue_of frame others own)
 gives StoreData frame own others = given_moves StoreData (queue_of frame others own)

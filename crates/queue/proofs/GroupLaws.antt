@@ -1,30 +1,23 @@
 -- A group and a table by their records: how many accesses and groups they hold, and which.
-use Rattle.std.proofs.Common.{◌≡◌, ℕ, ◌+◌, ◌<◌, ◌≤◌, ◌&&◌, leb, List, [], ◌∷◌, length, get_or, take, drop, sym, ap, ◌∙◌, le_trans, add-one, drop_of_length-le, drop-cons, get_or-take}
+use Rattle.std.proofs.Common.{◌≡◌, ℕ, ◌+◌, ◌<◌, ◌≤◌, ◌&&◌, leb, List, [], ◌∷◌, map, length, get_or, take, drop, sym, ap, ◌∙◌, le_trans, add-one, drop-cons, get_or-take}
 use mathlib.Core.Option.{some}
-use lib.ListN.{get_elem?}
-use Rattle.table.specs.declared.Span.{Span}
+use lib.ListN.{get_elem?, get_or-map, length-map}
 use Rattle.table.specs.declared.Group.{Group}
 use Rattle.table.specs.declared.Table.{Table}
 use Rattle.table.specs.Packed.{pair_in}
-use Rattle.table.specs.Group.{GroupPairs, blank_pair, list_of, pairs_of}
+use Rattle.table.specs.Group.{GroupPairs, pairs_of}
 use Rattle.table.specs.Table.{meant_in, group_at, groups_of, check_table}
-use Rattle.table.proofs.CheckLaws.{view-length, view-at, groups-size, group_at_lem}
+use Rattle.table.proofs.CheckLaws.{view-length, groups-size, group_at_lem}
 use Rattle.table.proofs.OrderOffsets.{GroupRight, table_groups_few, table_group_right}
 use Rattle.queue.specs.Open.{group_fits}
 use Rattle.queue.proofs.ContentsLaws.{mapped_get_elem?, mapped-here, mapped_end}
 use Rattle.number.specs.Reply.{passed}
 
--- the pairs from the ith on: what a walk over them comes to
-pub pairs_here : (places : List ℕ) (ps : Span) (i : ℕ) → i < ps.count
-    → drop i (list_of places ps) ≡ pair_in (get_or places (ps.first + i) 0) ∷ drop (i + 1) (list_of places ps)
-pairs_here places ps i k =
-    rw (add-one, ← view-at places ps i k)
-    (drop-cons (list_of places ps) i blank_pair (rw (view-length places ps) k))
-
-pub pairs_end : (places : List ℕ) (ps : Span) (i : ℕ) → ps.count ≤ i → drop i (list_of places ps) ≡ []
-pairs_end places ps i k =
-    let e : length (list_of places ps) ≤ i = rw (view-length places ps) k in
-    drop_of_length-le (list_of places ps) e
+-- the pairs from the ith on: what a walk over the numbers that hold them comes to
+pub pairs_here : (numbers : List ℕ) (i : ℕ) → i < length numbers
+    → drop i (map pair_in numbers) ≡ pair_in (get_or numbers i 0) ∷ drop (i + 1) (map pair_in numbers)
+pairs_here numbers i k =
+    rw (add-one, ← get_or-map pair_in numbers i 0) (drop-cons (map pair_in numbers) i (pair_in 0) (rw length-map k))
 
 pub fits_record : (load_depth store_depth : ℕ) (loads stores : List ℕ) (g : Group)
     → group_fits load_depth store_depth (pairs_of loads stores g) ≡ leb g.loads.count load_depth && leb g.stores.count store_depth

@@ -1,6 +1,6 @@
 -- What serve and write accept goes by the entry and the entries before it, and not by the memory's words; and the serials that
 -- pass, gathered from the oldest.
-use Rattle.std.proofs.Common.{◌≡◌, ℕ, zero, suc, ◌+◌, ◌-◌, ◌^◌, ◌<◌, ◌≤◌, Bool, true, false, not, eqb, leb, Result, Ok, Err, List, [], ◌∷◌, ◌++◌, length, get_or, take, drop, set, sym, refl, ap, ◌∙◌, ap₂, append_assoc, append-nil, le_trans, le_of_suc-le-suc, not-suc-le-zero, add-one, arith, length-append, length-drop, length-take-le}
+use Rattle.std.proofs.Common.{rules, ◌≡◌, ℕ, zero, suc, ◌+◌, ◌-◌, ◌^◌, ◌<◌, ◌≤◌, Bool, true, false, not, eqb, leb, Result, Ok, Err, List, [], ◌∷◌, ◌++◌, length, get_or, take, drop, sym, refl, ap, ◌∙◌, ap₂, append_assoc, append-nil, le_trans, arith, length-append, length-take-le}
 use native.Mathlib.Nat.{sub-zero}
 use mathlib.Core.Option.{Option, none, some}
 use lib.ListN.{length-replicate, get_elem?}
@@ -22,7 +22,7 @@ use Rattle.queue.specs.Ready.{serials, count_of, oldest_of, answer_to, any_memor
 use Rattle.queue.specs.Internal.{may_write_at, load_ready, ready_at, InReach, serials_listed, Noted, Lists, HandedOut}
 use Rattle.queue.proofs.ContentsLaws.{counts_of, side_next, side-count, side-get_elem?, side-take}
 use Rattle.number.proofs.AnswerLaws.{refusals_positive}
-use Rattle.number.proofs.ReplyLaws.{accepted_number}
+use Rattle.number.proofs.ReplyLaws.{accepted_number, not_zero}
 use Rattle.queue.proofs.Refusals.{proper, need_same, have_same, small-proper, ready-small, may_write_proper, serve_proper, write_proper}
 use Rattle.queue.proofs.Serials.{place_of_serial, oldest-small}
 use Rattle.queue.proofs.SoundLaws.{count_most, before-held}
@@ -180,7 +180,7 @@ module _ {ready : ℕ → Bool} {from n i serial : ℕ} {s : Serials} (w : Ready
   gathering-ready h e c d = gathering-more h e (record { few = omega (arith, c.few); long = c.long; are = c.are }) d
 
   pub gathering-unready : i < n → false ≡ ready i → {next : ℕ} → next ≡ after serial 1 → ReadyGathering ready from n (i + 1) next s
-  gathering-unready h e d = gathering-more h e (record { few = omega arith; long = refl; are = sym append-nil }) d
+  gathering-unready h e d = gathering-more h e (record { few = omega arith; long = refl; are = sym (append-nil (serials_listed s)) }) d
 
   pub gathering-end : n ≤ i → (p : ℕ → Bool) → ((j : ℕ) → j < n → p (after from j) ≡ ready j)
       → serials_listed s ≡ keep_where p (serials from n)
@@ -211,32 +211,28 @@ module _ (kind : Kind) (q : Contents) (run : List ℕ) where
   ready-sound right = rw right
 
 -- serials that were handed out are what the rule gives
-readied_reply : Reply ℕ → Queue → Readied
-readied_reply (accept n) q = record { answer = 0; count = n; queue = q }
-readied_reply (refuse n) q = record { answer = n; count = 0; queue = q }
-
-readied_replies : (r : Result ℕ Refusal) (q : Queue) → readied r q ≡ readied_reply (reply r) q
-readied_replies (Ok n) q = refl
-readied_replies (Err e) q = refl
-
 pub handed : (q : Queue) {found lent run : List ℕ} {s : Serials} {r : Result ℕ Refusal} → Lists found s → HandedOut s lent r run
     → Readies q lent (need (leb (length found) (length lent)) too_short (accept found)) (readied r q) run
-handed q {found} {lent} {run} {s} {r} l h = rw (← l.size, readied_replies r q) (go (leb s.count (length lent)) h.gives h.leaves)
+handed q {found} {lent} {run} {s} {r} l h = rw (← l.size) (go (leb s.count (length lent)) h.gives h.leaves)
   where
     go : (room : Bool) → reply r ≡ need room too_short (accept s.count) → run ≡ pick room (serials_listed s ++ drop s.count lent) lent
-        → Readies q lent (need room too_short (accept found)) (readied_reply (reply r) q) run
+        → Readies q lent (need room too_short (accept found)) (readied r q) run
     go true e d = record { outcome = rw (e, l.size); run_is = d ∙ rw (l.are, l.size) }
     go false e d = record { outcome = rw e; run_is = d }
+
+not-zero : {B : Type 0} (n : ℕ) → n ≡ 0 → not_zero n ≡ true → B
+not-zero zero e p = search rules
+not-zero (suc n) e p = absurd (omega (arith, e))
 
 -- the front part that is handed back, and what a refused call told
 module _ (kind : Kind) (q : Queue) (lent run : List ℕ) where
   pub fronts : (count : ℕ) → Readies q lent (ready kind (contents_of q) lent) (readied (Ok count) q) run
       → (count ≤ length run) × (ready kind (contents_of q) lent ≡ accept (take count run))
-  fronts count w = go (ready kind (contents_of q) lent) (small-proper _ (ready-small kind (contents_of q) lent)) w
+  fronts count w = go (ready kind (contents_of q) lent) (small-proper (ready kind (contents_of q) lent) (ready-small kind (contents_of q) lent)) w
     where
       go : (rule : Reply (List ℕ)) → proper rule ≡ true → Readies q lent rule (readied (Ok count) q) run
           → (count ≤ length run) × (rule ≡ accept (take count run))
-      go (refuse n) p v = let z : 0 ≡ n = ap (λ (r : Readied). r.answer) v.outcome in absurd (rw (← z) at p)
+      go (refuse n) p v = let z : 0 ≡ n = ap (λ (r : Readied). r.answer) v.outcome in not-zero n (sym z) p
       go (accept found) p v =
           let e : count ≡ length found = ap (λ (r : Readied). r.count) v.outcome in
           rw (v.run_is, e) (simp length-append (omega arith), ap accept (sym (take-append_seam found (drop (length found) lent))))

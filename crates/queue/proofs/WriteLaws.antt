@@ -6,7 +6,7 @@ use Rattle.queue.specs.declared.Kind.TheVariants.{Load as load, Store as store}
 use Rattle.queue.specs.declared.Entry.{Entry as EntryStruct}
 use Rattle.queue.specs.declared.Queue.{Queue}
 use Rattle.number.specs.Refusal.{unsound, wrong_memory, no_serial, already_done, no_address, no_data, load_conflict, store_conflict}
-use Rattle.number.specs.Reply.{Reply, refuse, accept, have, and_then}
+use Rattle.number.specs.Reply.{refuse, accept, have, and_then}
 use Rattle.queue.specs.Entry.{Entry, entry_of, unpacked, served, written}
 use Rattle.queue.specs.Contents.{Contents, contents_of, age, oldest, place_of, entries_held, others_before}
 use Rattle.queue.specs.Sound.{sound}

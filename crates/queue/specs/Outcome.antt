@@ -2,14 +2,13 @@
 -- hands back the very record that it was handed. An accepted call hands back a queue that holds just what the rule gives;
 -- "places of a record beyond its counts have no meaning", and nothing is said of them.
 use Rattle.std.specs.Prelude as code
-use Rattle.std.specs.Prelude.{◌≡◌, ℕ, Some, None, Result, Ok, Err, List}
+use Rattle.std.specs.Prelude.{◌≡◌, ℕ, Some, None, Result, List}
 use Rattle.std.proofs.Math.Option.{Option, none, some}
 use Rattle.counts.specs.declared.Counts.{Counts}
 use Rattle.counts.specs.Counts.{counted}
 use Rattle.queue.specs.declared.Queue.{Queue}
 use Rattle.number.specs.declared.refusal.Refusal.{Refusal}
-use Rattle.number.specs.Refusal.{refusal_number}
-use Rattle.number.specs.Reply.{Reply, refuse, accept}
+use Rattle.number.specs.Reply.{Reply, refuse, accept, reply}
 use Rattle.queue.specs.Contents.{Contents, contents_of}
 use Rattle.queue.specs.Serve.{Served}
 use Rattle.queue.specs.Write.{Written}
@@ -25,22 +24,25 @@ pub record Outcome : Type 0 where
 abbrev pub no_value : ℕ → Queue → Outcome
 no_value n q = record { answer = n; value = none; queue = q }
 
--- What a call hands back, and the queue that it leaves, where an accepted one gives a value as `value` says: "accepted is 0". "When an
--- answer is an enum, a definition gives this paper's number and values for each enum case."
-abbrev pub handed : {A : Type 0} → (A → Option ℕ) → Result A Refusal → Queue → Outcome
-handed value (Ok a) q = record { answer = 0; value = value a; queue = q }
-handed value (Err e) q = no_value (refusal_number e) q
+-- What a call hands back that replies so and leaves this queue, where an accepted one gives a value as `value` says. "When an answer is an
+-- enum, a definition gives this paper's number and values for each enum case": `reply` does.
+abbrev pub handed : {A : Type 0} → (A → Option ℕ) → Reply A → Queue → Outcome
+handed value (accept a) q = record { answer = 0; value = value a; queue = q }
+handed value (refuse n) q = no_value n q
 
 -- a call that gives no value; one that gives one; one that may
 abbrev pub moved : Result (Unit {0}) Refusal → Queue → Outcome
-moved = handed (λ done. none)
+moved r q = handed (λ done. none) (reply r) q
 
 abbrev pub gave : Result ℕ Refusal → Queue → Outcome
-gave = handed some
+gave r q = handed some (reply r) q
 
 abbrev pub value_in : code.Option ℕ → Option ℕ
 value_in (Some v) = some v
 value_in None = none
+
+abbrev pub may_give : Result (code.Option ℕ) Refusal → Queue → Outcome
+may_give r q = handed value_in (reply r) q
 
 -- an accepted call, which gives this value, or none, and a queue that holds this
 pub record Accepted (value : Option ℕ) (queue : Contents) (r : Outcome) : Type 0 where
@@ -109,9 +111,12 @@ pub record Opened : Type 0 where
   pub answer : ℕ
   pub queue : Queue
 
+abbrev pub opening_by : Queue → Reply Queue → Opened
+opening_by blank (accept q) = record { answer = 0; queue = q }
+opening_by blank (refuse n) = record { answer = n; queue = blank }
+
 abbrev pub opening_of : Queue → Result Queue Refusal → Opened
-opening_of blank (Ok q) = record { answer = 0; queue = q }
-opening_of blank (Err e) = record { answer = refusal_number e; queue = blank }
+opening_of blank r = opening_by blank (reply r)
 
 abbrev pub Opens : Queue → Reply Contents → Opened → Type 0
 Opens blank (refuse n) r = r ≡ record { answer = n; queue = blank }

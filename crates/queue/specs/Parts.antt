@@ -1,6 +1,6 @@
 -- Calls on a queue's parts: its frame is lent, and both sides' entries as runs of numbers of any length. A run that has not just 64
 -- numbers is no side's places: 40, before anything else.
-use Rattle.std.specs.Prelude.{◌≡◌, ℕ, Bool, ◌&&◌, Result, Ok, Err, List, length, ◌==◌}
+use Rattle.std.specs.Prelude.{◌≡◌, ℕ, Bool, ◌&&◌, Result, List, length, ◌==◌}
 use Rattle.std.proofs.Math.Option.{none}
 use Rattle.queue.specs.declared.Kind.{Kind}
 use Rattle.queue.specs.declared.Frame.{Frame}
@@ -9,8 +9,8 @@ use Rattle.queue.specs.Contents.{of_kind, Contents, contents_of}
 use Rattle.queue.specs.Outcome.{Outcome}
 use Rattle.queue.specs.Open.{no_frame}
 use Rattle.number.specs.declared.refusal.Refusal.{Refusal}
-use Rattle.number.specs.Refusal.{unsound, refusal_number}
-use Rattle.number.specs.Reply.{Reply, refuse, accept, need}
+use Rattle.number.specs.Refusal.{unsound}
+use Rattle.number.specs.Reply.{Reply, refuse, accept, need, reply}
 
 -- the queue of a frame and two runs of entries
 abbrev pub queue_of : Frame → List ℕ → List ℕ → Queue
@@ -48,9 +48,12 @@ pub record OpenedFrame : Type 0 where
   pub answer : ℕ
   pub frame : Frame
 
+abbrev pub opened_by : Reply Frame → OpenedFrame
+opened_by (accept frame) = record { answer = 0; frame = frame }
+opened_by (refuse n) = record { answer = n; frame = no_frame }
+
 abbrev pub opened_frame : Result Frame Refusal → OpenedFrame
-opened_frame (Ok frame) = record { answer = 0; frame = frame }
-opened_frame (Err e) = record { answer = refusal_number e; frame = no_frame }
+opened_frame r = opened_by (reply r)
 
 abbrev pub OpensFrame : Frame → Reply Contents → OpenedFrame → Type 0
 OpensFrame fresh (refuse n) r = r ≡ record { answer = n; frame = no_frame }

@@ -1,12 +1,12 @@
 -- "The ready calls put the serials that serve (or write) would now accept with memory of the right length, oldest first, at
 -- the front of a lent run of numbers and give back that front part; the rest keeps its contents." "Ready: 10."
-use Rattle.std.specs.Prelude.{◌≡◌, ℕ, zero, suc, ◌^◌, ◌<◌, Bool, Result, Ok, Err, List, [], ◌∷◌, ◌++◌, length, drop, replicate, ◌==◌, nat_eq, nat_le}
+use Rattle.std.specs.Prelude.{◌≡◌, ℕ, zero, suc, ◌^◌, ◌<◌, Bool, Result, List, [], ◌∷◌, ◌++◌, length, drop, replicate, ◌==◌, nat_eq, nat_le}
 use Rattle.number.specs.Basics.{any_of, keep_where}
-use Rattle.number.specs.Refusal.{too_short, unsound, refusal_number}
+use Rattle.number.specs.Refusal.{too_short, unsound}
 use Rattle.queue.specs.declared.Kind.{Kind}
 use Rattle.queue.specs.declared.Queue.{Queue}
 use Rattle.number.specs.declared.refusal.Refusal.{Refusal}
-use Rattle.number.specs.Reply.{Reply, refuse, accept, need, number}
+use Rattle.number.specs.Reply.{Reply, refuse, accept, need, number, reply}
 use Rattle.queue.specs.Contents.{Contents, of_kind, side_of, after, oldest}
 use Rattle.queue.specs.Sound.{sound}
 use Rattle.queue.specs.Serve.{serve}
@@ -58,9 +58,12 @@ pub record Readied : Type 0 where
   pub count : ℕ
   pub queue : Queue
 
+abbrev pub readied_by : Reply ℕ → Queue → Readied
+readied_by (accept n) q = record { answer = 0; count = n; queue = q }
+readied_by (refuse n) q = record { answer = n; count = 0; queue = q }
+
 abbrev pub readied : Result ℕ Refusal → Queue → Readied
-readied (Ok n) q = record { answer = 0; count = n; queue = q }
-readied (Err e) q = record { answer = refusal_number e; count = 0; queue = q }
+readied r q = readied_by (reply r) q
 
 -- a refused one: this number, no serial, the very queue, and the run as it was
 pub record Unready (q : Queue) (n : ℕ) (lent : List ℕ) (r : Readied) (run : List ℕ) : Type 0 where

@@ -2,8 +2,8 @@
 ghost use Rattle.std.specs.Prelude.{◌≡◌, ◌+◌, ◌≤◌, ◌&&◌, nat_le};
 ghost use Rattle.queue.specs.Contents.{contents_of};
 ghost use Rattle.queue.specs.Activate.{activate};
-ghost use Rattle.queue.specs.Outcome.{Moves};
-ghost use Rattle.queue.specs.Parts.{queue_of, moved, OpenedAlike, on_parts};
+ghost use Rattle.queue.specs.Outcome.{Moves, moved};
+ghost use Rattle.queue.specs.Parts.{queue_of, OpenedAlike, on_parts};
 ghost use Rattle.queue.specs.Internal.{Has64};
 ghost use Rattle.queue.specs.Internal.{PairsFit, Appended, longer};
 
@@ -87,8 +87,20 @@ pub fn activate_in(
     }
     let loads = frame.loads.count;
     let stores = frame.stores.count;
-    append(load_entries, loads, &frame.table.loads, chosen.loads, stores);
-    append(store_entries, stores, &frame.table.stores, chosen.stores, loads);
+    append(
+        load_entries,
+        loads,
+        &frame.table.loads,
+        chosen.loads,
+        stores,
+    );
+    append(
+        store_entries,
+        stores,
+        &frame.table.stores,
+        chosen.stores,
+        loads,
+    );
     frame.loads.lengthen(chosen.loads.count);
     frame.stores.lengthen(chosen.stores.count);
     Ok(())

@@ -2,8 +2,8 @@
 ghost use Rattle.std.specs.Prelude.{◌≡◌, ◌≤◌, true, length};
 ghost use Rattle.queue.specs.Contents.{of_kind, contents_of};
 ghost use Rattle.queue.specs.Arguments.{kind_of, in_range, give, load_address, store_address, store_data};
-ghost use Rattle.queue.specs.Outcome.{Moves};
-ghost use Rattle.queue.specs.Parts.{queue_of_kind, moved, on_parts};
+ghost use Rattle.queue.specs.Outcome.{Moves, moved};
+ghost use Rattle.queue.specs.Parts.{queue_of_kind, on_parts};
 ghost use Rattle.queue.specs.Internal.{mark_of, set_argument, Given};
 
 use crate::entries::{Mark, oldest_without, pack, unpack};
@@ -125,11 +125,13 @@ impl Queue {
     fn give(&mut self, argument: Argument, port: u32, number: u32) -> Result<(), Refusal>
         ensures { Moves self.old (give argument (contents_of self.old) port number) (moved result self.new) }
     {
-        let (own, others) = match kind_of(argument) {
-            Kind::Load => (&mut self.load_entries, &self.store_entries),
-            Kind::Store => (&mut self.store_entries, &self.load_entries),
-        };
-        give_in(&self.frame, own, others, argument, port, number)
+        let frame = &self.frame;
+        let loads = &mut self.load_entries;
+        let stores = &mut self.store_entries;
+        match kind_of(argument) {
+            Kind::Load => give_in(frame, loads, stores, argument, port, number),
+            Kind::Store => give_in(frame, stores, loads, argument, port, number),
+        }
     }
 
     // Gives an address to the port's oldest load that has none.

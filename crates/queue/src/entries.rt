@@ -34,7 +34,9 @@ pub fn unpack(number: u64) -> Entry
 pub fn pack(entry: Entry) -> u64
     ensures { result ≡ number_of entry }
 {
-    let marks = 32 * entry.addressed as u64 + 64 * entry.filled as u64 + 128 * entry.finished as u64;
+    let marks = 32 * entry.addressed as u64
+        + 64 * entry.filled as u64
+        + 128 * entry.finished as u64;
     let low = entry.port as u64 % 32 + marks + 256 * entry.before as u64;
     low + 65536 * entry.address as u64 + 4294967296 * entry.word as u64
 }

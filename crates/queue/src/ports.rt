@@ -1,22 +1,21 @@
 // Which ports a table names: load ports and store ports are two separate series.
-ghost use Rattle.std.specs.Prelude.{◌≡◌, ◌≤◌};
+ghost use Rattle.std.specs.Prelude.{◌≡◌, ◌≤◌, map};
 ghost use Rattle.number.specs.Basics.{any_of};
-ghost use Rattle.table.specs.Group.{list_of, pairs_of, Inside};
+ghost use Rattle.table.specs.Packed.{pair_in};
+ghost use Rattle.table.specs.Group.{pairs_of, Inside};
 ghost use Rattle.table.specs.Table.{groups_of};
 ghost use Rattle.queue.specs.Arguments.{is_port, names_port};
 
 use crate::Kind;
 use table::parts::unpack_pair;
-use table::{Group, Span, Table};
+use table::{Group, Table};
 
 // Is the port one of these?
-fn names_port(places: &[u16; 32], pairs: Span, port: u32) -> bool
-    requires { Inside pairs }
-    ensures { result ≡ any_of (is_port port) (list_of places.now pairs) }
+fn names_port(pairs: &[u16], port: u32) -> bool
+    ensures { result ≡ any_of (is_port port) (map pair_in pairs.now) }
 {
-    let first = pairs.first as usize;
-    for i in 0..pairs.count as usize {
-        let pair = unpack_pair(places[first + i]);
+    for number in pairs {
+        let pair = unpack_pair(*number);
         if pair.port as u32 == port {
             return true;
         }
@@ -30,8 +29,8 @@ fn group_names(table: &Table, group: Group, kind: Kind, port: u32) -> bool
     ensures { result ≡ names_port kind port (pairs_of table.now.loads table.now.stores group) }
 {
     match kind {
-        Kind::Load => names_port(&table.loads, group.loads, port),
-        Kind::Store => names_port(&table.stores, group.stores, port),
+        Kind::Load => names_port(group.loads.among(&table.loads), port),
+        Kind::Store => names_port(group.stores.among(&table.stores), port),
     }
 }
 

@@ -64,7 +64,13 @@ pub(crate) fn source_of(entries: &[u64], n: usize, address: u16) -> Source
 }
 
 // The load at a place gets this word, and is counted: an accepted serve.
-fn served(load_entries: &mut [u64], at: usize, word: u32, forwarded: bool, counts: &mut Counts) -> u32
+fn served(
+    load_entries: &mut [u64],
+    at: usize,
+    word: u32,
+    forwarded: bool,
+    counts: &mut Counts,
+) -> u32
     requires { at < length load_entries.old }
     ensures word { result ≡ word }
     ensures counts { counts.new ≡ counted forwarded counts.old }
@@ -138,7 +144,12 @@ pub fn serve_in(
 
 impl Queue {
     // Serve the load with this serial: its value. The counts are lent, and changed in place.
-    pub fn serve(&mut self, memory: &[u32], counts: &mut Counts, serial: u32) -> Result<u32, Refusal>
+    pub fn serve(
+        &mut self,
+        memory: &[u32],
+        counts: &mut Counts,
+        serial: u32,
+    ) -> Result<u32, Refusal>
         ensures { Serves self.old counts.old (serve (contents_of self.old) memory.now serial) (with_counts (gave result self.new) counts.new) }
     {
         serve_in(

@@ -60,18 +60,37 @@ pub fn sound_in(frame: &Frame, load_entries: &[u64], store_entries: &[u64]) -> b
     let loads = frame.loads;
     let stores = frame.stores;
     let words = frame.memory_length;
-    load_entries.len() == 64
-        && store_entries.len() == 64
-        && side_right(loads)
-        && side_right(stores)
-        && memory_right(words as u32)
-        && entries_right(load_entries, loads.count, words, stores.count)
-        && entries_right(store_entries, stores.count, words, loads.count)
-        && frame.table.check().is_ok()
+    if load_entries.len() != 64 {
+        return false;
+    }
+    if store_entries.len() != 64 {
+        return false;
+    }
+    if !side_right(loads) {
+        return false;
+    }
+    if !side_right(stores) {
+        return false;
+    }
+    if !memory_right(words as u32) {
+        return false;
+    }
+    if !entries_right(load_entries, loads.count, words, stores.count) {
+        return false;
+    }
+    if !entries_right(store_entries, stores.count, words, loads.count) {
+        return false;
+    }
+    frame.table.check().is_ok()
 }
 
 // The same, by the entries of one kind and those of the other.
-pub(crate) fn sound_of(kind: Kind, frame: &Frame, own_entries: &[u64], other_entries: &[u64]) -> bool
+pub(crate) fn sound_of(
+    kind: Kind,
+    frame: &Frame,
+    own_entries: &[u64],
+    other_entries: &[u64],
+) -> bool
     ensures { let q = queue_of_kind kind frame.now own_entries.now other_entries.now in
         result ≡ whole q.load_entries q.store_entries && sound (contents_of q) }
 {

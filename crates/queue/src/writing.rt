@@ -5,8 +5,8 @@ ghost use Rattle.number.specs.Reply.{reply, check_of};
 ghost use Rattle.queue.specs.Entry.{entry_of, entry_in};
 ghost use Rattle.queue.specs.Contents.{entries_held, contents_of};
 ghost use Rattle.queue.specs.Write.{no_conflict, write_at, write};
-ghost use Rattle.queue.specs.Outcome.{Writes};
-ghost use Rattle.queue.specs.Parts.{queue_of, moved, OpenedAlike, on_parts};
+ghost use Rattle.queue.specs.Outcome.{Writes, moved};
+ghost use Rattle.queue.specs.Parts.{queue_of, OpenedAlike, on_parts};
 ghost use Rattle.queue.specs.Internal.{Checked, has, may_write_at};
 
 use crate::entries::{Mark, pack, unpack};
@@ -39,7 +39,11 @@ fn none_conflict(entries: &[u64], n: usize, done: Mark, address: u16) -> bool
 }
 
 // Why the store at a place may not be written: 26, 27, 29, 31, 32.
-pub(crate) fn write_fault(load_entries: &[u64], store_entries: &[u64], at: usize) -> Result<(), Refusal>
+pub(crate) fn write_fault(
+    load_entries: &[u64],
+    store_entries: &[u64],
+    at: usize,
+) -> Result<(), Refusal>
     requires { (at < length store_entries.now) × ((entry_in (slice_index_or store_entries.now at 0)).before ≤ length load_entries.now) }
     ensures { reply result ≡ check_of (may_write_at load_entries.now store_entries.now at) }
 {
@@ -53,7 +57,12 @@ pub(crate) fn write_fault(load_entries: &[u64], store_entries: &[u64], at: usize
     if !store.filled {
         return Err(Refusal::NoData);
     }
-    if !none_conflict(load_entries, store.before as usize, Mark::Filled, store.address) {
+    if !none_conflict(
+        load_entries,
+        store.before as usize,
+        Mark::Filled,
+        store.address,
+    ) {
         return Err(Refusal::LoadConflict);
     }
     if !none_conflict(store_entries, at, Mark::Finished, store.address) {

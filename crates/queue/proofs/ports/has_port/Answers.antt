@@ -9,11 +9,11 @@ use Rattle.queue.proofs.ports.has_port.Goals.{After-group_names}
 
 -- the group at this place stands before those that are not looked at yet
 here : (c : After-group_names) → drop c.loop-i.i (groups_of c.args.table.now)
-    ≡ pairs_of c.args.table.now.loads c.args.table.now.stores c.group.result ∷ drop (c.loop-i.i + 1) (groups_of c.args.table.now)
-here c = groups-here c.args.table.now c.requires c.loop-i.i c.loop-i-test.true c.group.ensures
+    ≡ pairs_of c.args.table.now.loads c.args.table.now.stores c.group-group.result ∷ drop (c.loop-i.i + 1) (groups_of c.args.table.now)
+here c = groups-here c.args.table.now c.requires c.loop-i.i c.loop-i-test.true c.group-group.ensures
 
 pub group_names-requires : goal.group_names-requires
-group_names-requires c = group-inside _ _ c.group.ensures
+group_names-requires c = group-inside _ _ c.group-group.ensures
 
 pub returns-then-group_names : goal.returns-then-group_names
 returns-then-group_names c =

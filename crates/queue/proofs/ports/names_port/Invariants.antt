@@ -1,7 +1,8 @@
-use Rattle.table.specs.Group.{list_of}
+use Rattle.std.proofs.Common.{map}
+use Rattle.table.specs.Packed.{pair_in}
 use Rattle.queue.specs.Arguments.{is_port}
 use Rattle.queue.proofs.WalkLaws.{NoneYet}
 use Rattle.queue.proofs.ports.names_port.Given as goal
 
-abbrev pub invariant-loop-i : goal.invariant-loop-i
-invariant-loop-i l = NoneYet (is_port l.port) (list_of l.places l.pairs) l.i
+abbrev pub invariant-loop-number : goal.invariant-loop-number
+invariant-loop-number l = NoneYet (is_port l.port) (map pair_in l.pairs) l.number-index

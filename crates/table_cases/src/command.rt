@@ -1,4 +1,5 @@
 // The commands other than `bytes`: their names, how many numbers each takes, and how large these may be.
+use cases::Part;
 
 #[derive(Clone, Copy)]
 pub(crate) enum Command {
@@ -6,6 +7,7 @@ pub(crate) enum Command {
     Check,
     Length,
     Buffer,
+    Fill,
     Set(Part),
     Write(Written),
 }
@@ -17,16 +19,6 @@ pub(crate) enum Read {
     Event,
     Header,
     Table,
-}
-
-// The part of the table that is set.
-#[derive(Clone, Copy)]
-pub(crate) enum Part {
-    All,
-    Count,
-    Group,
-    LoadPair,
-    StorePair,
 }
 
 // What is written to a buffer.
@@ -48,7 +40,7 @@ pub(crate) const COMMANDS: [(&[u8], (&[u8; 8], Command)); 16] = [
     (b"check", (b"........", Command::Check)),
     (b"length", (b"w.......", Command::Length)),
     (b"buffer", (b"l.......", Command::Buffer)),
-    (b"fill", (b"........", Command::Set(Part::All))),
+    (b"fill", (b"........", Command::Fill)),
     (b"set-groups", (b"b.......", Command::Set(Part::Count))),
     (b"set-group", (b"gbbbb...", Command::Set(Part::Group))),
     (

@@ -7,11 +7,11 @@ mod command;
 mod reads;
 mod run;
 mod show;
-mod tables;
 mod writes;
 
 use crate::command::{COMMANDS, Command};
-use crate::run::Run;
+use crate::run::{Run, filled};
+use cases::set_part;
 use number::writing::number_length;
 use script::{bytes_of, is_text, lines_of, named, next_byte, numbers_as, word};
 use std::io;
@@ -32,7 +32,8 @@ fn obey(
             return Some(write!(out, ": {}", number_length(word(numbers, 0))));
         }
         Command::Buffer => run.length = word(numbers, 0) as usize,
-        Command::Set(part) => tables::set(&mut run.table, part, numbers),
+        Command::Fill => run.table = filled(),
+        Command::Set(part) => set_part(&mut run.table, part, numbers),
         Command::Write(what) => return writes::write(out, run, what, numbers),
     }
     Some(Ok(()))

@@ -5,54 +5,47 @@
 ghost use Rattle.std.specs.Prelude.{◌≡◌};
 ghost use Rattle.counts.specs.Counts.{counted, share};
 
-// Loads served, and loads forwarded.
+use std::cmp::Ordering;
+
+// Loads served, and loads forwarded. (`repr(C)`: C hands the record in and gets it back.)
 #[repr(C)]
-#[derive(Clone, Copy)]
+#[derive(Clone, Copy, PartialEq, Eq, Default)]
 pub struct Counts {
     pub loads: u32,
     pub forwarded: u32,
 }
 
-// One more load is served. "When either stands at 4294967295 both stop."
-pub fn counted(counts: Counts, forwarded: bool) -> Counts
-    ensures { result ≡ counted forwarded counts }
-{
-    if counts.loads == 4294967295 {
-        return counts;
+impl Counts {
+    // One more load is served. "When either stands at 4294967295 both stop."
+    pub fn counted(self, forwarded: bool) -> Counts
+        ensures { result ≡ counted forwarded self }
+    {
+        if self.loads == u32::MAX || self.forwarded == u32::MAX {
+            return self;
+        }
+        Counts {
+            loads: self.loads + 1,
+            forwarded: self.forwarded + u32::from(forwarded),
+        }
     }
-    if counts.forwarded == 4294967295 {
-        return counts;
-    }
-    if forwarded {
-        return Counts {
-            loads: counts.loads + 1,
-            forwarded: counts.forwarded + 1,
-        };
-    }
-    Counts {
-        loads: counts.loads + 1,
-        forwarded: counts.forwarded,
-    }
-}
 
-// Thousandths of the loads that were forwarded, to the nearest, an exact half to the even neighbour; 0 for no loads.
-pub fn share(counts: Counts) -> u64
-    ensures { result ≡ share counts }
-{
-    if counts.loads == 0 {
-        return 0;
+    // Thousandths of the loads that were forwarded, to the nearest, an exact half to the even neighbour; 0 for no loads.
+    pub fn share(self) -> u64
+        ensures { result ≡ share self }
+    {
+        if self.loads == 0 {
+            return 0;
+        }
+        let loads = u64::from(self.loads);
+        let thousandths = 1000 * u64::from(self.forwarded);
+        let whole = thousandths / loads;
+        // twice the rest, compared with the loads: is the rest below half of them?
+        let twice = 2 * (thousandths % loads);
+        match twice.cmp(&loads) {
+            Ordering::Less => whole,
+            Ordering::Greater => whole + 1,
+            // an exact half: the even neighbour
+            Ordering::Equal => whole + whole % 2,
+        }
     }
-    let loads = counts.loads as u64;
-    let thousandths = 1000 * (counts.forwarded as u64);
-    let whole = thousandths / loads;
-    // twice the rest, to compare it with half of the loads
-    let twice = 2 * (thousandths % loads);
-    if twice < loads {
-        return whole;
-    }
-    if loads < twice {
-        return whole + 1;
-    }
-    // an exact half: the even neighbour
-    whole + whole % 2
 }

@@ -2,25 +2,26 @@
 use Prim.Native.Nat.{ℕ, zero, suc, ◌+◌, ◌-◌, ◌≤◌, ◌<◌}
 use native.Mathlib.Omega.{arith}
 use native.Mathlib.Numerals.{add-one}
-use mathlib.Core.Path.{◌≡◌, refl, sym, ap, ◌∙◌, fun_ext}
-use mathlib.Core.Bool.{Bool, true, false, not, ◌&&◌, ◌||◌}
+use mathlib.Core.Path.{◌≡◌, refl, sym, ◌∙◌, fun_ext}
+use mathlib.Core.Bool.{Bool, true, false, cond, not, ◌&&◌, ◌||◌}
 use mathlib.Core.List.{List, [], ◌∷◌, ◌++◌, append-nil, append_assoc}
 use mathlib.Core.Option.{Option, none, some}
 use lib.Dec.{eqb, ltb}
-use lib.ListN.{length, take, drop, get_or, set, replicate, take-append-drop}
-use lib.Seq.{drop-drop, drop-set-lt, take_all, length-take-le, take-suc-set, get_or-set_same, get_or-set_other}
-use borrow.Author.Tests.{eqb-true, eqb-false, lt-ltb, le-ltb}
+use lib.ListN.{length, take, drop, get_or, set, replicate}
+use lib.Seq.{take_all, length-take-le, take-suc, take-suc-set, get_or-take, get_or-set_same, get_or-set_other}
+use Rattle.std.specs.Prelude.{Some, None}
+use Rattle.std.specs.List.{position, position_or_len}
+use Rattle.std.proofs.lemmas.List.Sums.{passes_at_first, fails_before_first}
+use borrow.Author.Tests.{eqb-true, eqb-false, lt-ltb, le-ltb, ltb-true, ltb-false}
 use Rattle.number.specs.Basics.{any_of}
 use Rattle.number.specs.Reply.{refuse, accept}
 use Rattle.number.specs.Refusal.{circle}
 use Rattle.number.proofs.HeldLaws.{drop-replicate}
 use Rattle.ordering.specs.declared.Precedence.{Precedence}
-use Rattle.ordering.specs.declared.Precedences.{Precedences}
 use Rattle.ordering.specs.Answer.{seek, Waiting, without, blocks, followed, next, arrange, arranged}
-use Rattle.ordering.specs.Records.{blank_precedence, precedences_of, ordered}
-use Rattle.ordering.specs.Internal.{waits, Unready}
+use Rattle.ordering.specs.Records.{blank_precedence, ordered}
+use Rattle.ordering.specs.Internal.{waits, unmarked, Unready, NextIs}
 use Rattle.ordering.proofs.Tests.{or_true}
-use Rattle.ordering.proofs.RecordLaws.{pairs-length, take-pairs}
 
 -- ---- the accesses that are not ready, marked pair by pair
 
@@ -37,21 +38,21 @@ any_more p (y ∷ ys) x = rw (any_more p ys x) (go (p y))
     go false = refl
 
 -- the first i pairs were looked at
-pub record Marked (w : Waiting) (placed marks : List Bool) (pairs : Precedences) (i : ℕ) : Type 0 where
-  pub is : (a : ℕ) → get_or marks a false ≡ get_or placed a false || any_of (blocks w a) (take i (precedences_of pairs))
+pub record Marked (w : Waiting) (placed marks : List Bool) (pairs : List Precedence) (i : ℕ) : Type 0 where
+  pub is : (a : ℕ) → get_or marks a false ≡ get_or placed a false || any_of (blocks w a) (take i pairs)
 
-pub marked_none : {w : Waiting} {placed : List Bool} {pairs : Precedences} → Marked w placed placed pairs 0
+pub marked_none : {w : Waiting} {placed : List Bool} {pairs : List Precedence} → Marked w placed placed pairs 0
 marked_none {w} {placed} = record { is = λ a. sym (or_false (get_or placed a false)) }
 
-module _ {w : Waiting} {placed marks : List Bool} {pairs : Precedences} {i : ℕ} (so : Marked w placed marks pairs i) (low : i < pairs.count) where
+module _ {w : Waiting} {placed marks : List Bool} {pairs : List Precedence} {i : ℕ} (so : Marked w placed marks pairs i) (low : i < length pairs) where
   abbrev pair : Precedence
-  pair = get_or pairs.pairs i blank_precedence
+  pair = get_or pairs i blank_precedence
 
   abbrev passed : ℕ → Bool
-  passed a = any_of (blocks w a) (take i (precedences_of pairs))
+  passed a = any_of (blocks w a) (take i pairs)
 
-  one_more : (a : ℕ) → any_of (blocks w a) (take (i + 1) (precedences_of pairs)) ≡ passed a || blocks w a pair
-  one_more a = rw (add-one, take-pairs pairs i low) (any_more (blocks w a) (take i (precedences_of pairs)) pair)
+  one_more : (a : ℕ) → any_of (blocks w a) (take (i + 1) pairs) ≡ passed a || blocks w a pair
+  one_more a = rw (add-one, take-suc pairs i blank_precedence low) (any_more (blocks w a) (take i pairs) pair)
 
   or-last : (s t : Bool) → s || t ≡ s || (t || false)
   or-last s t = rw (or_false t)
@@ -66,7 +67,7 @@ module _ {w : Waiting} {placed marks : List Bool} {pairs : Precedences} {i : ℕ
   marked-set e room = record { is = λ a. go a (eqb pair.second a) refl }
     where
       go : (a : ℕ) (t : Bool) → eqb pair.second a ≡ t
-          → get_or (set marks pair.second true) a false ≡ get_or placed a false || any_of (blocks w a) (take (i + 1) (precedences_of pairs))
+          → get_or (set marks pair.second true) a false ≡ get_or placed a false || any_of (blocks w a) (take (i + 1) pairs)
       go a true d =
           let is : get_or (set marks pair.second true) a false ≡ true =
           rw (← eqb-true pair.second a d) (get_or-set_same marks pair.second true false room) in
@@ -76,13 +77,10 @@ module _ {w : Waiting} {placed marks : List Bool} {pairs : Precedences} {i : ℕ
           ∙ so.is a ∙ rw (one_more a, e, d) (or-last (get_or placed a false) (passed a))
 
 -- all pairs were looked at: the marks are those of the accesses that are not ready
-pub marked-unready : {n : ℕ} {placed marks : List Bool} {pairs : Precedences} {i : ℕ} → Marked (waits n placed) placed marks pairs i → pairs.count ≤ i
-    → Unready n (precedences_of pairs) placed marks
-marked-unready {n} {placed} {marks} {pairs} {i} so high = record { is = λ a low. rw (so.is a, all-pairs, lt-ltb a n low) (go (get_or placed a false) _) }
+pub marked-unready : {n : ℕ} {placed marks : List Bool} {pairs : List Precedence} {i : ℕ} → Marked (waits n placed) placed marks pairs i → length pairs ≤ i
+    → Unready n pairs placed marks
+marked-unready {n} {placed} {marks} {pairs} {i} so high = record { is = λ a low. rw (so.is a, take_all i pairs high, lt-ltb a n low) (go (get_or placed a false) _) }
   where
-    all-pairs : take i (precedences_of pairs) ≡ precedences_of pairs
-    all-pairs = take_all i (precedences_of pairs) (rw (pairs-length pairs) high)
-
     go : (s t : Bool) → not (s || t) ≡ not s && not t
     go true t = refl
     go false t = refl
@@ -93,24 +91,50 @@ pub seek_same : (p q : ℕ → Bool) (k i : ℕ) → ((a : ℕ) → a < i + k �
 seek_same p q zero i h = refl
 seek_same p q (suc k) i h = rw (h i (omega arith), seek_same p q k (suc i) (λ a l. h a (omega arith)))
 
-pub record Sought (p : ℕ → Bool) (n i : ℕ) : Type 0 where
-  pub is : seek p n 0 ≡ seek p (n - i) i
+-- the first that passes, and none
+pub seek-is : (p : ℕ → Bool) (k i a : ℕ) → i ≤ a → a < i + k → p a ≡ true → ((b : ℕ) → b < a → p b ≡ false) → seek p k i ≡ a
+seek-is p zero i a low high t before = absurd (omega arith)
+seek-is p (suc k) i a low high t before = go (eqb i a) refl (λ l. seek-is p k (suc i) a l (omega arith) t before)
+  where
+    go : (s : Bool) → eqb i a ≡ s → (suc i ≤ a → seek p k (suc i) ≡ a) → seek p (suc k) i ≡ a
+    go true e rest = let is = eqb-true i a e in rw (is, t)
+    go false e rest = let other = eqb-false i a e in rw (before i (omega arith)) (rest (omega arith))
 
-pub sought_none : {p : ℕ → Bool} {n : ℕ} → Sought p n 0
-sought_none {p} {n} = record { is = let whole : n - 0 ≡ n = omega arith in rw whole }
+pub seek_end : (p : ℕ → Bool) (k i : ℕ) → ((b : ℕ) → b < i + k → p b ≡ false) → seek p k i ≡ i + k
+seek_end p zero i fails = omega arith
+seek_end p (suc k) i fails = rw (fails i (omega arith), seek_end p k (suc i) (λ b l. fails b (omega arith))) (omega arith)
 
-module _ {p : ℕ → Bool} {n i : ℕ} (so : Sought p n i) where
-  step : i < n → n - i ≡ suc (n - (i + 1))
-  step low = omega arith
+-- the first access whose mark is not set, where those are the accesses that pass
+module _ (q : ℕ → Bool) (marks : List Bool) (n : ℕ) (same : (a : ℕ) → a < n → unmarked marks a ≡ q a) (room : n ≤ length marks) where
+  abbrev searched : List Bool
+  searched = take n marks
 
-  pub sought-on : i < n → p i ≡ false → Sought p n (i + 1)
-  sought-on low e = record { is = so.is ∙ rw (step low, e, add-one) }
+  abbrev first : ℕ
+  first = position_or_len not searched
 
-  pub sought-stop : i < n → p i ≡ true → seek p n 0 ≡ i
-  sought-stop low e = so.is ∙ rw (step low, e)
+  size : length searched ≡ n
+  size = length-take-le n marks room
 
-  pub sought-end : i ≤ n → n ≤ i → seek p n 0 ≡ n
-  sought-end low high = so.is ∙ let none_left : n - i ≡ 0 = omega arith in rw none_left (omega arith)
+  here : (a : ℕ) → a < n → not (get_or searched a false) ≡ q a
+  here a low = rw (get_or-take n marks a false low) (same a low)
+
+  fails : (b : ℕ) → b < first → b < n → q b ≡ false
+  fails b early low = sym (here b low) ∙ fails_before_first not searched b false early
+
+  pub next-found : NextIs n (seek q n 0) (position not searched)
+  next-found = go (ltb first (length searched)) refl
+    where
+      go : (t : Bool) → ltb first (length searched) ≡ t → NextIs n (seek q n 0) (cond t (Some first) None)
+      go true e =
+          let low = ltb-true first (length searched) e in
+          let below : first < n = omega (arith, size) in
+          let passes = sym (here first below) ∙ passes_at_first not searched false low in
+          (below, sym (seek-is q n 0 first (omega arith) (omega arith) passes λ b l. fails b l (omega arith)))
+      go false e =
+          let high = ltb-false first (length searched) e in
+          let beyond : n ≤ first = omega (arith, size) in
+          let is = seek_end q n 0 λ b l. fails b (omega arith) (omega arith) in
+          omega arith
 
 -- ---- the order, place by place
 
@@ -158,10 +182,9 @@ behind_more : (xs : List ℕ) (x : ℕ) (o : Option (List ℕ)) → behind xs (f
 behind_more xs x none = refl
 behind_more xs x (some ys) = rw append_assoc
 
--- the places behind those that are set are 0
+-- i accesses are placed
 pub record Placing (n : ℕ) (pairs : List Precedence) (placed : List Bool) (order : List ℕ) (i : ℕ) : Type 0 where
   pub is : arrange n pairs n (λ a. ltb a n) ≡ behind (take i order) (arrange n pairs (n - i) (waits n placed))
-  pub rest : drop i order ≡ replicate (32 - i) 0
 
 module _ (n : ℕ) (pairs : List Precedence) (k : ℕ) (w : Waiting) (a : ℕ) (is : a ≡ next n pairs w) where
   arrange-on : a < n → arrange n pairs (suc k) w ≡ followed a (arrange n pairs k (without a w))
@@ -170,10 +193,9 @@ module _ (n : ℕ) (pairs : List Precedence) (k : ℕ) (w : Waiting) (a : ℕ) (
   arrange-stop : n ≤ a → arrange n pairs (suc k) w ≡ none
   arrange-stop high = rw (le-ltb (next n pairs w) n (rw is at high))
 
-pub placing_none : {n : ℕ} {pairs : List Precedence} → Placing n pairs (replicate 32 false) (replicate 32 0) 0
+pub placing_none : {n : ℕ} {pairs : List Precedence} {order : List ℕ} → Placing n pairs (replicate 32 false) order 0
 placing_none {n} {pairs} = record {
   is = let whole : n - 0 ≡ n = omega arith in rw (whole, waits_none n) (behind_none (arrange n pairs n (λ a. ltb a n)));
-  rest = refl;
 }
 
 module _ {n : ℕ} {pairs : List Precedence} {placed : List Bool} {order : List ℕ} {i : ℕ} (so : Placing n pairs placed order i) where
@@ -185,29 +207,21 @@ module _ {n : ℕ} {pairs : List Precedence} {placed : List Bool} {order : List 
   placing-on a is low more room mark =
       let front : take (i + 1) (set order i a) ≡ take i order ++ a ∷ [] = rw (add-one, take-suc-set order i a room) in
       let on = arrange-on n pairs (n - (i + 1)) (waits n placed) a is low in
-      let fewer : 32 - i - 1 ≡ 32 - (i + 1) = omega arith in
       record {
         is = so.is ∙ rw (left more, on, front, waits-set n a placed mark)
             (behind_more (take i order) a (arrange n pairs (n - (i + 1)) (without a (waits n placed))));
-        rest = drop-set-lt (i + 1) order i a (omega arith) ∙ sym (drop-drop 1 i order) ∙ rw (so.rest, drop-replicate {A = ℕ} 1 (32 - i) 0, fewer);
       }
 
-  pub placing-stop : (a : ℕ) → a ≡ next n pairs (waits n placed) → n ≤ a → i < n → arranged n pairs ≡ refuse circle
-  placing-stop a is high more = rw (so.is, left more, arrange-stop n pairs (n - (i + 1)) (waits n placed) a is high)
+  pub placing-stop : next n pairs (waits n placed) ≡ n → i < n → arranged n pairs ≡ refuse circle
+  placing-stop is more = rw (so.is, left more, arrange-stop n pairs (n - (i + 1)) (waits n placed) n (sym is) (omega arith))
 
-  module _ (low : i ≤ n) (high : n ≤ i) where
-    all_set : i ≡ n
-    all_set = omega arith
-
-    pub placing-end : arranged n pairs ≡ accept (take n order)
+  -- all are placed, in an array whose other places are 0
+  module _ (all_set : i ≡ n) (size : length order ≡ n) where
+    pub placing-end : arranged n pairs ≡ accept order
     placing-end =
         let none_left : n - i ≡ 0 = omega arith in
-        rw (so.is, none_left, append-nil, all_set)
+        let whole : take i order ≡ order = take_all i order (omega arith) in
+        rw (so.is, none_left, whole, append-nil)
 
-    -- the array is the order, and 0 in its other places
-    pub placing-record : n ≤ 32 → length order ≡ 32 → record { answer = 0; count = n; accesses = order } ≡ ordered (arranged n pairs)
-    placing-record few full =
-        let size : length (take n order) ≡ n = length-take-le n order (omega arith) in
-        let rest : drop n order ≡ replicate (32 - n) 0 = (rw all_set at so).rest in
-        let array : order ≡ take n order ++ replicate (32 - length (take n order)) 0 = sym (take-append-drop n order) ∙ rw (size, rest) in
-        ap (λ (a : List ℕ). record { answer = 0; count = n; accesses = a }) array ∙ rw (placing-end, size)
+    pub placing-record : record { answer = 0; count = n; accesses = order ++ drop n (replicate 32 0) } ≡ ordered (arranged n pairs)
+    placing-record = rw (placing-end, size, drop-replicate {A = ℕ} n 32 0)

@@ -1,20 +1,20 @@
 -- Laws of the records: the pairs handed in, by their places, and the answer read back.
-use Prim.Native.Nat.{ℕ, suc, ◌≤◌, ◌<◌}
-use mathlib.Core.Path.{◌≡◌, ◌∙◌}
-use mathlib.Core.Bool.{true, false, ◌&&◌}
-use mathlib.Core.List.{List, [], ◌∷◌, ◌++◌}
+use Prim.Native.Nat.{ℕ, ◌<◌}
+use mathlib.Core.Path.{◌≡◌, refl}
+use mathlib.Core.Bool.{Bool, true, ◌&&◌}
+use mathlib.Core.List.{List}
 use lib.Dec.{ltb}
-use lib.ListN.{length, get_or, take}
-use lib.Seq.{take-suc}
-use borrow.Author.Tests.{ltb-true, le-leb, lt-leb}
-use Rattle.number.specs.Reply.{refuse}
-use Rattle.number.specs.Refusal.{unlisted}
+use lib.ListN.{length, get_or}
+use borrow.Author.Tests.{ltb-true}
+use Rattle.std.specs.List.{list_all}
+use Rattle.std.proofs.lemmas.List.Recursion.{same_from_clauses}
+use Rattle.number.specs.Basics.{all_of}
 use Rattle.number.proofs.AllLaws.{all_at}
 use Rattle.number.proofs.Both.{and_left, and_right}
 use Rattle.number.proofs.HeldLaws.{held-here, held-length}
 use Rattle.ordering.specs.declared.Precedence.{Precedence}
 use Rattle.ordering.specs.declared.Precedences.{Precedences}
-use Rattle.ordering.specs.Answer.{all_listed, arranged, answer}
+use Rattle.ordering.specs.Answer.{all_listed}
 use Rattle.ordering.specs.Records.{blank_precedence, precedences_of}
 
 module _ (pairs : Precedences) where
@@ -24,30 +24,14 @@ module _ (pairs : Precedences) where
   pub pair-here : (i : ℕ) → i < pairs.count → get_or (precedences_of pairs) i blank_precedence ≡ get_or pairs.pairs i blank_precedence
   pair-here i low = held-here blank_precedence pairs.count pairs.pairs i low
 
-  pub take-pairs : (i : ℕ) → i < pairs.count → take (suc i) (precedences_of pairs) ≡ take i (precedences_of pairs) ++ get_or pairs.pairs i blank_precedence ∷ []
-  take-pairs i low = take-suc (precedences_of pairs) i blank_precedence (rw pairs-length low) ∙ rw (pair-here i low)
+-- std's word for `all_of`
+pub list_all-is : {A : Type 0} (test : A → Bool) (xs : List A) → list_all test xs ≡ all_of test xs
+list_all-is test = same_from_clauses (list_all test) (all_of test) (λ x rest. test x && rest) refl (λ _ _. refl) (λ _ _. refl)
 
-  -- what 43 has ruled out, of one pair
-  pub listed_here : (n i : ℕ) → all_listed n (precedences_of pairs) ≡ true → i < pairs.count
-      → ((get_or pairs.pairs i blank_precedence).first < n) × ((get_or pairs.pairs i blank_precedence).second < n)
-  listed_here n i h low =
-      let p = get_or pairs.pairs i blank_precedence in
-      let e : ltb p.first n && ltb p.second n ≡ true = rw (pair-here i low) at (all_at _ (precedences_of pairs) i blank_precedence h (rw pairs-length low)) in
-      (ltb-true p.first n (and_left (ltb p.first n) _ e), ltb-true p.second n (and_right (ltb p.first n) _ e))
-
--- ---- the answer, by the checks that were passed, in their order
-
-module _ (n : ℕ) (pairs : List Precedence) where
-  pub answer-wide : 32 < n → answer n pairs ≡ refuse unlisted
-  answer-wide wide = rw (lt-leb n 32 wide)
-
-  module _ (few : n ≤ 32) where
-    pub answer-long : 64 < length pairs → answer n pairs ≡ refuse unlisted
-    answer-long long = rw (le-leb n 32 few, lt-leb (length pairs) 64 long)
-
-    module _ (short : length pairs ≤ 64) where
-      pub answer-outside : all_listed n pairs ≡ false → answer n pairs ≡ refuse unlisted
-      answer-outside e = rw (le-leb n 32 few, le-leb (length pairs) 64 short, e)
-
-      pub answer-listed : all_listed n pairs ≡ true → answer n pairs ≡ arranged n pairs
-      answer-listed e = rw (le-leb n 32 few, le-leb (length pairs) 64 short, e)
+-- what 43 has ruled out, of one pair
+pub listed_here : (n : ℕ) (pairs : List Precedence) (i : ℕ) → all_listed n pairs ≡ true → i < length pairs
+    → ((get_or pairs i blank_precedence).first < n) × ((get_or pairs i blank_precedence).second < n)
+listed_here n pairs i h low =
+    let p = get_or pairs i blank_precedence in
+    let e : ltb p.first n && ltb p.second n ≡ true = all_at _ pairs i blank_precedence h low in
+    (ltb-true p.first n (and_left (ltb p.first n) _ e), ltb-true p.second n (and_right (ltb p.first n) _ e))

@@ -8,8 +8,8 @@ use Rattle.table.specs.Group.{GroupPairs}
 use Rattle.table.specs.Table.{groups_of}
 use Rattle.counts.specs.declared.Counts.{Counts}
 use Rattle.queue.specs.declared.Queue.{Queue}
-use Rattle.queue.specs.declared.Opened.{Opened}
-use Rattle.queue.specs.declared.opening.OpenedFrame.{OpenedFrame}
+use Rattle.queue.specs.Outcome.{Opened}
+use Rattle.queue.specs.Parts.{OpenedFrame}
 use Rattle.queue.specs.Contents.{after}
 use Rattle.queue.specs.Open.{open_queue, fresh_frame}
 use Rattle.queue.specs.Parts.{queue_of, OpensFrame}

@@ -1,8 +1,9 @@
 -- "The ready calls put the serials that serve (or write) would now accept with memory of the right length, oldest first, at
 -- the front of a lent run of numbers and give back that front part; the rest keeps its contents." "Ready: 10."
-use Rattle.std.specs.Prelude.{◌≡◌, ℕ, zero, suc, ◌^◌, ◌<◌, Bool, Result, List, [], ◌∷◌, ◌++◌, length, drop, replicate, ◌==◌, nat_eq, nat_le}
+use Rattle.std.specs.Prelude.{◌≡◌, ℕ, zero, suc, ◌^◌, ◌<◌, Bool, Result, Ok, Err, List, [], ◌∷◌, ◌++◌, length, drop, replicate, ◌==◌, nat_eq, nat_le}
+use Rattle.std.specs.Borrow.{MutBor}
 use Rattle.number.specs.Basics.{any_of, keep_where}
-use Rattle.number.specs.Refusal.{too_short, unsound}
+use Rattle.number.specs.Refusal.{too_short, unsound, refusal_number}
 use Rattle.queue.specs.declared.Kind.{Kind}
 use Rattle.queue.specs.declared.Queue.{Queue}
 use Rattle.number.specs.declared.refusal.Refusal.{Refusal}
@@ -79,3 +80,18 @@ pub record ReadyWell (q : Queue) (found lent : List ℕ) (r : Readied) (run : Li
 abbrev pub Readies : Queue → List ℕ → Reply (List ℕ) → Readied → List ℕ → Type 0
 Readies q lent (refuse n) r run = Unready q n lent r run
 Readies q lent (accept found) r run = ReadyWell q found lent r run
+
+-- Where the front part is handed back: the answer's number, the serials, or none where it is refused, and the very queue.
+abbrev pub front_of : Reply (List ℕ) → List ℕ
+front_of (refuse n) = []
+front_of (accept found) = found
+
+pub record Fronts (q : Queue) (rule : Reply (List ℕ)) (answer : ℕ) (serials : List ℕ) (queue : Queue) : Type 0 where
+  pub answer_is : answer ≡ number rule
+  pub serials_are : serials ≡ front_of rule
+  pub queue_is : queue ≡ q
+
+-- what such a call replies: the front part of the lent run as it stands
+abbrev pub front_reply : Result (MutBor (List ℕ)) Refusal → Reply (List ℕ)
+front_reply (Ok front) = accept front.now
+front_reply (Err e) = refuse (refusal_number e)

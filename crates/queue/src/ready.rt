@@ -1,10 +1,8 @@
 // The ready calls: "the serials that serve (or write) would now accept with memory of the right length, oldest first".
-ghost use Rattle.std.specs.Prelude.{◌≡◌, ◌<◌, ◌≤◌, length, IfOk, IfErr};
-ghost use Rattle.number.specs.Reply.{accept, refuse};
-ghost use Rattle.number.specs.Refusal.{refusal_number};
+ghost use Rattle.std.specs.Prelude.{◌≡◌, ◌<◌, ◌≤◌, length, IfOk};
 ghost use Rattle.queue.specs.Entry.{entry_of};
 ghost use Rattle.queue.specs.Contents.{entries_held, contents_of};
-ghost use Rattle.queue.specs.Ready.{ready_serials, ready, Readies, readied};
+ghost use Rattle.queue.specs.Ready.{ready_serials, ready, Readies, readied, front_reply};
 ghost use Rattle.queue.specs.Parts.{queue_of, on_parts};
 ghost use Rattle.queue.specs.Internal.{Checked, load_ready, InReach, ready_at, Noted, Lists, HandedOut};
 
@@ -130,9 +128,8 @@ impl Queue {
     // The same, and the front part is handed back. No contract can speak of the rest of the run once a part is handed out;
     // `ready_into` says that it keeps its contents.
     pub fn ready<'a>(&self, kind: Kind, out: &'a mut [u32]) -> Result<&'a mut [u32], Refusal>
-        ensures fronts { IfOk result (λ serials. ready kind (contents_of self.now) out.old ≡ accept serials.now) }
-        ensures begins { IfOk result (λ serials. serials.ref_ptr ≡ out.entry.ref_ptr) }
-        ensures refused { IfErr result (λ e. ready kind (contents_of self.now) out.old ≡ refuse (refusal_number e)) }
+        ensures fronts { front_reply result ≡ ready kind (contents_of self.now) out.old }
+        ensures begins { IfOk result (λ front. front.ref_ptr ≡ out.entry.ref_ptr) }
     {
         let count = self.ready_into(kind, &mut *out)?;
         Ok(&mut out[..count])

@@ -13,7 +13,7 @@ use crate::entries::{pack, unpack};
 use crate::serial::place_of;
 use crate::sound::sound_in;
 use crate::{Entry, Frame, Queue};
-use counts::{Counts, counted};
+use counts::Counts;
 use number::refusal::Refusal;
 
 // Where a load's word comes from.
@@ -79,7 +79,7 @@ fn served(
     let mut load = unpack(load_entries[at]);
     load.set_word(word);
     load_entries[at] = pack(load);
-    *counts = counted(*counts, forwarded);
+    *counts = counts.counted(forwarded);
     word
 }
 

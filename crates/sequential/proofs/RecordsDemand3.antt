@@ -13,11 +13,11 @@ use Rattle.table.specs.Group.{GroupPairs}
 use Rattle.table.specs.Table.{groups_of, check_table}
 use Rattle.counts.specs.declared.Counts.{Counts}
 use Rattle.queue.specs.declared.Queue.{Queue}
-use Rattle.queue.specs.declared.Outcome.{Outcome}
-use Rattle.queue.specs.declared.Opened.{Opened}
-use Rattle.queue.specs.declared.Readied.{Readied}
+use Rattle.queue.specs.Outcome.{Outcome}
+use Rattle.queue.specs.Outcome.{Opened}
+use Rattle.queue.specs.Ready.{Readied}
 use Rattle.queue.specs.declared.Frame.{Frame}
-use Rattle.queue.specs.declared.opening.OpenedFrame.{OpenedFrame}
+use Rattle.queue.specs.Parts.{OpenedFrame}
 use Rattle.number.specs.Reply.{Reply, refuse, accept, number}
 use Rattle.queue.specs.Contents.{Contents, contents_of}
 use Rattle.queue.specs.Sound.{depth_right, memory_right}
@@ -28,7 +28,7 @@ use Rattle.queue.specs.Serve.{Served, serve}
 use Rattle.queue.specs.Write.{Written, write}
 use Rattle.queue.specs.Take.{Taken, take_rule}
 use Rattle.queue.specs.Ready.{ready, Readies}
-use Rattle.queue.specs.Outcome.{value_in, Handed, handed, no_value, Accepted, HandedCounts, Moves, Takes, Serves, Writes, Opens, with_counts}
+use Rattle.queue.specs.Outcome.{no_value, Accepted, HandedCounts, Moves, Takes, Serves, Writes, Opens, with_counts}
 use Rattle.queue.specs.Parts.{queue_of, OpensFrame}
 use Rattle.number.proofs.ReplyLaws.{need-among, and_then_among, not_zero}
 use Rattle.queue.proofs.Refusals.{proper}
@@ -45,7 +45,7 @@ use Rattle.table.proofs.Among.{check_table_among}
 -- ---- one call: what it hands over is what the definitions' step gives
 pub record Same (s : Response) (r : Outcome) (left : List ℕ) : Type 0 where
   pub number : s.number ≡ r.answer
-  pub value : s.value ≡ value_in r.value
+  pub value : s.value ≡ r.value
   pub queue : s.machine.queue ≡ contents_of r.queue
   pub memory : s.machine.memory ≡ left
 
@@ -54,11 +54,11 @@ accepted_same : {v : Option ℕ} {c : Contents} {r : Outcome} (left : List ℕ) 
 accepted_same left w = record { number = sym w.answer; value = sym w.gives; queue = sym w.holds; memory = refl }
 
 module _ (q : Queue) (m : List ℕ) where
-  refused-same : {n : ℕ} {r : Outcome} → handed r ≡ no_value n q → Same (record { number = n; value = none; machine = machine_of q m }) r m
+  refused-same : {n : ℕ} {r : Outcome} → r ≡ no_value n q → Same (record { number = n; value = none; machine = machine_of q m }) r m
   refused-same e = record {
-    number = sym (ap (λ (x : Handed). x.answer) e);
-    value = sym (ap (λ (x : Handed). x.value) e);
-    queue = sym (ap (λ (x : Handed). contents_of x.queue) e);
+    number = sym (ap (λ (x : Outcome). x.answer) e);
+    value = sym (ap (λ (x : Outcome). x.value) e);
+    queue = sym (ap (λ (x : Outcome). contents_of x.queue) e);
     memory = refl;
   }
 

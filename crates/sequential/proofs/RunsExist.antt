@@ -13,10 +13,10 @@ use Rattle.table.specs.Table.{groups_of, check_table}
 use Rattle.counts.specs.declared.Counts.{Counts}
 use Rattle.counts.specs.Counts.{counted}
 use Rattle.queue.specs.declared.Kind.TheVariants.{Load, Store}
-use Rattle.queue.specs.declared.Value.TheVariants.{Word, Nothing}
 use Rattle.queue.specs.declared.Queue.{Queue}
-use Rattle.queue.specs.declared.Outcome.{Outcome}
-use Rattle.queue.specs.declared.Opened.{Opened}
+use mathlib.Core.Option.{none, some}
+use Rattle.queue.specs.Outcome.{Outcome}
+use Rattle.queue.specs.Outcome.{Opened}
 use Rattle.number.specs.Reply.{Reply, refuse, accept, number}
 use Rattle.queue.specs.Contents.{Contents, contents_of}
 use Rattle.queue.specs.Sound.{sound}
@@ -62,7 +62,7 @@ module _ (q : Queue) (m : List ℕ) where
       → Next q (move_response (machine_of q m) rule) (λ r left. Moves q rule r × (left ≡ m))
   moves_next (refuse n) p = record { outcome = answered n q; left = m; given = (refl, refl); kept = inl refl }
   moves_next (accept c) p = record {
-    outcome = record { answer = 0; value = Nothing; queue = record_of q.frame.table c };
+    outcome = record { answer = 0; value = none; queue = record_of q.frame.table c };
     left = m;
     given = (record { answer = refl; gives = refl; holds = p }, refl);
     kept = inr refl;
@@ -72,7 +72,7 @@ module _ (q : Queue) (m : List ℕ) where
       → Next q (take_response (machine_of q m) rule) (λ r left. Takes q rule r × (left ≡ m))
   takes-next (refuse n) p = record { outcome = answered n q; left = m; given = (refl, refl); kept = inl refl }
   takes-next (accept t) p = record {
-    outcome = record { answer = 0; value = Word t.value; queue = record_of q.frame.table t.queue };
+    outcome = record { answer = 0; value = some t.value; queue = record_of q.frame.table t.queue };
     left = m;
     given = (record { answer = refl; gives = refl; holds = p }, refl);
     kept = inr refl;
@@ -82,7 +82,7 @@ module _ (q : Queue) (m : List ℕ) where
       → Next q (serve_response (machine_of q m) rule) (λ r left. ((counts : Counts) × Serves q lent rule (with_counts r counts)) × (left ≡ m))
   serves-next lent (refuse n) p = record { outcome = answered n q; left = m; given = ((lent, refl), refl); kept = inl refl }
   serves-next lent (accept s) p = record {
-    outcome = record { answer = 0; value = Word s.value; queue = record_of q.frame.table s.queue };
+    outcome = record { answer = 0; value = some s.value; queue = record_of q.frame.table s.queue };
     left = m;
     given = ((counted s.forwarded lent, record { answer = refl; gives = refl; holds = p; counts = refl }), refl);
     kept = inr refl;
@@ -91,7 +91,7 @@ module _ (q : Queue) (m : List ℕ) where
   writes-next : (rule : Reply Written) → Packed (write_response (machine_of q m) rule) → Next q (write_response (machine_of q m) rule) (Writes q m rule)
   writes-next (refuse n) p = record { outcome = answered n q; left = m; given = record { outcome = refl; memory_is = refl }; kept = inl refl }
   writes-next (accept w) p = record {
-    outcome = record { answer = 0; value = Nothing; queue = record_of q.frame.table w.queue };
+    outcome = record { answer = 0; value = none; queue = record_of q.frame.table w.queue };
     left = w.memory;
     given = record { outcome = record { answer = refl; gives = refl; holds = p }; memory_is = refl };
     kept = inr refl;

@@ -7,15 +7,15 @@ use lib.ListN.{length}
 use Rattle.table.specs.declared.Table.{Table}
 use Rattle.table.specs.Table.{groups_of}
 use Rattle.queue.specs.declared.Queue.{Queue}
-use Rattle.queue.specs.declared.Outcome.{Outcome}
-use Rattle.queue.specs.declared.Readied.{Readied}
-use Rattle.queue.specs.declared.opening.OpenedFrame.{OpenedFrame}
+use Rattle.queue.specs.Outcome.{Outcome}
+use Rattle.queue.specs.Ready.{Readied}
+use Rattle.queue.specs.Parts.{OpenedFrame}
 use Rattle.number.specs.Reply.{Reply, refuse, accept, number}
 use Rattle.queue.specs.Contents.{Contents, contents_of}
 use Rattle.queue.specs.Open.{open_queue, fresh_frame}
 use Rattle.queue.specs.Ready.{ready, Readies}
 use Rattle.queue.specs.Outcome.{no_value}
-use Rattle.queue.specs.Parts.{queue_of, whole, readied_of, OpensFrame}
+use Rattle.queue.specs.Parts.{queue_of, whole, OpensFrame}
 use Rattle.queue.proofs.PartsLaws.{both-whole}
 use Rattle.sequential.specs.Calls.{Call, Activate, Give, Serve, Write, Take, Ready}
 use Rattle.sequential.specs.Answers.{Answered}
@@ -30,12 +30,12 @@ use Rattle.number.proofs.ReplyLaws.{refused_some}
 
 -- ---- the contracts
 pub serve_in_hands : ServeInHands
-serve_in_hands q after m lent serial s w = ((s.counts, w), refl)
+serve_in_hands q m lent left serial r w = ((left, w), refl)
 
 pub ready_in_hands : ReadyInHands
 ready_in_hands q m run left kind r w = (go (on_entries q (ready kind (contents_of q) run)) w, refl)
   where
-    go : (rule : Reply (List ℕ)) → Readies q run rule (readied_of r q) left → no_value r.answer q ≡ no_value (number rule) q
+    go : (rule : Reply (List ℕ)) → Readies q run rule r left → no_value r.answer q ≡ no_value (number rule) q
     go (refuse n) w = ap (λ (x : Readied). no_value x.answer q) w.outcome
     go (accept found) w = ap (λ (x : Readied). no_value x.answer q) w.outcome
 

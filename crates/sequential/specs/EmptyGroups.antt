@@ -9,8 +9,8 @@ use Rattle.table.specs.Group.{GroupPairs, empty_group}
 use Rattle.table.specs.Table.{groups_of}
 use Rattle.table.specs.RightTables.{Each}
 use Rattle.queue.specs.declared.Queue.{Queue}
-use Rattle.queue.specs.declared.Opened.{Opened}
-use Rattle.queue.specs.declared.opening.OpenedFrame.{OpenedFrame}
+use Rattle.queue.specs.Outcome.{Opened}
+use Rattle.queue.specs.Parts.{OpenedFrame}
 use Rattle.queue.specs.declared.arguments.Argument.{Argument}
 use Rattle.queue.specs.Contents.{Contents, contents_of}
 use Rattle.queue.specs.Open.{open_queue, fresh_frame}

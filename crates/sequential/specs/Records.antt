@@ -9,11 +9,11 @@ use Rattle.table.specs.Table.{groups_of}
 use Rattle.counts.specs.declared.Counts.{Counts}
 use Rattle.queue.specs.declared.Queue.{Queue}
 use Rattle.queue.specs.declared.Kind.{Kind}
-use Rattle.queue.specs.declared.Outcome.{Outcome}
-use Rattle.queue.specs.declared.Opened.{Opened}
-use Rattle.queue.specs.declared.Counted.{Counted}
-use Rattle.queue.specs.declared.Readied.{Readied}
-use Rattle.queue.specs.declared.opening.OpenedFrame.{OpenedFrame}
+use Rattle.queue.specs.Outcome.{Outcome}
+use Rattle.queue.specs.Outcome.{Opened}
+use Rattle.queue.specs.Outcome.{Counted}
+use Rattle.queue.specs.Ready.{Readied}
+use Rattle.queue.specs.Parts.{OpenedFrame}
 use Rattle.number.specs.Reply.{number}
 use Rattle.queue.specs.Contents.{contents_of}
 use Rattle.queue.specs.Sound.{sound}
@@ -24,7 +24,7 @@ use Rattle.queue.specs.Serve.{serve}
 use Rattle.queue.specs.Write.{write}
 use Rattle.queue.specs.Take.{take_rule}
 use Rattle.queue.specs.Ready.{ready, Readies, Fronts}
-use Rattle.queue.specs.Outcome.{value_in, handed, no_value, Moves, Takes, Serves, Writes, Opens, with_counts, without_counts}
+use Rattle.queue.specs.Outcome.{no_value, Moves, Takes, Serves, Writes, Opens, with_counts, without_counts}
 use Rattle.queue.specs.Parts.{queue_of, answered, OpensFrame}
 use Rattle.sequential.specs.Calls.{Call, Activate, Give, Serve, Write, Take, Ready}
 use Rattle.sequential.specs.Answers.{Machine, Answered}
@@ -33,7 +33,7 @@ use Rattle.sequential.specs.Demand3.{told, taken_at, Sequential, Alike}
 
 -- a call with the answer and the value that it handed back
 abbrev pub answered_with : Call → Outcome → Answered
-answered_with c r = record { call = c; number = r.answer; value = value_in r.value }
+answered_with c r = record { call = c; number = r.answer; value = r.value }
 
 -- What each call hands over, as its contract says: its answer, its value and the queue that follows, and beside them the memory
 -- that it leaves. "A call that isn't lent the memory leaves it as it was." Of the counts that a serve leaves, and of the run of
@@ -44,7 +44,7 @@ Hands q m (Give kind port x) r left = Moves q (give kind (contents_of q) port x)
 Hands q m (Serve lent s) r left = ((counts : Counts) × Serves q lent (serve (contents_of q) m s) (with_counts r counts)) × (left ≡ m)
 Hands q m (Write s) r left = Writes q m (write (contents_of q) m s) r left
 Hands q m (Take p) r left = Takes q (take_rule (contents_of q) p) r × (left ≡ m)
-Hands q m (Ready kind run) r left = (handed r ≡ no_value (number (ready kind (contents_of q) run)) q) × (left ≡ m)
+Hands q m (Ready kind run) r left = (r ≡ no_value (number (ready kind (contents_of q) run)) q) × (left ≡ m)
 
 -- Calls on a queue and a memory, with their answers, up to the queue and the memory that they leave.
 pub data Runs : Queue → List ℕ → List Call → List Answered → Queue → List ℕ → Type 0 where

@@ -7,11 +7,11 @@ use Rattle.number.specs.Basics.{all_of}
 use Rattle.table.specs.Table.{groups_of}
 use Rattle.queue.specs.declared.Side.{Side}
 use Rattle.queue.specs.declared.Queue.{Queue}
-use Rattle.queue.specs.declared.Outcome.{Outcome}
-use Rattle.queue.specs.declared.Opened.{Opened}
+use Rattle.queue.specs.Outcome.{Outcome}
+use Rattle.queue.specs.Outcome.{Opened}
 use Rattle.number.specs.Reply.{number}
 use Rattle.queue.specs.Open.{open_queue, no_queue}
-use Rattle.queue.specs.Outcome.{value_in, Opens}
+use Rattle.queue.specs.Outcome.{Opens}
 use Rattle.sequential.specs.Calls.{Call, Activate, Give, Serve, Write, Take, Ready}
 use Rattle.sequential.specs.Answers.{Answered}
 use Rattle.sequential.specs.Records.{Runs, run_none, run_one, OpenedRecord}
@@ -53,7 +53,7 @@ pub record Stored (q : Queue) : Type 0 where
 -- What a call hands over, as a program holds it. The table is the very record that the queue was opened with.
 pub record StoredOutcome (table : Table) (r : Outcome) (memory : List ℕ) : Type 0 where
   pub answer : r.answer < 2 ^ 8
-  pub value : word_fits (value_in r.value) ≡ true
+  pub value : word_fits (r.value) ≡ true
   pub queue : Stored r.queue
   pub table_is : r.queue.frame.table ≡ table
   pub words : all_of (bits_fit 32) memory ≡ true

@@ -8,10 +8,8 @@ use Rattle.table.specs.Table.{groups_of}
 use Rattle.counts.specs.declared.Counts.{Counts}
 use Rattle.queue.specs.declared.Queue.{Queue}
 use Rattle.queue.specs.declared.Kind.{Kind}
-use Rattle.queue.specs.declared.Outcome.{Outcome}
-use Rattle.queue.specs.declared.serving.Service.{Service}
-use Rattle.queue.specs.declared.ready.ReadyCount.{ReadyCount}
-use Rattle.queue.specs.declared.opening.OpenedFrame.{OpenedFrame}
+use Rattle.queue.specs.Outcome.{Outcome}
+use Rattle.queue.specs.Parts.{OpenedFrame}
 use Rattle.number.specs.Reply.{Reply, number}
 use Rattle.queue.specs.Contents.{contents_of}
 use Rattle.queue.specs.Open.{open_queue, fresh_frame}
@@ -20,9 +18,9 @@ use Rattle.queue.specs.Arguments.{give}
 use Rattle.queue.specs.Serve.{serve}
 use Rattle.queue.specs.Write.{write}
 use Rattle.queue.specs.Take.{take_rule}
-use Rattle.queue.specs.Ready.{ready, Readies}
-use Rattle.queue.specs.Outcome.{handed, no_value, Moves, Takes, Serves, Writes, with_counts, without_counts}
-use Rattle.queue.specs.Parts.{queue_of, on_parts, answered, counted_of, readied_of, OpensFrame}
+use Rattle.queue.specs.Ready.{ready, Readied, Readies}
+use Rattle.queue.specs.Outcome.{no_value, Moves, Takes, Serves, Writes, with_counts}
+use Rattle.queue.specs.Parts.{queue_of, on_parts, answered, OpensFrame}
 use Rattle.sequential.specs.Calls.{Call, Activate, Give, Serve, Write, Take, Ready}
 use Rattle.sequential.specs.Answers.{Answered}
 use Rattle.sequential.specs.Plain.{Filling}
@@ -42,7 +40,7 @@ HandsOnParts q m (Serve lent s) r left =
     ((counts : Counts) × Serves q lent (on_entries q (serve (contents_of q) m s)) (with_counts r counts)) × (left ≡ m)
 HandsOnParts q m (Write s) r left = Writes q m (on_entries q (write (contents_of q) m s)) r left
 HandsOnParts q m (Take p) r left = Takes q (on_entries q (take_rule (contents_of q) p)) r × (left ≡ m)
-HandsOnParts q m (Ready kind run) r left = (handed r ≡ no_value (number (on_entries q (ready kind (contents_of q) run))) q) × (left ≡ m)
+HandsOnParts q m (Ready kind run) r left = (r ≡ no_value (number (on_entries q (ready kind (contents_of q) run))) q) × (left ≡ m)
 
 -- A lent run keeps its length. No contract says so: it is the language's own rule of a lent slice, which the logic tells every
 -- caller of a function that one is lent to.
@@ -60,14 +58,14 @@ pub data RunsOnParts : Queue → List ℕ → List Call → List Answered → Qu
 -- The contracts of `serve_in` and of `ready_in` give what is handed over; those of the others say it as it stands.
 abbrev pub ServeInHands : Type 0
 ServeInHands =
-    (q after : Queue) (m : List ℕ) (lent : Counts) (serial : ℕ) (s : Service) →
-    Serves q lent (on_entries q (serve (contents_of q) m serial)) (counted_of s after) →
-    HandsOnParts q m (Serve lent serial) (without_counts (counted_of s after)) m
+    (q : Queue) (m : List ℕ) (lent left : Counts) (serial : ℕ) (r : Outcome) →
+    Serves q lent (on_entries q (serve (contents_of q) m serial)) (with_counts r left) →
+    HandsOnParts q m (Serve lent serial) r m
 
 abbrev pub ReadyInHands : Type 0
 ReadyInHands =
-    (q : Queue) (m run left : List ℕ) (kind : Kind) (r : ReadyCount) →
-    Readies q run (on_entries q (ready kind (contents_of q) run)) (readied_of r q) left →
+    (q : Queue) (m run left : List ℕ) (kind : Kind) (r : Readied) →
+    Readies q run (on_entries q (ready kind (contents_of q) run)) r left →
     HandsOnParts q m (Ready kind run) (answered r.answer q) m
 
 -- with two runs of 64 numbers it is a run of records

@@ -115,16 +115,6 @@ table_among p h s =
     need-among p (eqb (length s₃) 0) left_over (accept gs) (one left_over refl) refl))
 
 -- ---- so an answer of 0 is that of a check that is passed
-pub pair-zero : (right : Bool) (seen : List Bool) (n : ℕ) → number (check_pair right seen n) ≡ 0 → check_pair right seen n ≡ passed
-pair-zero right seen n = zero-passed (check_pair right seen n) (check-pair-among not_zero refl refl refl right seen n)
-
-pub pairs-zero : (rule : ℕ → ℕ → ℕ → Bool) (low i : ℕ) (seen : List Bool) (ps : List Pair)
-    → number (check_pairs rule low i seen ps) ≡ 0 → check_pairs rule low i seen ps ≡ passed
-pairs-zero rule low i seen ps = zero-passed (check_pairs rule low i seen ps) (check-pairs-among not_zero refl refl refl rule low i seen ps)
-
-pub group-zero : (seen : Seen) (g : GroupPairs) → number (check_group seen g) ≡ 0 → check_group seen g ≡ passed
-group-zero seen g = zero-passed (check_group seen g) (check-group-among not_zero refl refl refl refl seen g)
-
 pub table-zero : (gs : List GroupPairs) → number (check_table gs) ≡ 0 → check_table gs ≡ passed
 table-zero gs = zero-passed (check_table gs) (check_table_among not_zero refl gs)
 

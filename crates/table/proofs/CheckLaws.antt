@@ -1,5 +1,5 @@
 -- Laws of checking tables.
-use Prim.Native.Nat.{ℕ, zero, suc, ◌+◌, ◌-◌, ◌≤◌, ◌<◌}
+use Prim.Native.Nat.{ℕ, zero, suc, ◌+◌, ◌≤◌, ◌<◌}
 use mathlib.Core.Path.{◌≡◌, refl, sym, ap, ◌∙◌}
 use mathlib.Core.Bool.{Bool, true, false, not}
 use mathlib.Core.List.{List, [], ◌∷◌, map}
@@ -10,7 +10,7 @@ use lib.ListN.{length, get_or, take, drop, set, length-set, length-map}
 use lib.ListN.{get_or-map, drop_of_length-le}
 use lib.Seq.{get_or-take, get_or-drop, drop-cons}
 use native.Mathlib.Numerals.{add-one}
-use borrow.Author.Tests.{le-leb, lt-leb, leb-true, leb-false, lt-ltb, le-ltb, ltb-true, ltb-false, eq-eqb, ne_eqb, eqb-true, not-true}
+use borrow.Author.Tests.{le-leb, lt-leb, leb-true, leb-false, lt-ltb, le-ltb, eqb-true, not-true}
 use Rattle.std.specs.Prelude.{Result, Ok, Err}
 use Rattle.number.specs.declared.refusal.Refusal.{Refusal}
 use Rattle.table.specs.declared.Pair.{Pair}
@@ -95,20 +95,6 @@ count-above low (p ∷ ps) zero j r h k = rw (le-leb p.offset j k) (omega arith)
 count-above low (p ∷ ps) (suc o) j r h k =
     rw (le-leb p.offset j (le_trans (rising-least p.offset ps o r.1 (omega arith)) k))
     (omega (arith, count-above p.offset ps o j r.1 (omega arith) k))
-
--- a store's offset agrees where not more than it come before, and, unless it is 0, more than one less
-pub agrees_more : (o n : ℕ) → ltb o n ≡ true → false ≡ eqb o n
-agrees_more o n h = let k = ltb-true o n h in sym (ne_eqb o n (λ e. omega arith))
-
-pub agrees_none : (o n : ℕ) → ltb o n ≡ false → o ≡ 0 → true ≡ eqb o n
-agrees_none o n h e = let k = ltb-false o n h in sym (eq-eqb o n (omega arith))
-
-pub agrees_some : (o n : ℕ) → ltb o n ≡ false → (o ≡ 0 → ⊥) → ltb (o - 1) n ≡ eqb o n
-agrees_some o n h z = go (ltb (o - 1) n) refl
-  where
-    go : (t : Bool) → ltb (o - 1) n ≡ t → ltb (o - 1) n ≡ eqb o n
-    go true e = let k = ltb-false o n h in let m = ltb-true (o - 1) n e in rw (e, eq-eqb o n (omega arith))
-    go false e = let m = ltb-false (o - 1) n e in rw (e, ne_eqb o n (λ q. omega arith))
 
 -- an array of records is as long as what is known of its elements
 pub long : {A B : Type 0} (f : A → B) (l : List A) (n : ℕ) → length (map f l) ≡ n → length l ≡ n
@@ -215,9 +201,6 @@ pub record Checking (rule : ℕ → ℕ → ℕ → Bool) (seen : List Bool) (l 
   pub seen_are : seeing l seen ≡ seeing (drop i l) marks
   pub long_marks : length marks ≡ length seen
 
-pub checking_none : {rule : ℕ → ℕ → ℕ → Bool} {seen : List Bool} {l : List Pair} → Checking rule seen l 0 0 seen
-checking_none = record { is = refl; seen_are = refl; long_marks = refl }
-
 module _ {rule : ℕ → ℕ → ℕ → Bool} {seen : List Bool} {l : List Pair} {i low : ℕ} {marks : List Bool} (w : Checking rule seen l i low marks) where
   module _ (h : i < length l) {p : Pair} (is : get_or l i blank_pair ≡ p) where
     here : drop i l ≡ p ∷ drop (suc i) l
@@ -265,9 +248,6 @@ checks-last (Err n) e f h = e ∙ h
 -- ---- checking groups one by one
 pub record Passing (seen : Seen) (gs : List GroupPairs) (i : ℕ) (now : Seen) : Type 0 where
   pub is : check_groups seen gs ≡ check_groups now (drop i gs)
-
-pub passing_none : {seen : Seen} {gs : List GroupPairs} → Passing seen gs 0 seen
-passing_none = record { is = refl }
 
 module _ {seen : Seen} {gs : List GroupPairs} {i : ℕ} {now : Seen} (w : Passing seen gs i now) where
   module _ (g : GroupPairs) (d : GroupPairs) (h : i < length gs) (is : get_or gs i d ≡ g) where

@@ -11,6 +11,7 @@ use lib.ListN.{length, get_or, drop, set, replicate, length-set, length-map, len
 use lib.Seq.{take_at, drop_at, set_at, append_snoc, drop-append-add, drop-drop}
 use Rattle.table.specs.declared.Pair.{Pair}
 use Rattle.table.specs.declared.read.NewGroup.{NewGroup}
+use Rattle.table.specs.declared.read.Gathered.{Gathered}
 use Rattle.table.specs.declared.Table.{Table}
 use Rattle.number.specs.Basics.{pick, held, count_where, flat_map}
 use Rattle.number.specs.Reply.{passed}
@@ -20,7 +21,7 @@ use Rattle.table.specs.Table.{groups_of, span_meant, meant_in, load_rule, store_
 use Rattle.table.specs.Table.{Seen, none_seen, seen_after, check_group, check_groups}
 use Rattle.table.specs.TableBytes.{filled, placed, spans, loads_in, stores_in, pack}
 use Rattle.table.specs.RoundTrip.{AccessesFit, RecordsHoldGroups}
-use Rattle.table.specs.Internal.{pack_pairs, pack_group, put_in, Grown}
+use Rattle.table.specs.Internal.{pack_pairs, pack_group, put_in, grown}
 use Rattle.table.proofs.PackedLaws.{groups_read_back, AllSmall, all_read_back, map-append}
 use Rattle.number.proofs.HeldLaws.{held-few, drop-replicate}
 use Rattle.table.proofs.CheckLaws.{count_most, pairs-passed, group-passed, groups-passed, table-passed}
@@ -232,25 +233,21 @@ abbrev table_made : ℕ → List ℕ → List ℕ → List ℕ → Table
 table_made n groups loads stores = record { count = n; groups = groups; loads = loads; stores = stores }
 
 -- the record of these groups, by its numbers
-pub record Packed (t : Table) (loads stores : ℕ) (done : List GroupPairs) : Type 0 where
-  pub table : t ≡ pack done
-  pub loads_are : loads ≡ length (loads_in done)
-  pub stores_are : stores ≡ length (stores_in done)
+pub record Packed (t : Gathered) (done : List GroupPairs) : Type 0 where
+  pub table : t.table ≡ pack done
+  pub loads_are : t.loads ≡ length (loads_in done)
+  pub stores_are : t.stores ≡ length (stores_in done)
 
-pub packed_none : {t : Table} → t ≡ pack [] → Packed t 0 0 []
-packed_none e = record { table = e; loads_are = refl; stores_are = refl }
-
-pub packed_more : {t : Table} {loads stores : ℕ} {done : List GroupPairs} {x : NewGroup} {r : Table} → Packed t loads stores done → (g : GroupPairs)
-    → x ≡ pack_group g → length done < 16 → Grown t loads stores x r
-    → Packed r (loads + x.loads.count) (stores + x.stores.count) (done ++ g ∷ [])
-packed_more {t} {loads} {stores} {done} {x} {r} w g e h v =
+pub packed_more : {t : Gathered} {done : List GroupPairs} {x : NewGroup} → Packed t done → (g : GroupPairs) → x ≡ pack_group g → length done < 16
+    → Packed (grown t x) (done ++ g ∷ [])
+packed_more {t} {done} {x} w g e h =
     let ls = flat_snoc (λ (y : GroupPairs). y.loads) done g in
     let ss = flat_snoc (λ (y : GroupPairs). y.stores) done g in
-    let n : r.count ≡ length (done ++ g ∷ []) = v.count ∙ rw (w.table, length-append) in
-    let a : r.groups ≡ (pack (done ++ g ∷ [])).groups = v.groups ∙ rw (w.table, w.loads_are, w.stores_are, e) (spans_more done g h) in
-    let b : r.loads ≡ filled (loads_in (done ++ g ∷ [])) = v.loads_are ∙ rw (w.table, w.loads_are, e, ls) (filled_more (loads_in done) g.loads) in
-    let c : r.stores ≡ filled (stores_in (done ++ g ∷ [])) =
-    v.stores_are ∙ rw (w.table, w.stores_are, e, ss) (filled_more (stores_in done) g.stores) in
+    let r = (grown t x).table in
+    let n : r.count ≡ length (done ++ g ∷ []) = rw (w.table, length-append) in
+    let a : r.groups ≡ (pack (done ++ g ∷ [])).groups = rw (w.table, w.loads_are, w.stores_are, e) (spans_more done g h) in
+    let b : r.loads ≡ filled (loads_in (done ++ g ∷ [])) = rw (w.table, w.loads_are, e, ls) (filled_more (loads_in done) g.loads) in
+    let c : r.stores ≡ filled (stores_in (done ++ g ∷ [])) = rw (w.table, w.stores_are, e, ss) (filled_more (stores_in done) g.stores) in
     record {
       table = ap₂ (λ (n : ℕ) (a : List ℕ). table_made n a r.loads r.stores) n a
           ∙ ap₂ (table_made (length (done ++ g ∷ [])) (pack (done ++ g ∷ [])).groups) b c;

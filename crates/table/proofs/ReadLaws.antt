@@ -12,6 +12,7 @@ use Rattle.table.specs.declared.Pair.{Pair}
 use Rattle.table.specs.declared.read.Pairs.{Pairs}
 use Rattle.table.specs.declared.Table.{Table}
 use Rattle.table.specs.declared.read.NewGroup.{NewGroup}
+use Rattle.table.specs.declared.read.Gathered.{Gathered}
 use Rattle.number.specs.Refusal.{bad_counts}
 use Rattle.number.specs.Reply.{Reply, refuse, accept, need, and_then, passed}
 use Rattle.number.specs.Number.{Got, got, then_read, read_number, place_of, reading, read_in, before}
@@ -19,12 +20,12 @@ use Rattle.table.specs.Packed.{pair, pair_in, packed_pair, SmallPair}
 use Rattle.table.specs.Group.{GroupPairs}
 use Rattle.table.specs.Table.{load_rule, store_rule, check_pair, seeing, counts_right, Seen, none_seen, seen_after, check_group}
 use Rattle.table.specs.TableBytes.{read_pairs, read_group, read_groups, pack}
-use Rattle.table.specs.Internal.{Two, two_numbers, read_two, Finds, pairs_in, pack_pairs, GroupFound, Growing, Grown}
+use Rattle.table.specs.Internal.{Two, two_numbers, read_two, Finds, pairs_in, pack_pairs, GroupFound, Growing, grown}
 use Rattle.number.proofs.ReplyLaws.{then_read_accepts}
 use Rattle.number.proofs.RoundTrip.{NumberGot, number_got}
 use Rattle.table.proofs.PackedLaws.{pairs_read_back, map-append}
 use Rattle.number.proofs.HeldLaws.{held-few}
-use Rattle.table.proofs.PackLaws.{Marks, marks_none, marks-room, marks-more, Packed, packed_none, packed_more}
+use Rattle.table.proofs.PackLaws.{Marks, marks_none, marks-room, marks-more, Packed, packed_more}
 
 -- ---- two numbers
 pub two-step : {A : Type 0} (s : List ℕ) (k : ℕ → ℕ → List ℕ → Reply (Got A))
@@ -198,28 +199,27 @@ group-two seen s = two-step s (group_rest seen)
 
 -- ---- groups, one by one
 
--- the first i of n groups have been read into the table, which has `loads` and `stores` of them
-pub record PairsGathering (n : ℕ) (s : List ℕ) (start i : ℕ) (seen : Seen) (place : ℕ) (table : Table) (loads stores : ℕ) : Type 0 where
+-- the first i of n groups have been read into the table
+pub record PairsGathering (n : ℕ) (s : List ℕ) (start i : ℕ) (seen : Seen) (place : ℕ) (t : Gathered) : Type 0 where
   pub done : List GroupPairs
   pub is : read_groups n none_seen (drop start s) ≡ after done (read_groups (n - i) seen (drop place s))
   pub many : length done ≡ i
-  pub packed_is : Packed table loads stores done
-  pub marks : Marks seen loads stores
+  pub packed_is : Packed t done
+  pub marks : Marks seen t.loads t.stores
   pub inside : place ≤ length s
 
 pub gathering_none : {n : ℕ} {s : List ℕ} {start : ℕ} {table : Table} → start ≤ length s → table ≡ pack []
-    → PairsGathering n s start 0 none_seen start table 0 0
+    → PairsGathering n s start 0 none_seen start (record { table = table; loads = 0; stores = 0 })
 gathering_none {n} {s} {start} h e = record {
   done = [];
   is = rw sub-zero (after_nil (read_groups n none_seen (drop start s)));
   many = refl;
-  packed_is = packed_none e;
+  packed_is = record { table = e; loads_are = refl; stores_are = refl };
   marks = marks_none;
   inside = h;
 }
 
-module _ {n : ℕ} {s : List ℕ} {start i : ℕ} {seen : Seen} {place : ℕ} {table : Table} {loads stores : ℕ}
-    (w : PairsGathering n s start i seen place table loads stores) where
+module _ {n : ℕ} {s : List ℕ} {start i : ℕ} {seen : Seen} {place : ℕ} {t : Gathered} (w : PairsGathering n s start i seen place t) where
   next-group : i < n → read_groups (n - i) seen (drop place s)
       ≡ (then_read (read_group seen (drop place s)) λ g s₁. before g (read_groups (n - (i + 1)) (seen_after g seen) s₁))
   unfolding read_groups
@@ -228,8 +228,8 @@ module _ {n : ℕ} {s : List ℕ} {start i : ℕ} {seen : Seen} {place : ℕ} {t
   pub gathering-refused : {k : ℕ} → i < n → read_group seen (drop place s) ≡ refuse k → read_groups n none_seen (drop start s) ≡ refuse k
   gathering-refused h e = w.is ∙ rw (next-group h, e)
 
-  module _ {r : NewGroup} {after_group : Seen} {next : ℕ} (h : i < n) (few : n ≤ 16)
-      (g : Finds (read_group seen (drop place s)) s next (GroupFound seen after_group r)) (right : check_group seen g.what ≡ passed) where
+  module _ {r : NewGroup} {seen_then : Seen} {next : ℕ} (h : i < n) (few : n ≤ 16)
+      (g : Finds (read_group seen (drop place s)) s next (GroupFound seen seen_then r)) (right : check_group seen g.what ≡ passed) where
     loads-count : r.loads.count ≡ length g.what.loads
     loads-count = rw g.found.group
 
@@ -237,7 +237,7 @@ module _ {n : ℕ} {s : List ℕ} {start i : ℕ} {seen : Seen} {place : ℕ} {t
     stores-count = rw g.found.group
 
     -- the ports seen leave room for the group
-    pub gathering-room : Growing table loads stores r
+    pub gathering-room : Growing t r
     gathering-room =
         let m = marks-room (marks-more w.marks g.what right) in
         record {
@@ -246,19 +246,18 @@ module _ {n : ℕ} {s : List ℕ} {start i : ℕ} {seen : Seen} {place : ℕ} {t
           stores_room = rw stores-count m.1;
         }
 
-    pub gathering-more : {t : Table} → Grown table loads stores r t
-        → PairsGathering n s start (i + 1) after_group next t (loads + r.loads.count) (stores + r.stores.count)
-    gathering-more v = record {
+    pub gathering-more : {u : Gathered} → u ≡ grown t r → PairsGathering n s start (i + 1) seen_then next u
+    gathering-more e = rw e (record {
       done = w.done ++ g.what ∷ [];
       is = w.is ∙ rw (next-group h, g.is, ← g.found.marks)
-          (after-before w.done g.what (read_groups (n - (i + 1)) after_group (drop next s)));
+          (after-before w.done g.what (read_groups (n - (i + 1)) seen_then (drop next s)));
       many = rw (length-append, w.many);
-      packed_is = packed_more w.packed_is g.what g.found.group (omega (arith, w.many)) v;
+      packed_is = packed_more w.packed_is g.what g.found.group (omega (arith, w.many));
       marks = rw (g.found.marks, loads-count, stores-count) (marks-more w.marks g.what right);
       inside = g.inside;
-    }
+    })
 
-  pub gathering-end : n ≤ i → (read_groups n none_seen (drop start s) ≡ accept (got w.done (drop place s))) × (table ≡ pack w.done)
+  pub gathering-end : n ≤ i → (read_groups n none_seen (drop start s) ≡ accept (got w.done (drop place s))) × (t.table ≡ pack w.done)
   unfolding read_groups
   gathering-end h =
       let z : n - i ≡ 0 = omega arith in

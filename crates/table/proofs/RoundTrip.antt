@@ -9,6 +9,7 @@ use lib.Dec.{eqb}
 use lib.ListN.{length, set, drop}
 use borrow.Author.Tests.{eqb-true}
 use Rattle.table.specs.declared.Pair.{Pair}
+use Rattle.table.specs.declared.Table.{Table}
 use Rattle.number.specs.Basics.{flat_map, within}
 use Rattle.number.specs.Refusal.{bad_fields, bad_group_count, bad_counts, left_over}
 use Rattle.number.specs.Reply.{Reply, refuse, accept, and_then, passed}
@@ -16,10 +17,10 @@ use Rattle.number.specs.Number.{got, read_number, bytes_of, Fit, fit_none, fit_o
 use Rattle.table.specs.Group.{GroupPairs}
 use Rattle.table.specs.Table.{load_rule, store_rule, check_pair, check_pairs, counts_right, Seen, none_seen, seen_after}
 use Rattle.table.specs.Table.{groups_of, check_group, check_groups, check_table}
-use Rattle.table.specs.TableBytes.{read_pairs, read_group, read_groups, read_table, TableRead, table_answer, wrote_table}
+use Rattle.table.specs.TableBytes.{read_pairs, read_group, read_groups, read_table, pack, table_reply, table_answer, wrote_table}
 use Rattle.table.specs.TableBytes.{pair_numbers, group_numbers, table_numbers, table_bytes}
 use Rattle.table.specs.RoundTrip.{FaultsAreRead, TablesReadBack, OnlyRightTables, TablesAreWritten, EqualTablesEqualBytes, TablesWrittenBack}
-use Rattle.number.proofs.ReplyLaws.{need-accepts, and_then_accepts, then_read_accepts, not_zero, refused_some}
+use Rattle.number.proofs.ReplyLaws.{refused-accepted, need-accepts, and_then_accepts, then_read_accepts, not_zero, refused_some}
 use Rattle.number.proofs.ReplyLaws.{need-then, and_then-then, then_read-then, of_accepted, of_read, both_pass}
 use Rattle.number.proofs.RoundTrip.{numbers_read_back, Reads, reads_none, reads_one, reads_append, reads-written}
 use Rattle.number.proofs.SpliceLaws.{wrote-fits}
@@ -219,26 +220,39 @@ tables_are_written s gs a = (there, λ w. ap read_table w.1 ∙ tables_read_back
 pub equal_tables_equal_bytes : EqualTablesEqualBytes
 equal_tables_equal_bytes s t gs a b e f = ((tables_are_written s gs a).0 e).1 ∙ sym ((tables_are_written t gs b).0 f).1
 
--- ---- what the answer of a call that reads a table says: its record holds the groups that were read, or it has the refusal's number
-pub table_given : (s : List ℕ) (r : TableRead) → r ≡ table_answer (read_table s) → r.answer ≡ 0 → read_table s ≡ accept (groups_of r.table)
-table_given s r e zero_is = go (read_table s) refl e
-  where
-    go : (g : Reply (List GroupPairs)) → read_table s ≡ g → r ≡ table_answer g → read_table s ≡ accept (groups_of r.table)
-    go (refuse n) d f = absurd (refused_some (read_table s) (table_among not_zero refl s) d (sym (ap (λ (x : TableRead). x.answer) f) ∙ zero_is))
-    go (accept gs) d f = d ∙ ap accept (sym (ap (λ (x : TableRead). groups_of x.table) f ∙ records_hold_groups gs (only_right_tables s gs d)))
+-- ---- what a call that reads a table says of the bytes: its record holds the groups that were read, or it has the refusal's number
+held_groups : (s : List ℕ) {gs : List GroupPairs} {t : Table} → read_table s ≡ accept gs → t ≡ pack gs → groups_of t ≡ gs
+held_groups s {gs} d e = ap groups_of e ∙ records_hold_groups gs (only_right_tables s gs d)
 
-pub table-refused : (s : List ℕ) (r : TableRead) → r ≡ table_answer (read_table s) → (r.answer ≡ 0 → ⊥) → read_table s ≡ refuse r.answer
-table-refused s r e some = go (read_table s) e
+pub table_got : (s : List ℕ) {t : Table} → accept t ≡ table_reply (read_table s) → (read_table s ≡ accept (groups_of t)) × (t ≡ pack (groups_of t))
+table_got s {t} e = go (read_table s) refl e
   where
-    go : (g : Reply (List GroupPairs)) → r ≡ table_answer g → g ≡ refuse r.answer
-    go (refuse n) f = ap refuse (sym (ap (λ (x : TableRead). x.answer) f))
-    go (accept gs) f = absurd (some (ap (λ (x : TableRead). x.answer) f))
+    go : (g : Reply (List GroupPairs)) → read_table s ≡ g → accept t ≡ table_reply g → (read_table s ≡ accept (groups_of t)) × (t ≡ pack (groups_of t))
+    go (refuse n) d f = refused-accepted (sym f)
+    go (accept gs) d f =
+        let p : t ≡ pack gs = cc in
+        let held = held_groups s d p in
+        (d ∙ ap accept (sym held), p ∙ ap pack (sym held))
+
+pub table_refused : (s : List ℕ) {n : ℕ} → refuse n ≡ table_reply (read_table s) → read_table s ≡ refuse n
+table_refused s {n} e = go (read_table s) e
+  where
+    go : (g : Reply (List GroupPairs)) → refuse n ≡ table_reply g → g ≡ refuse n
+    go (refuse m) f = cc
+    go (accept gs) f = refused-accepted f
+
+answered : (s : List ℕ) → (table_answer (read_table s)).answer ≡ 0 → read_table s ≡ accept (groups_of (table_answer (read_table s)).table)
+answered s zero_is = go (read_table s) refl zero_is
+  where
+    go : (g : Reply (List GroupPairs)) → read_table s ≡ g → (table_answer g).answer ≡ 0 → g ≡ accept (groups_of (table_answer g).table)
+    go (refuse n) d z = absurd (refused_some (read_table s) (table_among not_zero refl s) d z)
+    go (accept gs) d z = ap accept (sym (held_groups s d refl))
 
 pub tables_written_back : TablesWrittenBack
 unfolding wrote_table
 tables_written_back s buffer a answer room =
     let gs = groups_of (table_answer (read_table s)).table in
-    let (right, whole) = (tables_are_written s gs a).0 (table_given s (table_answer (read_table s)) refl answer) in
+    let (right, whole) = (tables_are_written s gs a).0 (answered s answer) in
     back gs right whole
   where
     back : (gs : List GroupPairs) → check_table gs ≡ passed → s ≡ table_bytes gs →

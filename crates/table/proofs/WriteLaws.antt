@@ -5,7 +5,7 @@ use mathlib.Core.List.{List, [], ◌∷◌, ◌++◌, append-nil, append_assoc}
 use native.Mathlib.Omega.{arith}
 use native.Mathlib.Numerals.{add-one}
 use lib.ListN.{length, get_or, take, drop, length-append, take-append-drop}
-use lib.Seq.{take-suc, take_all}
+use lib.Seq.{take-suc}
 use Rattle.table.specs.declared.Pair.{Pair}
 use Rattle.table.specs.declared.Group.{Group}
 use Rattle.number.specs.Basics.{flat_map, splice}
@@ -36,16 +36,9 @@ flat_room f l i d h =
 pub record Tallied {A : Type 0} (f : A → List ℕ) (l : List A) (i total : ℕ) : Type 0 where
   pub is : total ≡ length (bytes_of (flat_map f (take i l)))
 
-pub tallied_none : {A : Type 0} {f : A → List ℕ} {l : List A} → Tallied f l 0 0
-tallied_none = record { is = refl }
-
 pub tallied_more : {A : Type 0} {f : A → List ℕ} {l : List A} {i total n : ℕ} → Tallied f l i total → (d : A) → i < length l
     → n ≡ length (bytes_of (f (get_or l i d))) → Tallied f l (i + 1) (total + n)
 tallied_more {f = f} {l = l} {i = i} w d h e = record { is = rw (flat_next f l i d h, bytes_append, length-append, w.is, e) }
-
-pub tallied_end : {A : Type 0} {f : A → List ℕ} {l : List A} {i total : ℕ} → Tallied f l i total → length l ≤ i
-    → total ≡ length (bytes_of (flat_map f l))
-tallied_end {f = f} {l = l} {i = i} w h = w.is ∙ rw (take_all i l h)
 
 -- ---- the bytes of a pair and of a group, part by part
 pub pair-length : (p : Pair) → length (bytes_of (pair_numbers p)) ≡ length (number_bytes p.offset) + length (number_bytes p.port)

@@ -1,5 +1,5 @@
 -- What the crate's own functions promise each other: nothing here is promised to a caller from outside.
-use Rattle.std.specs.Prelude.{ℕ, ◌+◌, ◌≤◌, ◌<◌, ◌≡◌, Bool, true, List, [], ◌∷◌, ◌++◌, Result, Ok, Err, map, length, set, take, drop}
+use Rattle.std.specs.Prelude.{ℕ, ◌+◌, ◌≤◌, ◌<◌, ◌≡◌, Bool, List, [], ◌∷◌, ◌++◌, Result, Ok, Err, map, length, set, take, drop}
 use Rattle.table.specs.declared.Pair.{Pair}
 use Rattle.table.specs.declared.Span.{Span}
 use Rattle.table.specs.declared.Group.{Group}
@@ -8,6 +8,7 @@ use Rattle.table.specs.declared.check.Ports.{Ports}
 use Rattle.table.specs.declared.check.Rule.{Rule}
 use Rattle.table.specs.declared.read.Pairs.{Pairs}
 use Rattle.table.specs.declared.read.NewGroup.{NewGroup}
+use Rattle.table.specs.declared.read.Gathered.{Gathered}
 use Rattle.number.specs.declared.refusal.Refusal.{Refusal}
 use Rattle.number.specs.Refusal.{refusal_number}
 use Rattle.number.specs.Reply.{Reply, refuse, accept, passed}
@@ -114,11 +115,11 @@ GroupResult s seen g after r = Tells g s (GroupFound seen after) r
 abbrev pub GroupsResult : List ℕ → Reply (Got (List GroupPairs)) → Result (Table × ℕ) Refusal → Type 0
 GroupsResult s g r = Tells g s (λ (t : Table) gs. t ≡ pack gs) r
 
--- there is room for a group behind those of a table, which have `loads` loads and `stores` stores
-pub record Growing (t : Table) (loads stores : ℕ) (g : NewGroup) : Type 0 where
-  pub groups : t.count < 16
-  pub loads_room : loads + g.loads.count ≤ 32
-  pub stores_room : stores + g.stores.count ≤ 32
+-- there is room for a group behind those of a table
+pub record Growing (t : Gathered) (g : NewGroup) : Type 0 where
+  pub groups : t.table.count < 16
+  pub loads_room : t.loads + g.loads.count ≤ 32
+  pub stores_room : t.stores + g.stores.count ≤ 32
 
 abbrev pub put_in : List ℕ → ℕ → Pairs → List ℕ
 put_in places from ps = take from places ++ take ps.count ps.places ++ drop (from + ps.count) places
@@ -127,11 +128,18 @@ put_in places from ps = take from places ++ take ps.count ps.places ++ drop (fro
 abbrev pub behind : ℕ → ℕ → NewGroup → Group
 behind loads stores g = record { loads = record { first = loads; count = g.loads.count }; stores = record { first = stores; count = g.stores.count } }
 
-pub record Grown (t : Table) (loads stores : ℕ) (g : NewGroup) (r : Table) : Type 0 where
-  pub count : r.count ≡ t.count + 1
-  pub groups : r.groups ≡ set t.groups t.count (packed_group (behind loads stores g))
-  pub loads_are : r.loads ≡ put_in t.loads loads g.loads
-  pub stores_are : r.stores ≡ put_in t.stores stores g.stores
+-- the same groups and the group behind them
+abbrev pub grown : Gathered → NewGroup → Gathered
+grown t g = record {
+  table = record {
+    count = t.table.count + 1;
+    groups = set t.table.groups t.table.count (packed_group (behind t.loads t.stores g));
+    loads = put_in t.table.loads t.loads g.loads;
+    stores = put_in t.table.stores t.stores g.stores;
+  };
+  loads = t.loads + g.loads.count;
+  stores = t.stores + g.stores.count;
+}
 
 -- ---- a group of a table
 

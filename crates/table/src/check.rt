@@ -4,7 +4,7 @@ ghost use Rattle.number.specs.Basics.{count_where};
 ghost use Rattle.number.specs.Reply.{reply};
 ghost use Rattle.table.specs.Packed.{pair_in};
 ghost use Rattle.table.specs.Group.{pairs_of, before_store};
-ghost use Rattle.table.specs.Table.{counts_right, check_pair, check_table, groups_of};
+ghost use Rattle.table.specs.Table.{counts_right, check_pair, check_table, groups_of, none_seen};
 ghost use Rattle.table.specs.Internal.{rule_of, Rising, RuleRight, PairsChecked, seen_of, GroupChecked, GroupInside};
 
 use crate::parts::unpack_pair;
@@ -16,6 +16,18 @@ use number::refusal::Refusal;
 pub(crate) struct Ports {
     pub loads: [bool; 32],
     pub stores: [bool; 32],
+}
+
+impl Ports {
+    // No port was seen.
+    pub(crate) fn none() -> Ports
+        ensures { seen_of result ≡ none_seen }
+    {
+        Ports {
+            loads: [false; 32],
+            stores: [false; 32],
+        }
+    }
 }
 
 // The rule for the offsets of a group's pairs of one kind.
@@ -115,10 +127,7 @@ impl Table {
         if self.count < 1 || 16 < self.count {
             return Err(Refusal::BadGroupCount);
         }
-        let mut seen = Ports {
-            loads: [false; 32],
-            stores: [false; 32],
-        };
+        let mut seen = Ports::none();
         for i in 0..self.count as usize {
             check_group(self, self.group(i), &mut seen)?;
         }

@@ -34,8 +34,8 @@ pub struct Group {
 }
 
 // A group table: its groups, and the accesses of all groups, loads and stores apart. Each group and each access is packed into
-// a number (`parts`), since arrays of numbers can be lent and need no copy. A port stands once in a table, so 32 places of
-// each kind are enough. Places beyond the count, or that no group has, mean nothing.
+// a number (`parts`), and counts stand beside arrays: C lends this very record (bindings/c/lsq.h). A port stands once in a table, so
+// 32 places of each kind are enough. Places beyond the count, or that no group has, mean nothing.
 #[repr(C)]
 #[derive(Clone, Copy, Debug, PartialEq, Eq)]
 pub struct Table {

@@ -1,6 +1,7 @@
-// A table's groups and accesses, and the numbers that they are packed into.
-ghost use Rattle.std.specs.Prelude.{◌≡◌, get_or, map, take, drop};
-ghost use Rattle.table.specs.Packed.{pair_in, packed_pair, span_in, group_in, packed_group};
+// A table's groups and accesses, and the numbers that they are packed into. Packing has functions with names, and no `From`, which would
+// not say that a number is packed.
+ghost use Rattle.std.specs.Prelude.{◌≡◌, ◌<◌, get_or, map, take, drop};
+ghost use Rattle.table.specs.Packed.{pair_in, packed_pair, span_in, packed_span, group_in, packed_group};
 ghost use Rattle.table.specs.Group.{list_of, Inside};
 ghost use Rattle.table.specs.Table.{span_meant, group_at};
 
@@ -33,40 +34,28 @@ fn unpack_span(number: u32) -> Span
     }
 }
 
+// The number that holds a span.
+fn pack_span(span: Span) -> u32
+    ensures { (result ≡ packed_span span) × (result < 65536) }
+{
+    span.first as u32 + 256 * span.count as u32
+}
+
 // The group that a number holds: where its loads stand in the lowest sixteen bits, where its stores stand in the others.
 pub fn unpack_group(number: u32) -> Group
     ensures { result ≡ group_in number }
 {
-    let loads = unpack_span(number);
-    let stores = unpack_span(number / 65536);
-    Group { loads, stores }
+    Group {
+        loads: unpack_span(number),
+        stores: unpack_span(number / 65536),
+    }
 }
 
 // The number that holds a group.
 pub fn pack_group(group: Group) -> u32
     ensures { result ≡ packed_group group }
 {
-    let loads = group.loads;
-    let stores = group.stores;
-    let low = loads.first as u32 + 256 * loads.count as u32;
-    let high = stores.first as u32 + 256 * stores.count as u32;
-    low + 65536 * high
-}
-
-// The places that a span stands for. A span that runs past the 32 places stands for 17, one more than a group may have.
-fn span_meant(span: Span) -> Span
-    ensures { result ≡ span_meant span }
-{
-    if span.first as u32 + span.count as u32 <= 32 {
-        return span;
-    }
-    if span.count == 0 {
-        return Span { first: 0, count: 0 };
-    }
-    Span {
-        first: 0,
-        count: 17,
-    }
+    pack_span(group.loads) + 65536 * pack_span(group.stores)
 }
 
 // The number at a place; beyond the places it is 0, which holds no access.
@@ -84,13 +73,29 @@ impl Table {
     {
         let group = unpack_group(number_at(&self.groups, i));
         Group {
-            loads: span_meant(group.loads),
-            stores: span_meant(group.stores),
+            loads: group.loads.meant(),
+            stores: group.stores.meant(),
         }
     }
 }
 
 impl Span {
+    // What it stands for: itself, or 17 places, one more than a group may have, where it runs past the 32 places.
+    fn meant(self) -> Span
+        ensures { result ≡ span_meant self }
+    {
+        if self.first as u32 + self.count as u32 <= 32 {
+            return self;
+        }
+        if self.count == 0 {
+            return Span { first: 0, count: 0 };
+        }
+        Span {
+            first: 0,
+            count: 17,
+        }
+    }
+
     // The places of its accesses among those of a table, which hold them all.
     pub fn among<'a>(self, places: &'a [u16; 32]) -> &'a [u16]
         requires { Inside self }

@@ -1,9 +1,9 @@
 // Reading tables, number by number.
-ghost use Rattle.std.specs.Prelude.{◌≡◌, ◌+◌, ◌≤◌, length, drop, map, []};
+ghost use Rattle.std.specs.Prelude.{◌≡◌, ◌+◌, ◌≤◌, length, take, drop, map, []};
 ghost use Rattle.table.specs.Packed.{pair_in};
 ghost use Rattle.table.specs.TableBytes.{read_pairs, read_group, read_groups, read_table, table_reply, pack};
 ghost use Rattle.table.specs.Internal.{read_two, two_reply, rule_of, RuleRight, pairs_in, pack_pairs, PairsResult};
-ghost use Rattle.table.specs.Internal.{seen_of, GroupResult, put_in, Growing, Grown, GroupsResult};
+ghost use Rattle.table.specs.Internal.{seen_of, GroupResult, put_in, Growing, grown, GroupsResult};
 ghost use Rattle.table.specs.Table.{none_seen};
 ghost use Rattle.number.specs.Reply.{reply};
 ghost use Rattle.number.specs.Number.{read_in};
@@ -14,8 +14,8 @@ use crate::{Group, Pair, Span, Table};
 use number::reading::read_number;
 use number::refusal::Refusal;
 
-// A group's pairs of one kind that were read, each packed into a number: `count` of them, from the first place on. A group has
-// at most 16, and there is no heap.
+// A group's pairs of one kind that were read, each packed into a number: `count` of them, from the first place on. They stand in
+// fixed memory: this library has no heap.
 #[derive(Clone, Copy)]
 pub(crate) struct Pairs {
     pub count: u8,
@@ -27,6 +27,14 @@ pub(crate) struct Pairs {
 pub(crate) struct NewGroup {
     pub loads: Pairs,
     pub stores: Pairs,
+}
+
+// The groups read so far, in the record of their table, and how many loads and stores they have.
+#[derive(Clone, Copy)]
+pub(crate) struct Gathered {
+    pub table: Table,
+    pub loads: u8,
+    pub stores: u8,
 }
 
 // Reads two numbers, and says where they end.
@@ -52,9 +60,18 @@ impl Pairs {
     // The numbers that hold them.
     fn numbers(&self) -> &[u16]
         requires { self.now.count ≤ 32 }
-        ensures { map pair_in result.now ≡ pairs_in self.now }
+        ensures numbers { result.now ≡ take self.now.count self.now.places }
+        ensures pairs { map pair_in result.now ≡ pairs_in self.now }
     {
         &self.places[..self.count as usize]
+    }
+
+    // Puts them among the places of a table, from one on.
+    fn put(&self, places: &mut [u16; 32], from: usize)
+        requires { from + self.now.count ≤ 32 }
+        ensures { places.new ≡ put_in places.old from self.now }
+    {
+        places[from..from + self.count as usize].copy_from_slice(self.numbers());
     }
 }
 
@@ -107,15 +124,6 @@ fn read_group(bytes: &[u8], at: usize, seen: &mut Ports) -> Result<(NewGroup, us
     Ok((NewGroup { loads, stores }, place))
 }
 
-// Puts a group's accesses into the places from a place on.
-fn put_pairs(places: &mut [u16; 32], from: usize, pairs: Pairs)
-    requires { from + pairs.count ≤ 32 }
-    ensures { places.new ≡ put_in places.old from pairs }
-{
-    let count = pairs.count as usize;
-    places[from..from + count].copy_from_slice(&pairs.places[..count]);
-}
-
 impl Table {
     // The table of no groups.
     pub fn none() -> Table
@@ -128,26 +136,32 @@ impl Table {
             stores: [0; 32],
         }
     }
+}
 
-    // Puts a group behind those that it has: `loads` and `stores` are the places behind theirs.
-    fn push(&mut self, loads: u8, stores: u8, group: NewGroup)
-        requires { Growing self.old loads stores group }
-        ensures { Grown self.old loads stores group self.new }
+impl Gathered {
+    // Puts a group behind those that it has.
+    fn push(&mut self, group: &NewGroup)
+        requires { Growing self.old group.now }
+        ensures { self.new ≡ grown self.old group.now }
     {
         let placed = Group {
             loads: Span {
-                first: loads,
+                first: self.loads,
                 count: group.loads.count,
             },
             stores: Span {
-                first: stores,
+                first: self.stores,
                 count: group.stores.count,
             },
         };
-        self.groups[self.count as usize] = pack_group(placed);
-        put_pairs(&mut self.loads, loads as usize, group.loads);
-        put_pairs(&mut self.stores, stores as usize, group.stores);
-        self.count += 1;
+        self.table.groups[self.table.count as usize] = pack_group(placed);
+        group.loads.put(&mut self.table.loads, self.loads as usize);
+        group
+            .stores
+            .put(&mut self.table.stores, self.stores as usize);
+        self.table.count += 1;
+        self.loads += group.loads.count;
+        self.stores += group.stores.count;
     }
 }
 
@@ -156,22 +170,19 @@ fn read_groups(bytes: &[u8], at: usize, count: u32) -> Result<(Table, usize), Re
     requires { (count ≤ 16) × (at ≤ length bytes.now) }
     ensures { GroupsResult bytes.now (read_groups count none_seen (drop at bytes.now)) result }
 {
-    let mut table = Table::none();
-    let mut loads: u8 = 0;
-    let mut stores: u8 = 0;
-    let mut seen = Ports {
-        loads: [false; 32],
-        stores: [false; 32],
+    let mut gathered = Gathered {
+        table: Table::none(),
+        loads: 0,
+        stores: 0,
     };
+    let mut seen = Ports::none();
     let mut place = at;
-    for _i in 0..count {
+    for _ in 0..count {
         let (group, next) = read_group(bytes, place, &mut seen)?;
-        table.push(loads, stores, group);
-        loads += group.loads.count;
-        stores += group.stores.count;
+        gathered.push(&group);
         place = next;
     }
-    Ok((table, place))
+    Ok((gathered.table, place))
 }
 
 // Reads a table: the whole of the bytes.

@@ -5,7 +5,6 @@ use native.Mathlib.Omega.{arith}
 use borrow.Author.Rules.{rules}
 use borrow.Author.Tests.{le-leb, lt-leb}
 use lib.ListN.{get_or}
-use Rattle.std.specs.Prelude.{Err}
 use Rattle.number.specs.Basics.{within}
 use Rattle.table.specs.Group.{GroupPairs, pairs_of}
 use Rattle.table.specs.Table.{groups_of}

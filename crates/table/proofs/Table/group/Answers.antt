@@ -3,4 +3,4 @@ use Rattle.table.proofs.Table.group.Goals as goal
 
 pub returns : goal.returns
 unfolding group_at
-returns c = rw (c.span_meant.ensures, c.span_meant-2.ensures, c.unpack_group-group.ensures, c.number_at.ensures)
+returns c = rw (c.meant.ensures, c.meant-2.ensures, c.unpack_group-group.ensures, c.number_at.ensures)

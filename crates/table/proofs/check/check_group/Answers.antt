@@ -5,7 +5,7 @@ use mathlib.Core.List.{List}
 use native.Mathlib.Omega.{arith}
 use borrow.Author.Rules.{rules}
 use Rattle.std.specs.Prelude.{Err}
-use Rattle.table.specs.Table.{Seen, counts_right}
+use Rattle.table.specs.Table.{counts_right}
 use Rattle.table.specs.Internal.{seen_of}
 use Rattle.table.proofs.CheckLaws.{counts-few, rising-checked, among-length, group-counts, group-loads, group-stores, checks-last}
 use Rattle.table.proofs.check.check_group.Goals as goal

@@ -3,19 +3,12 @@ use mathlib.Core.Path.{◌≡◌, sym, ◌∙◌}
 use mathlib.Core.List.{map}
 use native.Mathlib.Omega.{arith}
 use borrow.Author.Rules.{rules}
-use lib.ListN.{length, get_or, length-map}
+use lib.ListN.{get_or, length-map}
 use Rattle.std.specs.Prelude.{Err}
-use Rattle.number.specs.Refusal.{refusal_number}
-use Rattle.number.specs.Reply.{refuse}
 use Rattle.table.specs.Packed.{pair_in}
 use Rattle.table.specs.Group.{blank_pair}
-use Rattle.table.specs.Table.{check_pair}
-use Rattle.table.specs.Internal.{rule_of}
-use Rattle.table.proofs.CheckLaws.{checking_none, pair-at, checking-stop, checking-more, checking-end}
+use Rattle.table.proofs.CheckLaws.{pair-at, checking-stop, checking-more, checking-end}
 use Rattle.table.proofs.check.check_pairs.Goals as goal
-
-pub loop-i-init : goal.loop-i-init
-loop-i-init c = checking_none
 
 pub returns-in_err-check_pair : goal.returns-in_err-check_pair
 returns-in_err-check_pair c =

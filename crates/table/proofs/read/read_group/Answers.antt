@@ -1,6 +1,5 @@
 -- Both counts, then the loads, then the stores, whose rule goes by the loads that were read.
-use Prim.Native.Nat.{◌≤◌}
-use mathlib.Core.Path.{◌≡◌, refl, sym, ap, ap₂, ◌∙◌}
+use mathlib.Core.Path.{◌≡◌, sym, ap, ap₂, ◌∙◌}
 use mathlib.Core.Bool.{Bool, true}
 use mathlib.Core.List.{List, map}
 use native.Mathlib.Omega.{arith}
@@ -10,7 +9,7 @@ use Rattle.std.specs.Prelude.{Err}
 use Rattle.table.specs.declared.read.Pairs.{Pairs}
 use Rattle.table.specs.Packed.{pair_in}
 use Rattle.table.specs.Table.{counts_right}
-use Rattle.table.specs.Internal.{seen_of, read_two}
+use Rattle.table.specs.Internal.{read_two}
 use Rattle.number.proofs.RoundTrip.{read_refused}
 use Rattle.table.proofs.CheckLaws.{counts-few, rising-checked}
 use Rattle.table.proofs.ReadLaws.{TwoGot, two-answer, group-two}
@@ -48,7 +47,7 @@ read_pairs-requires-2 c =
     let few = counts-few c.in_ok-load_count.load_count c.in_ok-load_count.store_count (right (goal.at.read_pairs-requires-2 c).After-read_pairs) in
     let loads = c.in_ok-loads.ensures in
     let loads_right = pairs-written _ _ _ _ _ _ loads.is in
-    let same : map pair_in c.numbers.result.now ≡ loads.what = c.numbers.ensures ∙ loads.found.holds in
+    let same : map pair_in c.numbers.result.now ≡ loads.what = c.numbers.ensures.pairs ∙ loads.found.holds in
     let size : length c.numbers.result.now ≡ length loads.what = sym (length-map c.numbers.result.now pair_in) ∙ ap length same in
     (few.1, loads.inside, (omega (arith, size, loads_right.many, few.0), rw same (rising-checked _ _ _ _ _ loads_right.right)))
 
@@ -56,7 +55,7 @@ pub returns-in_err-stores : goal.returns-in_err-stores
 returns-in_err-stores c =
     let g = goal.at.returns-in_err-stores c in
     let loads = c.in_ok-loads.ensures in
-    let same : map pair_in c.numbers.result.now ≡ loads.what = c.numbers.ensures ∙ loads.found.holds in
+    let same : map pair_in c.numbers.result.now ≡ loads.what = c.numbers.ensures.pairs ∙ loads.found.holds in
     let wrong = rw same at c.in_err-stores.ensures in
     let r : c.from_residual-in_err-stores.result ≡ Err c.in_err-stores.field-0.0 = search rules in
     rw r (group-two _ _ ∙ rw ((counts g.After-counts_right).is, right g.After-read_pairs, loads.is, wrong))
@@ -66,7 +65,7 @@ returns c =
     let g = goal.at.returns c in
     let loads = c.in_ok-loads.ensures in
     let stores = c.in_ok-stores.ensures in
-    let same : map pair_in c.numbers.result.now ≡ loads.what = c.numbers.ensures ∙ loads.found.holds in
+    let same : map pair_in c.numbers.result.now ≡ loads.what = c.numbers.ensures.pairs ∙ loads.found.holds in
     let is = rw same at stores.is in
     record {
       what = record { loads = loads.what; stores = stores.what };

@@ -3,5 +3,5 @@ use Rattle.table.specs.Internal.{seen_of}
 use Rattle.table.proofs.ReadLaws.{PairsGathering}
 use Rattle.table.proofs.read.read_groups.Given as goal
 
-abbrev pub invariant-loop-i : goal.invariant-loop-i
-invariant-loop-i l = PairsGathering l.count l.bytes l.at l._i (seen_of l.seen) l.place l.table l.loads l.stores
+abbrev pub invariant-loop : goal.invariant-loop
+invariant-loop l = PairsGathering l.count l.bytes l.at l.counter (seen_of l.seen) l.place l.gathered

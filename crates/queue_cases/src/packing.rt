@@ -1,7 +1,6 @@
 // The calls on an entry alone. A number of 64 bits stands in the script as two: its upper 32 bits, then its lower.
 use crate::{records, show};
-use queue::Entry;
-use queue::entries;
+use queue::{Entry, entries};
 use std::io;
 use std::io::Write;
 

@@ -21,12 +21,7 @@ pub(crate) fn take(out: &mut impl Write, run: &mut Run, port: u32) -> io::Result
 }
 
 // The rule with no queue: only so can a case hand it a port that no table has.
-pub(crate) fn record(
-    out: &mut impl Write,
-    run: &mut Run,
-    port: u32,
-    value: u32,
-) -> io::Result<()> {
+pub(crate) fn record(out: &mut impl Write, run: &mut Run, port: u32, value: u32) -> io::Result<()> {
     let kept = run.kept;
     run.kept = recorded(kept, port, value);
     show::same(out, b":", kept == run.kept)

@@ -10,10 +10,7 @@ pub(crate) fn refused(out: &mut impl Write, refusal: Refusal) -> io::Result<()> 
 }
 
 // An answer, and the value or "-".
-pub(crate) fn answer(
-    out: &mut impl Write,
-    answer: Result<Option<u32>, Refusal>,
-) -> io::Result<()> {
+pub(crate) fn answer(out: &mut impl Write, answer: Result<Option<u32>, Refusal>) -> io::Result<()> {
     match answer {
         Ok(Some(value)) => write!(out, ": 0 {value}"),
         Ok(None) => out.write_all(b": 0 -"),

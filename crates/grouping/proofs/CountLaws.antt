@@ -8,20 +8,27 @@ use mathlib.Core.Bool.{Bool, true, false}
 use mathlib.Core.List.{List, [], ◌∷◌, ◌++◌, map, map-append, append-nil}
 use lib.Dec.{eqb, leb, ltb}
 use lib.ListN.{length, take, get_or, set, replicate, length-append, length-map}
-use lib.Seq.{set_at, append_snoc, take-suc, get_or-take, length-take-le}
-use borrow.Author.Tests.{leb-true, ltb-true}
-use Rattle.number.specs.Basics.{pick, keep_where}
+use lib.Seq.{set_at, append_snoc, take-suc, length-take-le}
+use borrow.Author.Tests.{leb-true, le-leb, eq-eqb}
+use Rattle.std.specs.Array.{AllOfLen}
+use Rattle.std.specs.List.{slice_range}
+use Rattle.std.specs.Bool.{then_some}
+use Rattle.std.specs.Option.{IfSome, IfNone}
+use denote.Ref.{Bor}
+use Rattle.std.proofs.lemmas.List.{get_or-replicate}
+use Rattle.std.proofs.lemmas.Grind.{same_number_lists}
+use Rattle.number.specs.Basics.{pick, keep_where, all_of}
 use Rattle.number.proofs.Both.{and_left, and_right}
-use Rattle.number.proofs.AllLaws.{all_at}
 use Rattle.ordering.specs.declared.Ordered.{Ordered}
+use Rattle.ordering.specs.Records.{order_in}
 use Rattle.table.specs.declared.Pair.{Pair}
 use Rattle.table.specs.Packed.{pair, packed_pair}
 use Rattle.table.specs.Group.{Access, load, store, pair_of, is_load, is_store, pairs_where, offsets_counted, counted_pairs}
-use Rattle.table.specs.TableBytes.{filled, pack}
+use Rattle.table.specs.TableBytes.{filled}
 use Rattle.grouping.specs.declared.GroupSoFar.{GroupSoFar}
 use Rattle.grouping.specs.declared.Accesses.{Accesses}
-use Rattle.grouping.specs.Grouping.{access_at, in_order, with_offsets, names_accesses, groups_in_order}
-use Rattle.grouping.specs.Internal.{with_pair, with_access, Room, accesses_of, listed, HoldsGroup, one_group}
+use Rattle.grouping.specs.Grouping.{access_at, in_order, names_accesses}
+use Rattle.grouping.specs.Internal.{with_pair, with_access, Room, Below, Named, listed, HoldsGroup}
 
 -- ---- loads and stores along accesses, and then along others
 
@@ -60,8 +67,12 @@ filled_one ps p low =
 listed_one : (ps : List Pair) (p : Pair) → length ps < 32 → with_pair (listed ps) p ≡ listed (ps ++ p ∷ [])
 listed_one ps p low = let size : length ps + 1 ≡ length (ps ++ p ∷ []) = sym (length-append ps (p ∷ [])) in rw (size, filled_one ps p low)
 
-pub group_none : {g : GroupSoFar} → g.loads ≡ listed [] → g.stores ≡ listed [] → HoldsGroup [] g
-group_none l s = record { loads = l; stores = s }
+zeros : {xs : List ℕ} → AllOfLen (λ x. x ≡ 0) xs 32 → xs ≡ replicate 32 0
+zeros {xs} all = same_number_lists xs (replicate 32 0) all.long λ k low. all.at k 0 (omega (arith, all.long)) ∙ sym (get_or-replicate 32 k 0 0 (omega (arith, all.long)))
+
+pub group_none : {g : GroupSoFar} → (g.loads.count ≡ 0 × AllOfLen (λ x. x ≡ 0) g.loads.places 32) × (g.stores.count ≡ 0 × AllOfLen (λ x. x ≡ 0) g.stores.places 32)
+    → HoldsGroup [] g
+group_none (loads, stores) = record { loads = rw (loads.0, zeros loads.1); stores = rw (stores.0, zeros stores.1) }
 
 module _ {xs : List Access} {g : GroupSoFar} (so : HoldsGroup xs g) (low : length xs < 32) where
   few : (length (counted_pairs is_load 0 0 xs) < 32) × (length (counted_pairs is_store 0 0 xs) < 32)
@@ -92,37 +103,39 @@ module _ {xs : List Access} {g : GroupSoFar} (so : HoldsGroup xs g) (low : lengt
             (listed_one (counted_pairs is_store 0 0 xs) (pair (length (counted_pairs is_load 0 0 xs)) port) few.1);
       }
 
--- the table of the group is the one that packs it
-pub one_packed : {xs : List Access} {g : GroupSoFar} → HoldsGroup xs g → one_group g ≡ pack (with_offsets xs ∷ [])
-one_packed so = rw (so.loads, so.stores, append-nil, append-nil)
-
 -- ---- the order, by its places
 
-module _ (r : Ordered) (accesses : Accesses) where
-  pub order-count : names_accesses r ≡ true → r.count ≤ 32
-  order-count h = leb-true r.count 32 (and_left (leb r.count 32) _ (and_right (eqb r.answer 0) _ h))
+pub order-count : (r : Ordered) → names_accesses r ≡ true → r.count ≤ 32
+order-count r h = leb-true r.count 32 (and_left (leb r.count 32) _ (and_right (eqb r.answer 0) _ h))
 
-  pub order-here : names_accesses r ≡ true → length r.accesses ≡ 32 → (i : ℕ) → i < r.count → get_or r.accesses i 0 < 32
-  order-here h full i low =
-      let few = order-count h in
-      let within : i < length (take r.count r.accesses) = simp (length-take-le r.count r.accesses (omega arith)) low in
-      let all = and_right (leb r.count 32) _ (and_right (eqb r.answer 0) _ h) in
-      let e = all_at (λ a. ltb a 32) (take r.count r.accesses) i 0 all within in
-      ltb-true (get_or r.accesses i 0) 32 (rw (get_or-take r.count r.accesses i 0 low) at e)
+-- `all` says whether each access of the order is a number of one
+pub is_named : (r : Ordered) (numbers : Bor (List ℕ)) (all : Bool) → r.answer ≡ 0 → r.count ≤ 32 → numbers.now ≡ slice_range r.accesses 0 r.count
+    → all ≡ all_of (λ a. ltb a 32) numbers.now
+    → IfSome (then_some all numbers) (λ given. Named r given.now) × IfNone (then_some all numbers) (names_accesses r ≡ false)
+is_named r numbers all accepted few part told = go all told
+  where
+    is : numbers.now ≡ order_in r
+    is = let whole : r.count - 0 ≡ r.count = omega arith in part ∙ rw whole
 
-  pub an-order : names_accesses r ≡ true → groups_in_order r accesses ≡ with_offsets (accesses_of r accesses) ∷ []
-  an-order h = rw h
+    names : names_accesses r ≡ all_of (λ a. ltb a 32) numbers.now
+    names = rw (eq-eqb r.answer 0 accepted, le-leb r.count 32 few, is)
 
-  pub no-order : names_accesses r ≡ false → groups_in_order r accesses ≡ []
-  no-order h = rw h
+    go : (t : Bool) → t ≡ all_of (λ a. ltb a 32) numbers.now
+        → IfSome (then_some t numbers) (λ given. Named r given.now) × IfNone (then_some t numbers) (names_accesses r ≡ false)
+    go true e = (record { names = names ∙ sym e; is = is }, tt)
+    go false e = (tt, names ∙ sym e)
 
-module _ (accesses : Accesses) (numbers : List ℕ) (i : ℕ) (low : i < length numbers) where
-  pub one_more : in_order accesses (take (i + 1) numbers) ≡ in_order accesses (take i numbers) ++ access_at accesses (get_or numbers i 0) ∷ []
+module _ {numbers : List ℕ} (so : Below numbers) (accesses : Accesses) (i : ℕ) (low : i < length numbers) where
+  one_more : in_order accesses (take (i + 1) numbers) ≡ in_order accesses (take i numbers) ++ access_at accesses (get_or numbers i 0) ∷ []
   one_more = rw (add-one, take-suc numbers i 0 low, map-append)
 
-  pub fewer : length (in_order accesses (take i numbers)) ≡ i
+  fewer : length (in_order accesses (take i numbers)) ≡ i
   fewer = length-map (take i numbers) (access_at accesses) ∙ length-take-le i numbers (omega arith)
 
-pub group_all : (accesses : Accesses) (numbers : List ℕ) (i n : ℕ) {g : GroupSoFar} → i ≡ n → HoldsGroup (in_order accesses (take i numbers)) g
-    → HoldsGroup (in_order accesses (take n numbers)) g
-group_all accesses numbers i n e so = rw (← e) so
+  module _ {g : GroupSoFar} (passed : HoldsGroup (in_order accesses (take i numbers)) g) where
+    pub along_room : Room g
+    along_room = let few = so.few in group-room passed (omega (arith, fewer))
+
+    pub along_more : HoldsGroup (in_order accesses (take (i + 1) numbers))
+        (with_access g (get_or accesses.kinds (get_or numbers i 0) 0) (get_or accesses.ports (get_or numbers i 0) 0))
+    along_more = let few = so.few in rw one_more (group-more passed (omega (arith, fewer)) _ _)

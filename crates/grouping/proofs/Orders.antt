@@ -251,7 +251,7 @@ tables_hold_group r accesses bytes = go (names_accesses r) refl
     go true e =
         let xs = in_order accesses (order_in r) in
         let few : length xs ≤ 32 = rw (length-map (order_in r) (access_at accesses))
-        (omega (arith, take-few r.count r.accesses, order-count r accesses e)) in
+        (omega (arith, take-few r.count r.accesses, order-count r e)) in
         let both = both_lengths 0 0 xs in
         let (loads, stores) = counted-small 0 0 xs (omega arith) (ports-small accesses (order_in r) bytes) in
         small_groups_held (with_offsets xs ∷ []) (rw append-nil (omega arith)) (rw append-nil (omega arith)) (loads, stores, tt)

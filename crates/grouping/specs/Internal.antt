@@ -1,6 +1,6 @@
 -- What the functions within the crate promise each other.
-use Rattle.std.specs.Prelude.{ℕ, ◌+◌, ◌<◌, ◌≡◌, List, eqb, length, set, replicate}
-use Rattle.number.specs.Basics.{pick}
+use Rattle.std.specs.Prelude.{ℕ, ◌+◌, ◌≤◌, ◌<◌, ◌≡◌, true, List, eqb, ltb, length, set, replicate}
+use Rattle.number.specs.Basics.{pick, all_of}
 use Rattle.ordering.specs.declared.Ordered.{Ordered}
 use Rattle.ordering.specs.Records.{order_in}
 use Rattle.table.specs.declared.Pair.{Pair}
@@ -9,10 +9,9 @@ use Rattle.table.specs.declared.Table.{Table}
 use Rattle.table.specs.Packed.{pair, packed_pair, packed_group}
 use Rattle.table.specs.Group.{Access}
 use Rattle.table.specs.TableBytes.{filled}
-use Rattle.grouping.specs.declared.Accesses.{Accesses}
 use Rattle.grouping.specs.declared.PairList.{PairList}
 use Rattle.grouping.specs.declared.GroupSoFar.{GroupSoFar}
-use Rattle.grouping.specs.Grouping.{in_order, with_offsets}
+use Rattle.grouping.specs.Grouping.{names_accesses, with_offsets}
 
 abbrev pub with_pair : PairList → Pair → PairList
 with_pair list p = record { count = list.count + 1; places = set list.places list.count (packed_pair p) }
@@ -29,8 +28,15 @@ pub record Room (g : GroupSoFar) : Type 0 where
   pub loads : g.loads.count < 32
   pub stores : g.stores.count < 32
 
-abbrev pub accesses_of : Ordered → Accesses → List Access
-accesses_of r accesses = in_order accesses (order_in r)
+-- numbers of accesses, and no more of them than there are places
+pub record Below (numbers : List ℕ) : Type 0 where
+  pub few : length numbers ≤ 32
+  pub below : all_of (λ a. ltb a 32) numbers ≡ true
+
+-- those that the record names
+pub record Named (r : Ordered) (numbers : List ℕ) : Type 0 where
+  pub names : names_accesses r ≡ true
+  pub is : numbers ≡ order_in r
 
 -- the record of pairs, and of the group that accesses in their order make
 abbrev pub listed : List Pair → PairList

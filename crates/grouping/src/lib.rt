@@ -2,173 +2,125 @@
 
 #![tactic(auto)]
 
-ghost use Rattle.std.specs.Prelude.{◌≡◌, true, [], ◌<◌};
+ghost use Rattle.std.specs.Prelude.{◌≡◌, ◌≤◌, ◌<◌, false, IfSome, IfNone};
 ghost use Rattle.table.specs.TableBytes.{pack};
-ghost use Rattle.grouping.specs.Grouping.{names_accesses, groups_in_order};
-ghost use Rattle.grouping.specs.Internal.{with_pair, with_access, Room, accesses_of, HoldsGroup, one_group};
+ghost use Rattle.grouping.specs.Grouping.{in_order, names_accesses, groups_in_order};
+ghost use Rattle.grouping.specs.Internal.{with_pair, with_access, Room, Below, Named, HoldsGroup, one_group};
 
 use ordering::{MOST_ACCESSES, Ordered};
 use table::parts::{pack_group, pack_pair};
 use table::{Group, Pair, Span, Table};
 
-// The kind and the port of each access, by its number: kind 0 is a load, and any other a store.
+// The kind and the port of each access, by its number: kind 0 is a load, and any other a store. Two arrays, and no array of pairs,
+// since C hands them in.
 #[repr(C)]
-#[derive(Clone, Copy)]
+#[derive(Clone, Copy, PartialEq, Eq)]
 pub struct Accesses {
     pub kinds: [u8; MOST_ACCESSES],
     pub ports: [u8; MOST_ACCESSES],
 }
 
-// Accesses of one kind, each packed into a number: `count` of them, from the first place on.
-#[derive(Clone, Copy)]
-pub(crate) struct PairList {
-    pub count: u8,
-    pub places: [u16; MOST_ACCESSES],
+// Accesses of one kind, each packed into a number: `count` of them, from the first place on, and 0 behind them. An array with a count,
+// since a table has the places as they are.
+#[derive(Clone, Copy, Default)]
+struct PairList {
+    count: u8,
+    places: [u16; MOST_ACCESSES],
+}
+
+impl PairList {
+    // One access more.
+    fn push(&mut self, pair: Pair)
+        requires { self.old.count < 32 }
+        ensures { self.new ≡ with_pair self.old pair }
+    {
+        self.places[self.count as usize] = pack_pair(pair);
+        self.count += 1;
+    }
 }
 
 // A group in the making: its loads and its stores so far.
-#[derive(Clone, Copy)]
-pub(crate) struct GroupSoFar {
-    pub loads: PairList,
-    pub stores: PairList,
+#[derive(Clone, Copy, Default)]
+struct GroupSoFar {
+    loads: PairList,
+    stores: PairList,
 }
 
-// One access more.
-fn with_pair(list: PairList, pair: Pair) -> PairList
-    requires { list.count < 32 }
-    ensures { result ≡ with_pair list pair }
-{
-    let place = list.count as usize;
-    let mut places = list.places;
-    places[place] = pack_pair(pair);
-    PairList {
-        count: list.count + 1,
-        places,
+impl GroupSoFar {
+    // One access more: its offset counts the accesses of the other kind so far.
+    fn push(&mut self, kind: u8, port: u8)
+        requires { Room self.old }
+        ensures { self.new ≡ with_access self.old kind port }
+    {
+        if kind == 0 {
+            let offset = self.stores.count;
+            self.loads.push(Pair { offset, port });
+        } else {
+            let offset = self.loads.count;
+            self.stores.push(Pair { offset, port });
+        }
     }
-}
 
-// One access more: its offset counts the accesses of the other kind so far.
-fn with_access(group: GroupSoFar, kind: u8, port: u8) -> GroupSoFar
-    requires { Room group }
-    ensures { result ≡ with_access group kind port }
-{
-    let loads = group.loads;
-    let stores = group.stores;
-    if kind == 0 {
-        let load = Pair {
-            offset: stores.count,
-            port,
+    // The table of this group.
+    fn table(&self) -> Table
+        ensures { result ≡ one_group self.now }
+    {
+        let group = Group {
+            loads: Span {
+                first: 0,
+                count: self.loads.count,
+            },
+            stores: Span {
+                first: 0,
+                count: self.stores.count,
+            },
         };
-        return GroupSoFar {
-            loads: with_pair(loads, load),
-            stores,
-        };
-    }
-    let store = Pair {
-        offset: loads.count,
-        port,
-    };
-    GroupSoFar {
-        loads,
-        stores: with_pair(stores, store),
+        let mut groups = [0; 16];
+        groups[0] = pack_group(group);
+        Table {
+            count: 1,
+            groups,
+            loads: self.loads.places,
+            stores: self.stores.places,
+        }
     }
 }
 
-// Is it no refusal, and are its first `count` places numbers of accesses?
-fn names_accesses(order: Ordered) -> bool
-    ensures { result ≡ names_accesses order }
+// The accesses in the order that the record gives, if it is no refusal and its first `count` places are numbers of accesses.
+fn accesses_named(order: &Ordered) -> Option<&[u8]>
+    ensures some { IfSome result (λ numbers. Named order.now numbers.now) }
+    ensures none { IfNone result (names_accesses order.now ≡ false) }
 {
     if order.answer != 0 {
-        return false;
+        return None;
     }
-    let count = order.count as usize;
-    if count > MOST_ACCESSES {
-        return false;
-    }
-    let mut i: usize = 0;
-    while i < count {
-        if order.accesses[i] >= 32 {
-            return false;
-        }
-        i += 1;
-    }
-    true
+    let numbers = order.accesses.get(..order.count as usize)?;
+    let named = numbers
+        .iter()
+        .all(|access| (*access as usize) < MOST_ACCESSES);
+    named.then_some(numbers)
 }
 
 // The loads and the stores along an order.
-fn count_offsets(order: Ordered, accesses: Accesses) -> GroupSoFar
-    requires { names_accesses order ≡ true }
-    ensures { HoldsGroup (accesses_of order accesses) result }
+fn count_offsets(numbers: &[u8], accesses: &Accesses) -> GroupSoFar
+    requires { Below numbers.now }
+    ensures { HoldsGroup (in_order accesses.now numbers.now) result }
 {
-    let count = order.count as usize;
-    let mut group = GroupSoFar {
-        loads: PairList {
-            count: 0,
-            places: [0; MOST_ACCESSES],
-        },
-        stores: PairList {
-            count: 0,
-            places: [0; MOST_ACCESSES],
-        },
-    };
-    let mut i: usize = 0;
-    while i < count {
-        let access = order.accesses[i] as usize;
-        group = with_access(group, accesses.kinds[access], accesses.ports[access]);
-        i += 1;
+    let mut group = GroupSoFar::default();
+    for access in numbers {
+        let access = *access as usize;
+        group.push(accesses.kinds[access], accesses.ports[access]);
     }
     group
 }
 
-// The table of this group.
-fn one_group(group: GroupSoFar) -> Table
-    ensures { result ≡ one_group group }
-{
-    let loads = group.loads;
-    let stores = group.stores;
-    let load_span = Span {
-        first: 0,
-        count: loads.count,
-    };
-    let store_span = Span {
-        first: 0,
-        count: stores.count,
-    };
-    let mut groups = [0u32; 16];
-    groups[0] = pack_group(Group {
-        loads: load_span,
-        stores: store_span,
-    });
-    let load_places = loads.places;
-    let store_places = stores.places;
-    Table {
-        count: 1,
-        groups,
-        loads: load_places,
-        stores: store_places,
-    }
-}
-
-// The table of no groups.
-fn no_group() -> Table
-    ensures { result ≡ pack [] }
-{
-    Table {
-        count: 0,
-        groups: [0; 16],
-        loads: [0; MOST_ACCESSES],
-        stores: [0; MOST_ACCESSES],
-    }
-}
-
 // The table whose one group has the accesses in this order. Where the record is a refusal, or has a count or an access above what an
 // order has, it is the table of no groups, which writing and opening refuse with 4.
-pub fn table_in_order(order: Ordered, accesses: Accesses) -> Table
-    ensures { result ≡ pack (groups_in_order order accesses) }
+pub fn table_in_order(order: &Ordered, accesses: &Accesses) -> Table
+    ensures { result ≡ pack (groups_in_order order.now accesses.now) }
 {
-    if !names_accesses(order) {
-        return no_group();
+    match accesses_named(order) {
+        Some(numbers) => count_offsets(numbers, accesses).table(),
+        None => Table::none(),
     }
-    let group = count_offsets(order, accesses);
-    one_group(group)
 }

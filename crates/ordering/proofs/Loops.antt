@@ -1,95 +1,27 @@
--- What the loops keep: each invariant is a record, so that a law finds its arguments from it.
+-- The search for the next access, and what the loop that places them keeps: a record, so that a law finds its arguments from it.
 use Prim.Native.Nat.{ℕ, zero, suc, ◌+◌, ◌-◌, ◌≤◌, ◌<◌}
 use native.Mathlib.Omega.{arith}
 use native.Mathlib.Numerals.{add-one}
 use mathlib.Core.Path.{◌≡◌, refl, sym, ◌∙◌, fun_ext}
-use mathlib.Core.Bool.{Bool, true, false, cond, not, ◌&&◌, ◌||◌}
+use mathlib.Core.Bool.{Bool, true, false, cond, not, ◌&&◌}
 use mathlib.Core.List.{List, [], ◌∷◌, ◌++◌, append-nil, append_assoc}
 use mathlib.Core.Option.{Option, none, some}
 use lib.Dec.{eqb, ltb}
 use lib.ListN.{length, take, drop, get_or, set, replicate}
-use lib.Seq.{take_all, length-take-le, take-suc, take-suc-set, get_or-take, get_or-set_same, get_or-set_other}
+use lib.Seq.{take_all, length-take-le, take-suc-set, get_or-take, get_or-set_same, get_or-set_other}
 use Rattle.std.specs.Prelude.{Some, None}
 use Rattle.std.specs.List.{position, position_or_len}
 use Rattle.std.proofs.lemmas.List.Sums.{passes_at_first, fails_before_first}
 use borrow.Author.Tests.{eqb-true, eqb-false, lt-ltb, le-ltb, ltb-true, ltb-false}
-use Rattle.number.specs.Basics.{any_of}
 use Rattle.number.specs.Reply.{refuse, accept}
 use Rattle.number.specs.Refusal.{circle}
 use Rattle.number.proofs.HeldLaws.{drop-replicate}
 use Rattle.ordering.specs.declared.Precedence.{Precedence}
-use Rattle.ordering.specs.Answer.{seek, Waiting, without, blocks, followed, next, arrange, arranged}
-use Rattle.ordering.specs.Records.{blank_precedence, ordered}
-use Rattle.ordering.specs.Internal.{waits, unmarked, Unready, NextIs}
-use Rattle.ordering.proofs.Tests.{or_true}
-
--- ---- the accesses that are not ready, marked pair by pair
-
-or_false : (t : Bool) → t || false ≡ t
-or_false true = refl
-or_false false = refl
-
-any_more : {A : Type 0} (p : A → Bool) (xs : List A) (x : A) → any_of p (xs ++ x ∷ []) ≡ any_of p xs || p x
-any_more p [] x = or_false (p x)
-any_more p (y ∷ ys) x = rw (any_more p ys x) (go (p y))
-  where
-    go : (t : Bool) → t || (any_of p ys || p x) ≡ (t || any_of p ys) || p x
-    go true = refl
-    go false = refl
-
--- the first i pairs were looked at
-pub record Marked (w : Waiting) (placed marks : List Bool) (pairs : List Precedence) (i : ℕ) : Type 0 where
-  pub is : (a : ℕ) → get_or marks a false ≡ get_or placed a false || any_of (blocks w a) (take i pairs)
-
-pub marked_none : {w : Waiting} {placed : List Bool} {pairs : List Precedence} → Marked w placed placed pairs 0
-marked_none {w} {placed} = record { is = λ a. sym (or_false (get_or placed a false)) }
-
-module _ {w : Waiting} {placed marks : List Bool} {pairs : List Precedence} {i : ℕ} (so : Marked w placed marks pairs i) (low : i < length pairs) where
-  abbrev pair : Precedence
-  pair = get_or pairs i blank_precedence
-
-  abbrev passed : ℕ → Bool
-  passed a = any_of (blocks w a) (take i pairs)
-
-  one_more : (a : ℕ) → any_of (blocks w a) (take (i + 1) pairs) ≡ passed a || blocks w a pair
-  one_more a = rw (add-one, take-suc pairs i blank_precedence low) (any_more (blocks w a) (take i pairs) pair)
-
-  or-last : (s t : Bool) → s || t ≡ s || (t || false)
-  or-last s t = rw (or_false t)
-
-  or-all : (s t : Bool) → true ≡ s || (t || true)
-  or-all s t = rw (or_true t, or_true s)
-
-  pub marked-keep : w pair.first ≡ false → Marked w placed marks pairs (i + 1)
-  marked-keep e = record { is = λ a. so.is a ∙ rw (one_more a, e) (or-last (get_or placed a false) (passed a)) }
-
-  pub marked-set : w pair.first ≡ true → pair.second < length marks → Marked w placed (set marks pair.second true) pairs (i + 1)
-  marked-set e room = record { is = λ a. go a (eqb pair.second a) refl }
-    where
-      go : (a : ℕ) (t : Bool) → eqb pair.second a ≡ t
-          → get_or (set marks pair.second true) a false ≡ get_or placed a false || any_of (blocks w a) (take (i + 1) pairs)
-      go a true d =
-          let is : get_or (set marks pair.second true) a false ≡ true =
-          rw (← eqb-true pair.second a d) (get_or-set_same marks pair.second true false room) in
-          is ∙ rw (one_more a, e, d) (or-all (get_or placed a false) (passed a))
-      go a false d =
-          get_or-set_other marks pair.second a true false (λ q. eqb-false pair.second a d (sym q))
-          ∙ so.is a ∙ rw (one_more a, e, d) (or-last (get_or placed a false) (passed a))
-
--- all pairs were looked at: the marks are those of the accesses that are not ready
-pub marked-unready : {n : ℕ} {placed marks : List Bool} {pairs : List Precedence} {i : ℕ} → Marked (waits n placed) placed marks pairs i → length pairs ≤ i
-    → Unready n pairs placed marks
-marked-unready {n} {placed} {marks} {pairs} {i} so high = record { is = λ a low. rw (so.is a, take_all i pairs high, lt-ltb a n low) (go (get_or placed a false) _) }
-  where
-    go : (s t : Bool) → not (s || t) ≡ not s && not t
-    go true t = refl
-    go false t = refl
+use Rattle.ordering.specs.Answer.{seek, Waiting, without, followed, next, arrange, arranged}
+use Rattle.ordering.specs.Records.{ordered}
+use Rattle.ordering.specs.Internal.{waits, unmarked, NextIs}
 
 -- ---- the search
-
-pub seek_same : (p q : ℕ → Bool) (k i : ℕ) → ((a : ℕ) → a < i + k → p a ≡ q a) → seek p k i ≡ seek q k i
-seek_same p q zero i h = refl
-seek_same p q (suc k) i h = rw (h i (omega arith), seek_same p q k (suc i) (λ a l. h a (omega arith)))
 
 -- the first that passes, and none
 pub seek-is : (p : ℕ → Bool) (k i a : ℕ) → i ≤ a → a < i + k → p a ≡ true → ((b : ℕ) → b < a → p b ≡ false) → seek p k i ≡ a

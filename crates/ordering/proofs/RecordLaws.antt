@@ -1,20 +1,14 @@
 -- Laws of the records: the pairs handed in, by their places, and the answer read back.
 use Prim.Native.Nat.{ℕ, ◌<◌}
 use mathlib.Core.Path.{◌≡◌, refl}
-use mathlib.Core.Bool.{Bool, true, ◌&&◌}
+use mathlib.Core.Bool.{Bool, ◌&&◌}
 use mathlib.Core.List.{List}
-use lib.Dec.{ltb}
 use lib.ListN.{length, get_or}
-use borrow.Author.Tests.{ltb-true}
 use Rattle.std.specs.List.{list_all}
 use Rattle.std.proofs.lemmas.List.Recursion.{same_from_clauses}
 use Rattle.number.specs.Basics.{all_of}
-use Rattle.number.proofs.AllLaws.{all_at}
-use Rattle.number.proofs.Both.{and_left, and_right}
 use Rattle.number.proofs.HeldLaws.{held-here, held-length}
-use Rattle.ordering.specs.declared.Precedence.{Precedence}
 use Rattle.ordering.specs.declared.Precedences.{Precedences}
-use Rattle.ordering.specs.Answer.{all_listed}
 use Rattle.ordering.specs.Records.{blank_precedence, precedences_of}
 
 module _ (pairs : Precedences) where
@@ -27,11 +21,3 @@ module _ (pairs : Precedences) where
 -- std's word for `all_of`
 pub list_all-is : {A : Type 0} (test : A → Bool) (xs : List A) → list_all test xs ≡ all_of test xs
 list_all-is test = same_from_clauses (list_all test) (all_of test) (λ x rest. test x && rest) refl (λ _ _. refl) (λ _ _. refl)
-
--- what 43 has ruled out, of one pair
-pub listed_here : (n : ℕ) (pairs : List Precedence) (i : ℕ) → all_listed n pairs ≡ true → i < length pairs
-    → ((get_or pairs i blank_precedence).first < n) × ((get_or pairs i blank_precedence).second < n)
-listed_here n pairs i h low =
-    let p = get_or pairs i blank_precedence in
-    let e : ltb p.first n && ltb p.second n ≡ true = all_at _ pairs i blank_precedence h low in
-    (ltb-true p.first n (and_left (ltb p.first n) _ e), ltb-true p.second n (and_right (ltb p.first n) _ e))

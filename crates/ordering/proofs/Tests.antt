@@ -15,10 +15,6 @@ use Rattle.ordering.specs.Answer.{seek, Waiting, without, blocks, ready}
 pub false-true : {A : Type 0} → false ≡ true → A
 false-true e = absurd (false≢true e)
 
--- from a clash of constructors, which `cc` finds
-pub zero_one : {A : Type 0} → ◌≡◌ {A = ℕ} 0 1 → A
-zero_one e = let z : ⊥ = omega arith in absurd z
-
 pub or_true : (a : Bool) → a || true ≡ true
 or_true true = refl
 or_true false = refl
@@ -110,13 +106,6 @@ pub without_other : (w : Waiting) (a b : ℕ) → (a ≡ b → ⊥) → without 
 without_other w a b other = rw (ne_eqb a b other) (go (w b))
   where
     go : (t : Bool) → t && true ≡ t
-    go true = refl
-    go false = refl
-
-pub without_self : (w : Waiting) (a : ℕ) → without a w a ≡ false
-without_self w a = rw (eq-eqb a a refl) (go (w a))
-  where
-    go : (t : Bool) → t && false ≡ false
     go true = refl
     go false = refl
 

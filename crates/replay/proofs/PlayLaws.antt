@@ -9,8 +9,6 @@ use Rattle.trace.specs.declared.Event.TheVariants.{Activate, LoadAddress, StoreA
 use Rattle.counts.specs.declared.Counts.{Counts}
 use Rattle.queue.specs.declared.arguments.Argument.{Argument}
 use Rattle.queue.specs.declared.Queue.{Queue}
-use Rattle.queue.specs.declared.Outcome.{Outcome}
-use Rattle.queue.specs.declared.Counted.{Counted}
 use Rattle.number.specs.Reply.{Reply, refuse, accept}
 use Rattle.queue.specs.Contents.{Contents, contents_of}
 use Rattle.queue.specs.Activate.{activate}
@@ -18,7 +16,7 @@ use Rattle.queue.specs.Arguments.{give}
 use Rattle.queue.specs.Serve.{Served, serve}
 use Rattle.queue.specs.Write.{Written, write}
 use Rattle.queue.specs.Take.{Taken, take_rule}
-use Rattle.queue.specs.Outcome.{Handed, handed, no_value, HandedCounts, value_in, Moves, Takes, Serves, Writes, with_counts}
+use Rattle.queue.specs.Outcome.{Outcome, Counted, no_value, HandedCounts, Moves, Takes, Serves, Writes, with_counts}
 use Rattle.queue.specs.Parts.{whole, on_parts}
 use Rattle.sequential.specs.Answers.{Machine, Response, move_response, serve_response, write_response, take_response, machine}
 use Rattle.replay.specs.Playing.{Playing, playing, step_of, counts_after, after_serve}
@@ -32,7 +30,7 @@ module _ (q : Queue) (c : Counts) (m : List ℕ) (e : Event) where
   now = playing (contents_of q) m c
 
   -- what a step gives, piece by piece
-  from_step : (s : Response) (r : Counted) (left : List ℕ) → step_of now e ≡ s → s.number ≡ r.answer → s.value ≡ value_in r.value
+  from_step : (s : Response) (r : Counted) (left : List ℕ) → step_of now e ≡ s → s.number ≡ r.answer → s.value ≡ r.value
       → s.machine ≡ machine (contents_of r.queue) left → counts_after now e ≡ r.counts → Plays q c m e r left
   from_step s r left is number value next counts = record {
     answer = ap (λ (x : Response). x.number) is ∙ number;
@@ -42,10 +40,10 @@ module _ (q : Queue) (c : Counts) (m : List ℕ) (e : Event) where
 
   -- a refused call plays nothing
   refused-plays : {n : ℕ} (o : Outcome) (left : List ℕ) → step_of now e ≡ record { number = n; value = none; machine = machine (contents_of q) m }
-      → handed o ≡ no_value n q → left ≡ m → counts_after now e ≡ c → Plays q c m e (with_counts o c) left
+      → o ≡ no_value n q → left ≡ m → counts_after now e ≡ c → Plays q c m e (with_counts o c) left
   refused-plays o left is h same counts =
-      from_step _ (with_counts o c) left is (sym (ap (λ (x : Handed). x.answer) h)) (sym (ap (λ (x : Handed). x.value) h))
-      (ap₂ machine (sym (ap (λ (x : Handed). contents_of x.queue) h)) (sym same)) counts
+      from_step _ (with_counts o c) left is (sym (ap (λ (x : Outcome). x.answer) h)) (sym (ap (λ (x : Outcome). x.value) h))
+      (ap₂ machine (sym (ap (λ (x : Outcome). contents_of x.queue) h)) (sym same)) counts
 
   moves-play : (rule : Reply Contents) (o : Outcome) → step_of now e ≡ move_response (machine (contents_of q) m) rule → counts_after now e ≡ c
       → Moves q rule o → Plays q c m e (with_counts o c) m
@@ -69,8 +67,8 @@ module _ (q : Queue) (c : Counts) (m : List ℕ) (e : Event) where
       → counts_after now e ≡ after_serve c rule → Serves q c rule r → Plays q c m e r m
   serves-play (refuse n) r is counts w =
       let h = ap (λ (x : HandedCounts). x.outcome) w in
-      from_step _ r m is (sym (ap (λ (x : Handed). x.answer) h)) (sym (ap (λ (x : Handed). x.value) h))
-      (sym (ap (λ (x : Handed). machine (contents_of x.queue) m) h)) (counts ∙ sym (ap (λ (x : HandedCounts). x.counts) w))
+      from_step _ r m is (sym (ap (λ (x : Outcome). x.answer) h)) (sym (ap (λ (x : Outcome). x.value) h))
+      (sym (ap (λ (x : Outcome). machine (contents_of x.queue) m) h)) (counts ∙ sym (ap (λ (x : HandedCounts). x.counts) w))
   serves-play (accept s) r is counts w = from_step _ r m is (sym w.answer) (sym w.gives) (ap (λ (x : Contents). machine x m) (sym w.holds))
       (counts ∙ sym w.counts)
 

@@ -1,4 +1,7 @@
 -- Laws of playing events one after another into lent buffers.
+use Rattle.std.specs.Prelude as code
+use Rattle.std.specs.Prelude.{Result, Ok, Err}
+use Rattle.number.specs.declared.refusal.Refusal.{Refusal}
 use Prim.Native.Nat.{ℕ, suc, ◌+◌, ◌≤◌, ◌<◌}
 use mathlib.Core.Bool.{true, false, ◌&&◌}
 use mathlib.Core.Path.{◌≡◌, refl, sym, ap, ap₂, ◌∙◌}
@@ -15,16 +18,14 @@ use Rattle.number.specs.Refusal.{too_short, wrong_memory}
 use Rattle.table.specs.Group.{GroupPairs}
 use Rattle.trace.specs.declared.Event.{Event}
 use Rattle.counts.specs.declared.Counts.{Counts}
-use Rattle.queue.specs.declared.Counted.{Counted}
 use Rattle.queue.specs.declared.Queue.{Queue}
 use Rattle.queue.specs.Contents.{Contents, contents_of}
-use Rattle.queue.specs.Outcome.{value_in}
+use Rattle.queue.specs.Outcome.{with_counts, may_give}
 use Rattle.number.proofs.Both.{and_left, and_right}
-use Rattle.replay.specs.declared.Replayed.{Replayed}
 use Rattle.replay.specs.Events.{events_from}
-use Rattle.replay.specs.Playing.{Playing, playing, played, step_of, Logged, logged, log, played_all, answer_of, given_of, word_of}
+use Rattle.replay.specs.Playing.{Playing, playing, played, step_of, Logged, logged, log, played_all, answer_of, given_of, word_of, number_of, value_of}
 use Rattle.replay.specs.Replay.{Start, prepare, replayed, Buffers, fits, replay_start, replay_from, replay}
-use Rattle.replay.specs.Outcome.{at_front, log_in, Unreplayed, ReplayedWell, Replays}
+use Rattle.replay.specs.Outcome.{Replayed, at_front, log_in, Unreplayed, ReplayedWell, Replays}
 use Rattle.replay.specs.Internal.{Plays, PutAnswer, Playable, events_in, through}
 use Rattle.trace.proofs.TraceSteps.{EventGot}
 use Rattle.replay.proofs.PrepareLaws.{prepare_proper}
@@ -130,26 +131,44 @@ module _ {s : List ℕ} {start : ℕ} {p₀ : Playing} {b₀ : Buffers} {place i
 same_buffers : {a a₂ g g₂ w w₂ : List ℕ} → a ≡ a₂ → g ≡ g₂ → w ≡ w₂ → buffers a g w ≡ buffers a₂ g₂ w₂
 same_buffers e f h = cc
 
+-- an answer of the code in the papers' terms
+abbrev Answer : Type 0
+Answer = Result (code.Option ℕ) Refusal
+
+number_same : (a : Answer) (q : Queue) → (may_give a q).answer ≡ number_of a
+number_same (Ok v) q = refl
+number_same (Err e) q = refl
+
+value_same : (a : Answer) (q : Queue) → (may_give a q).value ≡ value_of a
+value_same (Ok v) q = refl
+value_same (Err e) q = refl
+
+queue_same : (a : Answer) (q : Queue) → (may_give a q).queue ≡ q
+queue_same (Ok v) q = refl
+queue_same (Err e) q = refl
+
 -- one event more
-pub walk_more : {s : List ℕ} {start : ℕ} {p₀ : Playing} {b₀ b b₂ : Buffers} {place i next : ℕ} {q : Queue} {c : Counts}
+pub walk_more : {s : List ℕ} {start : ℕ} {p₀ : Playing} {b₀ b b₂ : Buffers} {place i next : ℕ} {q : Queue} {c c₂ : Counts}
     {m left : List ℕ} {e : Event}
-    (r : Counted) → Walk s start p₀ b₀ place i (playing (contents_of q) m c) b → EventGot s place e next → Plays q c m e r left
-    → PutAnswer r.answer r.value i b b₂ → Walk s start p₀ b₀ next (i + 1) (playing (contents_of r.queue) left r.counts) b₂
-walk_more {s} {start} {p₀} {b₀} {b} {b₂} {place} {i} {next} {q} {c} {m} {left} {e} r k ev pl put =
+    (a : Answer) (q₂ : Queue) → Walk s start p₀ b₀ place i (playing (contents_of q) m c) b → EventGot s place e next
+    → Plays q c m e (with_counts (may_give a q₂) c₂) left → PutAnswer (number_of a) (value_of a) i b b₂
+    → Walk s start p₀ b₀ next (i + 1) (playing (contents_of q₂) left c₂) b₂
+walk_more {s} {start} {p₀} {b₀} {b} {b₂} {place} {i} {next} {q} {c} {c₂} {m} {left} {e} a q₂ k ev pl put =
     let n = next_left k.left k.reads ev in
     let l : length k.left ≡ suc (length n.rest) = ap length n.is in
     let p = playing (contents_of q) m c in
-    let after = playing (contents_of r.queue) left r.counts in
-    let new = as_logged r.answer (value_in r.value) in
-    let same : logged (step_of p e) ≡ new = ap₂ as_logged pl.answer pl.value in
+    let after = playing (contents_of q₂) left c₂ in
+    let new = as_logged (number_of a) (value_of a) in
+    let follows : played p e ≡ after = pl.next ∙ ap (λ (x : Queue). playing (contents_of x) left c₂) (queue_same a q₂) in
+    let same : logged (step_of p e) ≡ new = ap₂ as_logged (pl.answer ∙ number_same a q₂) (pl.value ∙ value_same a q₂) in
     let tail : log p k.left ≡ new ∷ log after n.rest =
-    ap (log p) n.is ∙ ap₂ (λ (h : Logged) (z : Playing). h ∷ log z n.rest) same pl.next in
+    ap (log p) n.is ∙ ap₂ (λ (h : Logged) (z : Playing). h ∷ log z n.rest) same follows in
     record {
       done = k.done ++ new ∷ [];
       left = n.rest;
       reads = n.reads;
       logs = k.logs ∙ ap (λ (t : List Logged). k.done ++ t) tail ∙ sym (append_snoc k.done new _);
-      ends = k.ends ∙ ap (played_all p) n.is ∙ ap (λ (z : Playing). played_all z n.rest) pl.next;
+      ends = k.ends ∙ ap (played_all p) n.is ∙ ap (λ (z : Playing). played_all z n.rest) follows;
       many = length-append k.done (new ∷ []) ∙ omega (arith, k.many);
       are = same_buffers
           (put.answers ∙ ap (λ (z : Buffers). set z.answers i (answer_of new)) k.are

@@ -1,7 +1,6 @@
 -- What the crate's own functions promise each other: nothing here is promised to a caller from outside.
-use Rattle.std.specs.Prelude as code
-use Rattle.std.specs.Prelude.{ℕ, Result, ◌≡◌, true, List, [], length, set}
-use Rattle.number.specs.declared.refusal.Refusal.{Refusal}
+use Rattle.std.specs.Prelude.{ℕ, ◌≡◌, true, List, [], length, set}
+use Rattle.std.proofs.Math.Option.{Option}
 use Rattle.number.specs.Reply.{Reply, refuse, accept}
 use Rattle.trace.specs.declared.Event.{Event}
 use Rattle.counts.specs.declared.Counts.{Counts}
@@ -9,7 +8,7 @@ use Rattle.queue.specs.declared.Queue.{Queue}
 use Rattle.queue.specs.Contents.{contents_of}
 use Rattle.queue.specs.Outcome.{Counted}
 use Rattle.replay.specs.Events.{events_from}
-use Rattle.replay.specs.Playing.{Playing, playing, step_of, played, log, played_all, number_of, value_of, given_in, word_in}
+use Rattle.replay.specs.Playing.{Playing, playing, step_of, played, log, played_all, given_in, word_in}
 use Rattle.replay.specs.Replay.{Replay, Buffers, fits}
 
 -- every event from a place on can be read, and there is room for what each is answered
@@ -35,7 +34,7 @@ pub record Plays (q : Queue) (c : Counts) (memory : List ℕ) (e : Event) (r : C
   pub next : played (playing (contents_of q) memory c) e ≡ playing (contents_of r.queue) left r.counts
 
 -- an answer and a value stand at a place of the buffers
-pub record PutAnswer (answer : Result (code.Option ℕ) Refusal) (i : ℕ) (b b₂ : Buffers) : Type 0 where
-  pub answers : b₂.answers ≡ set b.answers i (number_of answer)
-  pub given : b₂.given ≡ set b.given i (given_in (value_of answer))
-  pub values : b₂.values ≡ set b.values i (word_in (value_of answer))
+pub record PutAnswer (answer : ℕ) (value : Option ℕ) (i : ℕ) (b b₂ : Buffers) : Type 0 where
+  pub answers : b₂.answers ≡ set b.answers i answer
+  pub given : b₂.given ≡ set b.given i (given_in value)
+  pub values : b₂.values ≡ set b.values i (word_in value)

@@ -1,6 +1,6 @@
 // Playing one event: a call on the queue's parts, whose answer and value are put into the buffers.
 ghost use Rattle.std.specs.Prelude.{◌≡◌, ◌<◌, length, true};
-ghost use Rattle.queue.specs.Outcome.{with_counts, handed, value_in};
+ghost use Rattle.queue.specs.Outcome.{with_counts, may_give};
 ghost use Rattle.queue.specs.Parts.{queue_of, whole, OpenedAlike};
 ghost use Rattle.replay.specs.Playing.{number_of, value_of, given_in, word_in};
 ghost use Rattle.replay.specs.Internal.{Plays, PutAnswer};
@@ -26,7 +26,7 @@ pub(crate) fn play_event(
 ) -> Result<Option<u32>, Refusal>
     requires { whole loads.old stores.old ≡ true }
     ensures plays { Plays (queue_of frame.old loads.old stores.old) counts.old memory.old event
-        (with_counts (handed value_in result (queue_of frame.new loads.new stores.new)) counts.new) memory.new }
+        (with_counts (may_give result (queue_of frame.new loads.new stores.new)) counts.new) memory.new }
     ensures opening { OpenedAlike frame.old frame.new }
 {
     match event {
@@ -43,9 +43,7 @@ pub(crate) fn play_event(
         Event::Serve { serial } => {
             serve_in(frame, loads, stores, memory, counts, serial).map(Some)
         }
-        Event::Write { serial } => {
-            write_in(frame, loads, stores, memory, serial).map(|()| None)
-        }
+        Event::Write { serial } => { write_in(frame, loads, stores, memory, serial).map(|()| None) }
         Event::Take { port } => take_in(frame, loads, stores, port).map(Some),
     }
 }
@@ -89,7 +87,7 @@ pub(crate) fn put(
     values: &mut [u32],
 )
     requires { (i < length answers.old) × (i < length given.old) × (i < length values.old) }
-    ensures { PutAnswer answer i (record { answers = answers.old; given = given.old; values = values.old })
+    ensures { PutAnswer (number_of answer) (value_of answer) i (record { answers = answers.old; given = given.old; values = values.old })
         (record { answers = answers.new; given = given.new; values = values.new }) }
 {
     answers[i] = number_of(answer);

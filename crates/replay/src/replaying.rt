@@ -85,9 +85,7 @@ pub fn replay_from(
     if !have_room(events, answers.len(), given.len(), values.len()) {
         return Err(Refusal::TooShort);
     }
-    Ok(play_all(
-        queue, counts, trace, at, memory, answers, given, values,
-    ))
+    Ok(play_all(queue, counts, trace, at, memory, answers, given, values))
 }
 
 // Replays a trace from a fresh opening of the table, as its events are replayed; where it cannot be opened it answers that fault,

@@ -38,12 +38,7 @@ const COMMANDS: [(&[u8], Command); 8] = [
 ];
 
 // What a command does with the bytes behind it.
-fn obey(
-    out: &mut impl Write,
-    files: &mut Files,
-    command: Command,
-    bytes: &[u8],
-) -> io::Result<()> {
+fn obey(out: &mut impl Write, files: &mut Files, command: Command, bytes: &[u8]) -> io::Result<()> {
     match command {
         Command::Table => {
             files.table.clear();

@@ -1,4 +1,6 @@
 // A replay of the trace on the table, with all that was lent as it is left.
+ghost use Rattle.std.specs.Prelude.{◌≤◌};
+
 use crate::files::Files;
 use counts::Counts;
 use number::refusal::Refusal;
@@ -19,41 +21,27 @@ struct Lent {
     values: [u32; 14],
 }
 
-fn lent() -> Lent {
-    Lent {
-        memory: [9; 8],
-        counts: Counts {
-            loads: 5,
-            forwarded: 3,
-        },
-        answers: [238; 14],
-        given: [238; 14],
-        values: [7777; 14],
+impl Lent {
+    fn fresh() -> Lent {
+        Lent {
+            memory: [9; 8],
+            counts: Counts {
+                loads: 5,
+                forwarded: 3,
+            },
+            answers: [238; 14],
+            given: [238; 14],
+            values: [7777; 14],
+        }
     }
 }
 
 // The byte at a place as a length, at most so large; 0 where there is none.
-fn within(lengths: &[u8], place: usize, most: usize) -> usize {
+fn within(lengths: &[u8], place: usize, most: usize) -> usize
+    ensures { result ≤ most }
+{
     let length = lengths.get(place).copied().unwrap_or(0);
     (length as usize).min(most)
-}
-
-// Lends the first words of the memory, and the first places of each buffer, as the lengths say.
-fn replay_in(
-    lengths: &[u8],
-    table: &Table,
-    trace: &[u8],
-    lent: &mut Lent,
-) -> Result<usize, Refusal> {
-    replaying::replay(
-        table,
-        trace,
-        &mut lent.memory[..within(lengths, 0, 8)],
-        &mut lent.counts,
-        &mut lent.answers[..within(lengths, 1, 14)],
-        &mut lent.given[..within(lengths, 2, 14)],
-        &mut lent.values[..within(lengths, 3, 14)],
-    )
 }
 
 // Words, and numbers, each with a space before it.
@@ -79,11 +67,19 @@ fn show(out: &mut impl Write, played: Result<usize, Refusal>, lent: &Lent) -> io
     numbers(out, b"\n  values", &lent.values)
 }
 
-// The lengths are those of the memory, the answers, the marks of given values, and the values. A table that cannot be read counts as
-// none.
+// Lends the first words of the memory, and the first places of the answers, the marks of given values and the values, as the lengths
+// say. A table that cannot be read counts as none.
 pub(crate) fn replay(out: &mut impl Write, files: &Files, lengths: &[u8]) -> io::Result<()> {
     let table = read_table(&files.table).unwrap_or(Table::none());
-    let mut lent = lent();
-    let played = replay_in(lengths, &table, &files.trace, &mut lent);
+    let mut lent = Lent::fresh();
+    let played = replaying::replay(
+        table,
+        &files.trace,
+        &mut lent.memory[..within(lengths, 0, 8)],
+        &mut lent.counts,
+        &mut lent.answers[..within(lengths, 1, 14)],
+        &mut lent.given[..within(lengths, 2, 14)],
+        &mut lent.values[..within(lengths, 3, 14)],
+    );
     show(out, played, &lent)
 }

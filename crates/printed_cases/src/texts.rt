@@ -6,6 +6,11 @@ use printed::text::MOST_TEXT;
 use std::io;
 use std::io::Write;
 
+// Of its own, so that nothing is proved where so long a literal stands.
+fn text_buffer() -> [u8; MOST_TEXT] {
+    [0xEE; MOST_TEXT]
+}
+
 // Says whether some bytes are all EE still.
 fn show_kept(out: &mut impl Write, rest: &[u8]) -> io::Result<()> {
     if rest.iter().all(|byte| *byte == 0xEE) {
@@ -37,7 +42,7 @@ fn show_text(
 
 // The text in a buffer of so many bytes, which are no more than there is room for.
 pub(crate) fn print(out: &mut impl Write, files: &Files, length: usize) -> io::Result<()> {
-    let mut room = [0xEE; MOST_TEXT];
+    let mut room = text_buffer();
     let buffer = &mut room[..length.min(MOST_TEXT)];
     let written = text::print(&files.table, &files.trace, buffer);
     show_text(out, buffer, written)
@@ -64,7 +69,7 @@ fn show_end(out: &mut impl Write, text: &[u8]) -> io::Result<()> {
 
 // A text that is too long to be stored: its length, its checksum and its end.
 pub(crate) fn measure(out: &mut impl Write, files: &Files) -> io::Result<()> {
-    let mut buffer = [0xEE; MOST_TEXT];
+    let mut buffer = text_buffer();
     if let Ok(count) = text::print(&files.table, &files.trace, &mut buffer) {
         write!(out, ": bytes {count}")?;
         if let Some(text) = buffer.get(..count) {

@@ -3,54 +3,22 @@ use Prim.Native.Nat.{ℕ}
 use mathlib.Core.Path.{◌≡◌, refl, ap, ◌∙◌}
 use mathlib.Core.List.{List, []}
 use mathlib.Core.Option.{Option}
-use Rattle.table.specs.declared.Table.{Table}
-use Rattle.number.specs.Refusal.{bad_group_count}
-use Rattle.table.specs.Table.{groups_of, check_table}
-use Rattle.table.specs.TableBytes.{pack}
 use Rattle.counts.specs.declared.Counts.{Counts}
-use Rattle.queue.specs.declared.opening.OpenedFrame.{OpenedFrame}
-use Rattle.queue.specs.Open.{no_frame, open_queue}
-use Rattle.queue.specs.Parts.{OpensFrame}
 use Rattle.queue.specs.declared.Queue.{Queue}
-use Rattle.queue.specs.declared.Frame.{Frame}
-use Rattle.queue.specs.declared.Outcome.{Outcome}
-use Rattle.queue.specs.declared.Counted.{Counted}
 use Rattle.number.specs.Reply.{Reply, refuse, accept, and_then}
 use Rattle.queue.specs.Contents.{Contents}
 use Rattle.queue.specs.Serve.{Served}
 use Rattle.queue.specs.Write.{Written}
 use Rattle.queue.specs.Take.{Taken}
-use Rattle.queue.specs.Outcome.{Handed, HandedCounts, Accepted, Moves, Takes, Writes, Serves}
+use Rattle.queue.specs.Outcome.{Outcome, Counted, HandedCounts, Accepted, Moves, Takes, Writes, Serves}
 use Rattle.replay.specs.Playing.{given_in, word_in, after_serve}
 use Rattle.live.specs.Internal.{told_of, told_served}
 use Rattle.live.specs.Calls as Live
 use Rattle.live.specs.Calls.{LiveTells, move_gives, take_gives, write_gives, serve_gives, memory_after}
 
-accepted-tells : {v : Option ℕ} {q : Contents} {o : Outcome} → Accepted v q o → Live.LiveAccepted (record { value = v; queue = q }) (told_of o)
-accepted-tells a = record {
-  answer = a.answer;
-  given = ap given_in a.gives;
-  value = ap word_in a.gives;
-  holds = a.holds;
-}
-
 -- what was handed back, as a live call tells it
-abbrev told_handed : Handed → Live.LiveTold
-told_handed h = record { answer = h.answer; given = given_in h.value; value = word_in h.value; queue = h.queue }
-
-module _ (q : Queue) (o : Outcome) where
-  pub moves-tell : (rule : Reply Contents) → Moves q rule o → LiveTells q (and_then rule move_gives) (told_of o)
-  moves-tell (refuse n) e = ap told_handed e
-  moves-tell (accept c) a = accepted-tells a
-
-  pub takes-tell : (rule : Reply Taken) → Takes q rule o → LiveTells q (and_then rule take_gives) (told_of o)
-  takes-tell (refuse n) e = ap told_handed e
-  takes-tell (accept t) a = accepted-tells a
-
-  pub writes-tell : (lent left : List ℕ) (rule : Reply Written) → Writes q lent rule o left
-      → LiveTells q (and_then rule write_gives) (told_of o) × (left ≡ memory_after lent rule)
-  writes-tell lent left (refuse n) u = (ap told_handed u.outcome, u.memory_is)
-  writes-tell lent left (accept w) a = (accepted-tells a.outcome, a.memory_is)
+abbrev told_handed : Outcome → Live.LiveTold
+told_handed h = told_of h
 
 pub serves-tell : (q : Queue) (c : Counts) (o : Counted) (rule : Reply Served) → Serves q c rule o
     → LiveTells q (and_then rule serve_gives) (told_served o) × (o.counts ≡ after_serve c rule)
@@ -59,15 +27,3 @@ serves-tell q c o (accept s) a = (
   record { answer = a.answer; given = ap given_in a.gives; value = ap word_in a.gives; holds = a.holds },
   a.counts,
 )
-
--- ---- opening
--- the table of no groups opens nothing
-no_table_opens : (a b c d : ℕ) → open_queue (groups_of (pack [])) a b c d ≡ refuse bad_group_count
-unfolding open_queue check_table
-no_table_opens a b c d = refl
-
-pub no_table_no_frame : (fresh : Frame) (a b c d : ℕ) (o : OpenedFrame) (t : Table) → t ≡ pack []
-    → OpensFrame fresh (open_queue (groups_of t) a b c d) o → o.frame ≡ no_frame
-no_table_no_frame fresh a b c d o t e w =
-    let is : open_queue (groups_of t) a b c d ≡ refuse bad_group_count = ap (λ (x : Table). open_queue (groups_of x) a b c d) e ∙ no_table_opens a b c d in
-    ap (λ (x : OpenedFrame). x.frame) (rw is at w)

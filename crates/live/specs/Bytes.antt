@@ -1,5 +1,5 @@
 -- What the writers and the reader of a table hand to C and Rust.
-use Rattle.table.specs.declared.TableRead.{TableRead}
+use Rattle.table.specs.TableBytes.{TableRead}
 use Rattle.std.specs.Prelude.{ℕ}
 use Rattle.number.specs.Reply.{Reply, refuse, accept}
 use Rattle.live.specs.declared.bytes.LiveWritten.{LiveWritten}

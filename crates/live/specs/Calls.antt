@@ -6,10 +6,10 @@ use Rattle.table.specs.Group.{GroupPairs}
 use Rattle.table.specs.TableBytes.{pack}
 use Rattle.queue.specs.declared.Queue.{Queue}
 use Rattle.queue.specs.declared.Frame.{Frame}
-use Rattle.queue.specs.declared.Readied.{Readied}
 use Rattle.number.specs.Reply.{Reply, refuse, accept, and_then}
 use Rattle.queue.specs.Contents.{Contents, contents_of}
 use Rattle.queue.specs.Open.{open_queue, fresh_frame}
+use Rattle.queue.specs.Ready.{Readied}
 use Rattle.queue.specs.Serve.{Served}
 use Rattle.queue.specs.Write.{Written}
 use Rattle.queue.specs.Take.{Taken}

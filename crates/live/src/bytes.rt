@@ -6,7 +6,7 @@ ghost use Rattle.table.specs.TableBytes.{read_table, table_answer, wrote_table};
 ghost use Rattle.trace.specs.Event.{wrote_event_of};
 ghost use Rattle.live.specs.Bytes.{live_written, table_found};
 
-use number::BytesWritten;
+use number::refusal::Refusal;
 use number::writing::write_number;
 use table::Table;
 use table::read::read_table;
@@ -30,16 +30,16 @@ pub struct TableFound {
 }
 
 // The numbers of a writer's answer.
-pub(crate) fn live_written(written: BytesWritten) -> LiveWritten
+pub(crate) fn live_written(written: Result<usize, Refusal>) -> LiveWritten
     ensures { result ≡ live_written (written_reply written) }
 {
     match written {
-        BytesWritten::Bytes(n) => LiveWritten {
+        Ok(count) => LiveWritten {
             answer: 0,
-            count: n as u64,
+            count: count as u64,
         },
-        BytesWritten::Unwritten(number) => LiveWritten {
-            answer: number as u32,
+        Err(refusal) => LiveWritten {
+            answer: refusal.number() as u32,
             count: 0,
         },
     }
@@ -50,11 +50,12 @@ pub(crate) fn live_written(written: BytesWritten) -> LiveWritten
 pub extern "C" fn lsq_read_table(bytes: &[u8]) -> TableFound
     ensures { result ≡ table_found (table_answer (read_table bytes.now)) }
 {
-    let read = read_table(bytes);
-    let table = read.table;
-    TableFound {
-        answer: read.answer as u32,
-        table,
+    match read_table(bytes) {
+        Ok(table) => TableFound { answer: 0, table },
+        Err(refusal) => TableFound {
+            answer: refusal.number() as u32,
+            table: Table::none(),
+        },
     }
 }
 
@@ -64,7 +65,7 @@ pub extern "C" fn lsq_write_table(table: Table, out: &mut [u8]) -> LiveWritten
     ensures { let done = wrote_table (groups_of table) out.old in
         (result ≡ live_written done.answer) × (out.new ≡ done.buffer) }
 {
-    let written = write_table(table, out);
+    let written = write_table(&table, out);
     live_written(written)
 }
 

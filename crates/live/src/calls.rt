@@ -5,6 +5,7 @@ ghost use Rattle.std.specs.Prelude.{◌≡◌, ◌&&◌};
 ghost use Rattle.queue.specs.Entry.{bit};
 ghost use Rattle.queue.specs.Contents.{contents_of};
 ghost use Rattle.queue.specs.Sound.{sound};
+ghost use Rattle.queue.specs.Open.{no_frame};
 ghost use Rattle.queue.specs.Activate.{activate};
 ghost use Rattle.queue.specs.Arguments.{load_address, store_address, store_data};
 ghost use Rattle.queue.specs.Serve.{serve};
@@ -14,23 +15,24 @@ ghost use Rattle.queue.specs.declared.Kind.TheVariants.{Load as load, Store as s
 ghost use Rattle.queue.specs.Ready.{ready, Readies};
 ghost use Rattle.queue.specs.Outcome.{Moves};
 ghost use Rattle.queue.specs.Parts.{whole, on_parts, queue_of, answered};
-ghost use Rattle.number.specs.Reply.{and_then};
+ghost use Rattle.number.specs.Reply.{and_then, reply, number};
 ghost use Rattle.replay.specs.Playing.{after_serve};
 ghost use Rattle.live.specs.Calls.{LiveOpens, told_step, told_service, LiveTells, move_gives, take_gives, serve_gives, write_gives, memory_after, live_readied};
-ghost use Rattle.live.specs.Internal.{live_step, live_service};
+ghost use Rattle.live.specs.Internal.{live_step, live_service, live_ready, frame_opened};
 
 use counts::Counts;
+use number::refusal::Refusal;
 use queue::activation::activate_in;
-use queue::answering::{Step, outline_of};
 use queue::arguments::{Argument, give_in};
 use queue::opening::open_in;
 use queue::ready::ready_in;
-use queue::serving::{Service, serve_in};
+use queue::serving::serve_in;
 use queue::sound::sound_in;
 use queue::taking::take_in;
 use queue::writing::write_in;
 use queue::{Frame, Kind, Side};
-use replay::playing::{value_given, value_word};
+use replay::playing::{number_of, value_given, value_word};
+use table::Table;
 use table::read::read_table;
 
 // What opening hands back: its answer and the frame of a queue with no entry, so what the runs hold means nothing yet.
@@ -71,34 +73,86 @@ pub struct LiveReady {
     pub count: u64,
 }
 
-// The numbers of a step.
-fn live_step(step: Step) -> LiveStep
-    ensures { result ≡ live_step step }
+// The numbers of an answer to a call that may move the sides, and both sides as they are left.
+fn live_step(answer: Result<Option<u32>, Refusal>, frame: &Frame) -> LiveStep
+    ensures { result ≡ live_step answer frame.now }
 {
-    let value = step.value;
-    let loads = step.loads;
-    let stores = step.stores;
     LiveStep {
-        answer: step.answer as u32,
-        given: value_given(value) as u32,
-        value: value_word(value),
-        loads,
-        stores,
+        answer: number_of(answer) as u32,
+        given: value_given(answer) as u32,
+        value: value_word(answer),
+        loads: frame.loads,
+        stores: frame.stores,
     }
 }
 
-// The numbers of a serve.
-fn live_service(service: Service) -> LiveService
-    ensures { result ≡ live_service service }
+// The numbers of an answer to a serve, and the counts that follow.
+fn live_service(answer: Result<Option<u32>, Refusal>, counts: Counts) -> LiveService
+    ensures { result ≡ live_service answer counts }
 {
-    let value = service.value;
-    let counts = service.counts;
     LiveService {
-        answer: service.answer as u32,
-        given: value_given(value) as u32,
-        value: value_word(value),
+        answer: number_of(answer) as u32,
+        given: value_given(answer) as u32,
+        value: value_word(answer),
         counts,
     }
+}
+
+// The number of an answer that gives nothing.
+fn live_answer(answer: Result<(), Refusal>) -> u32
+    ensures { result ≡ number (reply answer) }
+{
+    match answer {
+        Ok(()) => 0,
+        Err(refusal) => refusal.number() as u32,
+    }
+}
+
+// The numbers of an answer that counts serials.
+fn live_ready(answer: Result<usize, Refusal>) -> LiveReady
+    ensures { result ≡ live_ready answer }
+{
+    match answer {
+        Ok(count) => LiveReady {
+            answer: 0,
+            count: count as u64,
+        },
+        Err(refusal) => LiveReady {
+            answer: refusal.number() as u32,
+            count: 0,
+        },
+    }
+}
+
+// The frame of no table, which a refused opening hands to C in place of none.
+fn no_frame() -> Frame
+    ensures { result ≡ no_frame }
+{
+    let side = Side {
+        depth: 0,
+        count: 0,
+        next: 0,
+    };
+    Frame {
+        table: Table::none(),
+        memory_length: 0,
+        loads: side,
+        stores: side,
+    }
+}
+
+// Opens a frame on a table's bytes.
+fn open_bytes(
+    table: &[u8],
+    load_depth: u32,
+    store_depth: u32,
+    first: u32,
+    memory_length: u32,
+) -> Result<Frame, Refusal>
+    ensures { LiveOpens table.now load_depth store_depth first memory_length (frame_opened result) }
+{
+    let groups = read_table(table)?;
+    open_in(groups, load_depth, store_depth, first, memory_length)
 }
 
 // Opens a queue with no entry on a table's bytes: 1 to 9 or 42 of the table, then 11 to 14. A refused one gives the frame of no table.
@@ -112,19 +166,12 @@ pub extern "C" fn lsq_open_in(
 ) -> LiveOpened
     ensures { LiveOpens table.now load_depth store_depth first memory_length result }
 {
-    let read = read_table(table);
-    let groups = read.table;
-    let opened = open_in(groups, load_depth, store_depth, first, memory_length);
-    let frame = opened.frame;
-    if read.answer != 0 {
-        return LiveOpened {
-            answer: read.answer as u32,
-            frame,
-        };
-    }
-    LiveOpened {
-        answer: opened.answer as u32,
-        frame,
+    match open_bytes(table, load_depth, store_depth, first, memory_length) {
+        Ok(frame) => LiveOpened { answer: 0, frame },
+        Err(refusal) => LiveOpened {
+            answer: refusal.number() as u32,
+            frame: no_frame(),
+        },
     }
 }
 
@@ -134,22 +181,13 @@ pub extern "C" fn lsq_sound_in(frame: Frame, loads: &[u64], stores: &[u64]) -> u
     ensures { let q = queue_of frame loads.now stores.now in
         result ≡ bit (whole loads.now stores.now && sound (contents_of q)) }
 {
-    let outline = outline_of(frame);
-    let right = sound_in(
-        outline,
-        &frame.table.groups,
-        &frame.table.loads,
-        &frame.table.stores,
-        loads,
-        stores,
-    );
-    if right { 1 } else { 0 }
+    sound_in(&frame, loads, stores) as u32
 }
 
 // Queues the group's accesses, with no argument yet: 40, 20, 21.
 #[unsafe(no_mangle)]
 pub extern "C" fn lsq_activate_in(
-    frame: Frame,
+    mut frame: Frame,
     loads: &mut [u64],
     stores: &mut [u64],
     group: u32,
@@ -158,17 +196,8 @@ pub extern "C" fn lsq_activate_in(
         let rule = on_parts loads.old stores.old (activate (contents_of q) group) in
         LiveTells q (and_then rule move_gives) (told_step frame result loads.new stores.new) }
 {
-    let outline = outline_of(frame);
-    let step = activate_in(
-        outline,
-        &frame.table.groups,
-        &frame.table.loads,
-        &frame.table.stores,
-        loads,
-        stores,
-        group,
-    );
-    live_step(step)
+    let answer = activate_in(&mut frame, loads, stores, group);
+    live_step(answer.map(|()| None), &frame)
 }
 
 // Gives an address to the port's oldest load that has none: 40, 22, 23, 24. The frame stays.
@@ -184,19 +213,7 @@ pub extern "C" fn lsq_load_address_in(
         let rule = on_parts loads.old stores.now (load_address (contents_of q) port address) in
         Moves q rule (answered result (queue_of frame loads.new stores.now)) }
 {
-    let outline = outline_of(frame);
-    let answer = give_in(
-        outline,
-        &frame.table.groups,
-        &frame.table.loads,
-        &frame.table.stores,
-        loads,
-        stores,
-        Argument::LoadAddress,
-        port,
-        address,
-    );
-    answer as u32
+    live_answer(give_in(&frame, loads, stores, Argument::LoadAddress, port, address))
 }
 
 // Gives an address to the port's oldest store that has none: 40, 22, 23, 24. The frame stays.
@@ -212,19 +229,7 @@ pub extern "C" fn lsq_store_address_in(
         let rule = on_parts loads.now stores.old (store_address (contents_of q) port address) in
         Moves q rule (answered result (queue_of frame loads.now stores.new)) }
 {
-    let outline = outline_of(frame);
-    let answer = give_in(
-        outline,
-        &frame.table.groups,
-        &frame.table.loads,
-        &frame.table.stores,
-        stores,
-        loads,
-        Argument::StoreAddress,
-        port,
-        address,
-    );
-    answer as u32
+    live_answer(give_in(&frame, stores, loads, Argument::StoreAddress, port, address))
 }
 
 // Gives data to the port's oldest store that has none: 40, 22, 24. The frame stays.
@@ -240,19 +245,7 @@ pub extern "C" fn lsq_store_data_in(
         let rule = on_parts loads.now stores.old (store_data (contents_of q) port word) in
         Moves q rule (answered result (queue_of frame loads.now stores.new)) }
 {
-    let outline = outline_of(frame);
-    let answer = give_in(
-        outline,
-        &frame.table.groups,
-        &frame.table.loads,
-        &frame.table.stores,
-        stores,
-        loads,
-        Argument::StoreData,
-        port,
-        word,
-    );
-    answer as u32
+    live_answer(give_in(&frame, stores, loads, Argument::StoreData, port, word))
 }
 
 // Serves the load with this serial: 40, 30, 25, 26, 27, 28, 29. The frame stays.
@@ -262,61 +255,42 @@ pub extern "C" fn lsq_serve_in(
     loads: &mut [u64],
     stores: &[u64],
     memory: &[u32],
-    counts: Counts,
+    mut counts: Counts,
     serial: u32,
 ) -> LiveService
-    ensures { let q = queue_of frame loads.old stores.now in
+    ensures tells { let q = queue_of frame loads.old stores.now in
         let rule = on_parts loads.old stores.now (serve (contents_of q) memory.now serial) in
-        LiveTells q (and_then rule serve_gives) (told_service result (queue_of frame loads.new stores.now))
-        × (result.counts ≡ after_serve counts rule) }
+        LiveTells q (and_then rule serve_gives) (told_service result (queue_of frame loads.new stores.now)) }
+    ensures counts { let q = queue_of frame loads.old stores.now in
+        result.counts ≡ after_serve counts (on_parts loads.old stores.now (serve (contents_of q) memory.now serial)) }
 {
-    let outline = outline_of(frame);
-    let service = serve_in(
-        outline,
-        &frame.table.groups,
-        &frame.table.loads,
-        &frame.table.stores,
-        loads,
-        stores,
-        memory,
-        counts,
-        serial,
-    );
-    live_service(service)
+    let answer = serve_in(&frame, loads, stores, memory, &mut counts, serial);
+    live_service(answer.map(Some), counts)
 }
 
 // Writes the store with this serial: 40, 30, 25, 26, 27, 29, 31, 32. Finished entries leave.
 #[unsafe(no_mangle)]
 pub extern "C" fn lsq_write_in(
-    frame: Frame,
+    mut frame: Frame,
     loads: &mut [u64],
     stores: &mut [u64],
     memory: &mut [u32],
     serial: u32,
 ) -> LiveStep
-    ensures { let q = queue_of frame loads.old stores.old in
+    ensures tells { let q = queue_of frame loads.old stores.old in
         let rule = on_parts loads.old stores.old (write (contents_of q) memory.old serial) in
-        LiveTells q (and_then rule write_gives) (told_step frame result loads.new stores.new)
-        × (memory.new ≡ memory_after memory.old rule) }
+        LiveTells q (and_then rule write_gives) (told_step frame result loads.new stores.new) }
+    ensures memory { let q = queue_of frame loads.old stores.old in
+        memory.new ≡ memory_after memory.old (on_parts loads.old stores.old (write (contents_of q) memory.old serial)) }
 {
-    let outline = outline_of(frame);
-    let step = write_in(
-        outline,
-        &frame.table.groups,
-        &frame.table.loads,
-        &frame.table.stores,
-        loads,
-        stores,
-        memory,
-        serial,
-    );
-    live_step(step)
+    let answer = write_in(&mut frame, loads, stores, memory, serial);
+    live_step(answer.map(|()| None), &frame)
 }
 
 // Takes the value of the port's oldest untaken load: 40, 22, 33, 34. Finished entries leave.
 #[unsafe(no_mangle)]
 pub extern "C" fn lsq_take_in(
-    frame: Frame,
+    mut frame: Frame,
     loads: &mut [u64],
     stores: &mut [u64],
     port: u32,
@@ -325,17 +299,8 @@ pub extern "C" fn lsq_take_in(
         let rule = on_parts loads.old stores.old (take_rule (contents_of q) port) in
         LiveTells q (and_then rule take_gives) (told_step frame result loads.new stores.new) }
 {
-    let outline = outline_of(frame);
-    let step = take_in(
-        outline,
-        &frame.table.groups,
-        &frame.table.loads,
-        &frame.table.stores,
-        loads,
-        stores,
-        port,
-    );
-    live_step(step)
+    let answer = take_in(&mut frame, loads, stores, port);
+    live_step(answer.map(Some), &frame)
 }
 
 // Puts the serials of the loads that serve would now accept at the front of the lent run: 40, 10. The queue stays.
@@ -350,21 +315,7 @@ pub extern "C" fn lsq_ready_loads_in(
         let rule = on_parts loads.now stores.now (ready load (contents_of q) out.old) in
         Readies q out.old rule (live_readied result q) out.new }
 {
-    let outline = outline_of(frame);
-    let ready = ready_in(
-        outline,
-        &frame.table.groups,
-        &frame.table.loads,
-        &frame.table.stores,
-        loads,
-        stores,
-        Kind::Load,
-        out,
-    );
-    LiveReady {
-        answer: ready.answer as u32,
-        count: ready.count as u64,
-    }
+    live_ready(ready_in(&frame, loads, stores, Kind::Load, out))
 }
 
 // The same for stores and write.
@@ -379,19 +330,5 @@ pub extern "C" fn lsq_ready_stores_in(
         let rule = on_parts loads.now stores.now (ready store (contents_of q) out.old) in
         Readies q out.old rule (live_readied result q) out.new }
 {
-    let outline = outline_of(frame);
-    let ready = ready_in(
-        outline,
-        &frame.table.groups,
-        &frame.table.loads,
-        &frame.table.stores,
-        loads,
-        stores,
-        Kind::Store,
-        out,
-    );
-    LiveReady {
-        answer: ready.answer as u32,
-        count: ready.count as u64,
-    }
+    live_ready(ready_in(&frame, loads, stores, Kind::Store, out))
 }

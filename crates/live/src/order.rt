@@ -14,7 +14,7 @@ use table::Table;
 pub extern "C" fn lsq_order(accesses: u32, pairs: Precedences) -> Ordered
     ensures { result ≡ ordered (answer accesses (precedences_of pairs)) }
 {
-    order(accesses, pairs)
+    order(accesses, &pairs)
 }
 
 // The table whose one group has the accesses in this order. Where the record is a refusal, or has a count or an access above what an
@@ -23,5 +23,5 @@ pub extern "C" fn lsq_order(accesses: u32, pairs: Precedences) -> Ordered
 pub extern "C" fn lsq_table_in_order(order: Ordered, accesses: Accesses) -> Table
     ensures { result ≡ pack (groups_in_order order accesses) }
 {
-    table_in_order(order, accesses)
+    table_in_order(&order, &accesses)
 }

@@ -7,15 +7,15 @@ ghost use Rattle.live.specs.Bytes.{live_written};
 use crate::bytes::{LiveWritten, live_written};
 use shift::ShiftRecord;
 use shift::page::write_page;
-use shift::recording::recorded;
 
 // The record once this value was taken at this port, which is what a take that was answered 0 leaves of it; after a refused one the
 // record stays. A port above 31 changes nothing.
 #[unsafe(no_mangle)]
-pub extern "C" fn lsq_recorded(kept: ShiftRecord, port: u32, value: u32) -> ShiftRecord
+pub extern "C" fn lsq_recorded(mut kept: ShiftRecord, port: u32, value: u32) -> ShiftRecord
     ensures { result ≡ recorded port value kept }
 {
-    recorded(kept, port, value)
+    kept.record(port, value);
+    kept
 }
 
 // Writes the page of a record at the front of a buffer: 41.
@@ -24,6 +24,6 @@ pub extern "C" fn lsq_page(kept: ShiftRecord, out: &mut [u8]) -> LiveWritten
     ensures { let done = page_written kept out.old in
         (result ≡ live_written done.answer) × (out.new ≡ done.buffer) }
 {
-    let written = write_page(kept, out);
+    let written = write_page(&kept, out);
     live_written(written)
 }

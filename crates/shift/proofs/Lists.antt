@@ -16,11 +16,10 @@ use Rattle.number.specs.Basics.{pick, flat_map}
 use Rattle.table.specs.Group.{GroupPairs}
 use Rattle.table.specs.Table.{groups_of}
 use Rattle.queue.specs.declared.Queue.{Queue}
-use Rattle.queue.specs.declared.Outcome.{Outcome}
 use Rattle.number.specs.Reply.{Reply, refuse, accept}
 use Rattle.queue.specs.Contents.{contents_of}
 use Rattle.queue.specs.Take.{Taken, take_rule}
-use Rattle.queue.specs.Outcome.{value_in, Handed, Takes}
+use Rattle.queue.specs.Outcome.{Outcome, Takes}
 use Rattle.queue.specs.Parts.{queue_of}
 use Rattle.number.proofs.ReplyLaws.{refusal_not_zero}
 use Rattle.queue.proofs.Refusals.{proper, take_proper}
@@ -256,7 +255,7 @@ pages_show groups memory m o calls fill below =
 take-kept : (q : Queue) (kept next : ShiftRecord) (p : ℕ) (rule : Reply Taken) (r : Outcome) → TakesRecorded q kept p rule (with_record r next)
     → Takes q rule r × (next ≡ after_call kept (answered_with (Take p) r))
 take-kept q kept next p (refuse n) r w =
-    let none_given : value_in r.value ≡ none = ap (λ (x : Handed). x.value) w.outcome in
+    let none_given : r.value ≡ none = ap (λ (x : Outcome). x.value) w.outcome in
     (w.outcome, w.kept_is ∙ sym (rw none_given (pick_same (eqb r.answer 0) kept)))
 take-kept q kept next p (accept t) r w = (w.outcome, w.kept_is ∙ sym (rw (w.outcome.answer, w.outcome.gives)))
 
@@ -284,7 +283,7 @@ records_are_kept q m kept calls log last left end run = run-kept run
 take_with_record : (q : Queue) (kept : ShiftRecord) (p : ℕ) (rule : Reply Taken) (r : Outcome) → Takes q rule r
     → TakesRecorded q kept p rule (with_record r (after_call kept (answered_with (Take p) r)))
 take_with_record q kept p (refuse n) r w =
-    let none_given : value_in r.value ≡ none = ap (λ (x : Handed). x.value) w in
+    let none_given : r.value ≡ none = ap (λ (x : Outcome). x.value) w in
     record { outcome = w; kept_is = rw none_given (pick_same (eqb r.answer 0) kept) }
 take_with_record q kept p (accept t) r w = record { outcome = w; kept_is = rw (w.answer, w.gives) }
 

@@ -1,27 +1,21 @@
 -- Laws of the record: what one take changes.
-use Prim.Native.Nat.{ℕ, zero, suc, ◌+◌, ◌≤◌, ◌<◌, ◌^◌}
+use Prim.Native.Nat.{ℕ, zero, suc, ◌+◌, ◌≤◌, ◌<◌, ◌^◌, min}
 use mathlib.Core.Path.{◌≡◌, refl, ap, ap₂, ◌∙◌}
 use mathlib.Core.Bool.{Bool, true, false}
 use mathlib.Core.List.{List, [], ◌∷◌}
 use native.Mathlib.Omega.{arith}
 use lib.ListN.{length, get_or, set, length-set}
 use lib.Seq.{set_out, get_or-set_same, get_or-set_other}
-use borrow.Author.Tests.{ltb-true, lt-ltb, eqb-false}
+use borrow.Author.Tests.{ltb-true, lt-ltb, eqb-true, eqb-false}
 use Rattle.number.specs.Basics.{pick, all_of}
 use Rattle.number.proofs.Both.{and_left, and_right}
 use Rattle.counts.specs.Counts.{full}
-use Rattle.queue.specs.declared.Queue.{Queue}
-use Rattle.number.specs.Reply.{Reply, refuse, accept}
-use Rattle.queue.specs.Take.{Taken}
-use Rattle.queue.specs.Outcome.{Handed, value_in, Takes}
 use Rattle.queue.specs.Contents.{update_at}
 use Rattle.queue.proofs.ContentsLaws.{update-set}
 use Rattle.queue.proofs.Lists.{and_both, length-update_at}
 use Rattle.sequential.specs.RunsExist.{bits_fit}
 use Rattle.shift.specs.declared.ShiftRecord.{ShiftRecord}
-use Rattle.shift.specs.declared.Recorded.{Recorded}
-use Rattle.shift.specs.Record.{takes_of, one_more, recorded, after_take, NoTakesStored, RecordsOnePort}
-use Rattle.shift.specs.Outcome.{without_record, TakesRecorded}
+use Rattle.shift.specs.Record.{takes_of, one_more, recorded, NoTakesStored, RecordsOnePort}
 
 abbrev record_with : List ℕ → List ℕ → ShiftRecord
 record_with takes values = record { takes = takes; values = values }
@@ -34,11 +28,13 @@ module _ (r : ShiftRecord) (port value : ℕ) where
   recorded-outside h k outside =
       recorded-set ∙ ap₂ record_with (set_out r.takes port _ (omega (arith, h))) (set_out r.values port value (omega (arith, k)))
 
--- A take and its value make a take that keeps the record.
-pub takes-recorded : (q : Queue) (kept : ShiftRecord) (port : ℕ) (rule : Reply Taken) (r : Recorded) → Takes q rule (without_record r)
-    → r.kept ≡ after_take kept port (value_in r.value) → TakesRecorded q kept port rule r
-takes-recorded q kept port (refuse n) r w e = record { outcome = w; kept_is = e ∙ rw (ap (λ (h : Handed). h.value) w) }
-takes-recorded q kept port (accept t) r w e = record { outcome = w; kept_is = e ∙ rw w.gives }
+-- a count that has stopped is the greatest that there is
+pub one_more-is : (n : ℕ) → n < 4294967296 → min (n + 1) 4294967295 ≡ one_more n
+one_more-is n small = go (full n) refl
+  where
+    go : (t : Bool) → full n ≡ t → min (n + 1) 4294967295 ≡ pick t n (n + 1)
+    go true e = let at : n ≡ 4294967295 = eqb-true n 4294967295 e in omega (arith, at)
+    go false e = let apart : n ≡ 4294967295 → ⊥ = eqb-false n 4294967295 e in omega (arith, small, apart)
 
 -- ---- a record as a program holds it
 all_update : (f : ℕ → ℕ) (l : List ℕ) (i : ℕ) → ((n : ℕ) → bits_fit 32 n ≡ true → bits_fit 32 (f n) ≡ true)

@@ -6,13 +6,11 @@ use Rattle.table.specs.declared.Table.{Table}
 use Rattle.table.specs.Group.{GroupPairs}
 use Rattle.table.specs.Table.{groups_of}
 use Rattle.queue.specs.declared.Queue.{Queue}
-use Rattle.queue.specs.declared.Outcome.{Outcome}
-use Rattle.queue.specs.declared.Opened.{Opened}
 use Rattle.queue.specs.Contents.{contents_of}
-use Rattle.queue.specs.declared.opening.OpenedFrame.{OpenedFrame}
+use Rattle.queue.specs.Outcome.{Outcome, Opened}
 use Rattle.queue.specs.Take.{take_rule}
 use Rattle.queue.specs.Open.{open_queue, fresh_frame}
-use Rattle.queue.specs.Parts.{queue_of, OpensFrame}
+use Rattle.queue.specs.Parts.{queue_of, OpenedFrame, OpensFrame}
 use Rattle.sequential.specs.Calls.{Call, Activate, Give, Serve, Write, Take, Ready}
 use Rattle.sequential.specs.Answers.{Machine, Answered, answers}
 use Rattle.sequential.specs.Plain.{Told, Filling, plain_loads}

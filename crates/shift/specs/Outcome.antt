@@ -1,14 +1,19 @@
 -- What a take that keeps the record hands back.
 use Rattle.std.specs.Prelude.{ℕ, ◌≡◌}
-use Rattle.std.proofs.Math.Option.{some}
+use Rattle.std.proofs.Math.Option.{Option, some}
 use Rattle.queue.specs.declared.Queue.{Queue}
-use Rattle.queue.specs.declared.Outcome.{Outcome}
 use Rattle.number.specs.Reply.{Reply, refuse, accept}
 use Rattle.queue.specs.Take.{Taken}
-use Rattle.queue.specs.Outcome.{handed, no_value, Accepted}
+use Rattle.queue.specs.Outcome.{Outcome, no_value, Accepted}
 use Rattle.shift.specs.declared.ShiftRecord.{ShiftRecord}
-use Rattle.shift.specs.declared.Recorded.{Recorded}
 use Rattle.shift.specs.Record.{recorded}
+
+-- what it hands back in the paper's terms: its number, its value or none, the queue and the record that follow
+pub record Recorded : Type 0 where
+  pub answer : ℕ
+  pub value : Option ℕ
+  pub queue : Queue
+  pub kept : ShiftRecord
 
 -- what it hands back but the record
 abbrev pub without_record : Recorded → Outcome
@@ -19,7 +24,7 @@ with_record r kept = record { answer = r.answer; value = r.value; queue = r.queu
 
 -- A refused take hands back the very queue and the very record that it was handed.
 pub record Unrecorded (q : Queue) (kept : ShiftRecord) (n : ℕ) (r : Recorded) : Type 0 where
-  pub outcome : handed (without_record r) ≡ no_value n q
+  pub outcome : without_record r ≡ no_value n q
   pub kept_is : r.kept ≡ kept
 
 -- An accepted one hands back what take does, and the record with this port's two numbers changed.

@@ -7,8 +7,7 @@ ghost use Rattle.shift.specs.Record.{takes_of};
 ghost use Rattle.shift.specs.Page.{pad_left, port_line, port_lines, with_line_feed, value_or_zero, value_shown, page_written};
 
 use crate::ShiftRecord;
-use number::BytesWritten;
-use number::refusal::PAGE_TOO_SHORT;
+use number::refusal::Refusal;
 use number::texts::put_bytes;
 
 // The length of every page: 34 lines of 40 characters and a line feed.
@@ -31,13 +30,11 @@ fn put_right(out: &mut [u8], at: usize, width: usize, n: u64) -> usize
     ensures { Puts out.old at (pad_left width (decimal n)) result out.new }
 {
     let end = at + width;
-    let mut place = end - 1;
-    out[place] = (48 + n % 10) as u8;
+    out[end - 1] = (48 + n % 10) as u8;
     let mut left = n / 10;
-    while at < place {
-        place -= 1;
+    for place in (at..end - 1).rev() {
         out[place] = digit_or_blank(left);
-        left = left / 10;
+        left /= 10;
     }
     end
 }
@@ -66,29 +63,27 @@ fn put_port(out: &mut [u8], at: usize, port: u64, takes: u32, value: u32) -> usi
 }
 
 // Puts the lines of all ports.
-fn put_ports(out: &mut [u8], at: usize, kept: ShiftRecord) -> usize
+fn put_ports(out: &mut [u8], at: usize, kept: &ShiftRecord) -> usize
     requires { at + 41 * 32 ≤ length out.old }
-    ensures { Puts out.old at (flat_map with_line_feed (port_lines (takes_of kept) (value_shown kept))) result out.new
+    ensures { Puts out.old at (flat_map with_line_feed (port_lines (takes_of kept.now) (value_shown kept.now))) result out.new
         × (result ≡ at + 41 * 32) }
 {
     let mut place = at;
-    let mut port: usize = 0;
-    while port < 32 {
+    for port in 0..32 {
         place = put_port(out, place, port as u64, kept.takes[port], kept.values[port]);
-        port += 1;
     }
     place
 }
 
 // Writes the page of a record at the front of a buffer; 41 where the buffer is shorter than a page.
-pub fn write_page(kept: ShiftRecord, out: &mut [u8]) -> BytesWritten
-    ensures { HasWritten (page_written kept out.old) result out.new }
+pub fn write_page(kept: &ShiftRecord, out: &mut [u8]) -> Result<usize, Refusal>
+    ensures { HasWritten (page_written kept.now out.old) result out.new }
 {
     if out.len() < PAGE_BYTES {
-        return BytesWritten::Unwritten(PAGE_TOO_SHORT);
+        return Err(Refusal::PageTooShort);
     }
     let place = put_bytes(out, 0, b"LOAD PORTS                              \n");
     let place = put_ports(out, place, kept);
     put_bytes(out, place, b"END                                     \n");
-    BytesWritten::Bytes(PAGE_BYTES)
+    Ok(PAGE_BYTES)
 }

@@ -2,70 +2,46 @@
 ghost use Rattle.std.specs.Prelude.{◌≡◌};
 ghost use Rattle.queue.specs.Contents.{contents_of};
 ghost use Rattle.queue.specs.Take.{take_rule};
-ghost use Rattle.queue.specs.Outcome.{value_in};
-ghost use Rattle.shift.specs.Record.{no_takes, one_more, recorded, after_take};
-ghost use Rattle.shift.specs.Outcome.{TakesRecorded};
+ghost use Rattle.queue.specs.Outcome.{gave};
+ghost use Rattle.shift.specs.Record.{no_takes, recorded};
+ghost use Rattle.shift.specs.Outcome.{TakesRecorded, with_record};
 
-use crate::{Recorded, ShiftRecord};
-use queue::{Queue, Value};
+use crate::ShiftRecord;
+use number::refusal::Refusal;
+use queue::Queue;
 
-// The record before any take.
-pub fn no_takes() -> ShiftRecord
-    ensures { result ≡ no_takes }
-{
-    ShiftRecord {
-        takes: [0; 32],
-        values: [0; 32],
+impl ShiftRecord {
+    // The record before any take.
+    pub fn none() -> ShiftRecord
+        ensures { result ≡ no_takes }
+    {
+        ShiftRecord {
+            takes: [0; 32],
+            values: [0; 32],
+        }
+    }
+
+    // A value was taken at a port: this port's two numbers change. The count stops at 4294967295. A port above 31, which no table has,
+    // changes nothing.
+    pub fn record(&mut self, port: u32, value: u32)
+        ensures { self.new ≡ recorded port value self.old }
+    {
+        if 32 <= port {
+            return;
+        }
+        let place = port as usize;
+        self.takes[place] = self.takes[place].saturating_add(1);
+        self.values[place] = value;
     }
 }
 
-// One take more. The count stops at 4294967295.
-fn one_more(takes: u32) -> u32
-    ensures { result ≡ one_more takes }
+// Takes the value of a port's oldest untaken load, and keeps the record of it: 40, 22, 33, 34. A refused take leaves the queue and the
+// record as they were.
+pub fn take_recorded(queue: &mut Queue, kept: &mut ShiftRecord, port: u32) -> Result<u32, Refusal>
+    ensures { TakesRecorded queue.old kept.old port (take_rule (contents_of queue.old) port)
+        (with_record (gave result queue.new) kept.new) }
 {
-    if takes == 4294967295 {
-        return takes;
-    }
-    takes + 1
-}
-
-// A value was taken at a port: this port's two numbers change. A port above 31, which no table has, changes nothing.
-pub fn recorded(kept: ShiftRecord, port: u32, value: u32) -> ShiftRecord
-    ensures { result ≡ recorded port value kept }
-{
-    if 32 <= port {
-        return kept;
-    }
-    let place = port as usize;
-    let mut takes = kept.takes;
-    let mut values = kept.values;
-    takes[place] = one_more(takes[place]);
-    values[place] = value;
-    ShiftRecord { takes, values }
-}
-
-// What a take leaves of the record: its value is recorded; a take that gave none was refused, and changes nothing.
-fn after_take(kept: ShiftRecord, port: u32, value: Value) -> ShiftRecord
-    ensures { result ≡ after_take kept port (value_in value) }
-{
-    match value {
-        Value::Word(word) => recorded(kept, port, word),
-        Value::Nothing => kept,
-    }
-}
-
-// Takes the value of a port's oldest untaken load, and keeps the record of it: 40, 22, 33, 34.
-pub fn take_recorded(queue: Queue, kept: ShiftRecord, port: u32) -> Recorded
-    ensures { TakesRecorded queue kept port (take_rule (contents_of queue) port) result }
-{
-    let taken = queue.take(port);
-    let value = taken.value;
-    let left = taken.queue;
-    let after = after_take(kept, port, value);
-    Recorded {
-        answer: taken.answer,
-        value,
-        queue: left,
-        kept: after,
-    }
+    let value = queue.take(port)?;
+    kept.record(port, value);
+    Ok(value)
 }

@@ -110,6 +110,9 @@ pub pair-at : (numbers : List ℕ) (i : ℕ) → get_or (map pair_in numbers) i 
 unfolding pair_in
 pair-at numbers i = get_or-map pair_in numbers i 0
 
+pub pair-here : (numbers : List ℕ) (i : ℕ) {p : Pair} → p ≡ pair_in (get_or numbers i 0) → get_or (map pair_in numbers) i blank_pair ≡ p
+pair-here numbers i e = pair-at numbers i ∙ sym e
+
 module _ (loads : List ℕ) (n i : ℕ) (r : Rising 0 (map pair_in loads)) where
   abbrev listed : List Pair
   listed = map pair_in loads

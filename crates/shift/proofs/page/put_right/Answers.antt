@@ -17,8 +17,7 @@ pub loop-place-preserved : goal.loop-place-preserved
 loop-place-preserved c =
     let long : length c.loop-place.out ≡ length c.args.out.now = c.loop-place.invariant.long ∙ length-set c.args.out.now _ _ in
     let room : let a = c.args in a.at + a.width ≤ length c.loop-place.out = omega (arith, long, c.requires.2) in
-    rw c.digit_or_blank.ensures
-    (righting-next c.loop-place.invariant c.loop-place-test.true room)
+    rw c.digit_or_blank.ensures (righting-next c.loop-place.invariant c.loop-place-test.true room)
 
 pub returns : goal.returns
 returns c =

@@ -4,6 +4,3 @@ use Rattle.shift.proofs.page.put_right.Given as goal
 
 abbrev pub invariant-loop-place : goal.invariant-loop-place
 invariant-loop-place l = Righting l.initial.out l.at l.width l.n l.out l.left l.place
-
-abbrev pub decreases-loop-place : goal.decreases-loop-place
-decreases-loop-place l = l.place

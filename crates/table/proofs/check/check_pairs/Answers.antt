@@ -1,20 +1,17 @@
 -- The pairs before the ith are passed; what is left to check is the rest, with the marks and the last offset so far.
-use mathlib.Core.Path.{◌≡◌, sym, ◌∙◌}
-use mathlib.Core.List.{map}
+use mathlib.Core.Path.{◌≡◌, sym}
 use native.Mathlib.Omega.{arith}
 use borrow.Author.Rules.{rules}
-use lib.ListN.{get_or, length-map}
+use lib.ListN.{length-map}
 use Rattle.std.specs.Prelude.{Err}
 use Rattle.table.specs.Packed.{pair_in}
-use Rattle.table.specs.Group.{blank_pair}
-use Rattle.table.proofs.CheckLaws.{pair-at, checking-stop, checking-more, checking-end}
+use Rattle.table.proofs.CheckLaws.{pair-here, checking-stop, checking-more, checking-end}
 use Rattle.table.proofs.check.check_pairs.Goals as goal
 
 pub returns-in_err-check_pair : goal.returns-in_err-check_pair
 returns-in_err-check_pair c =
     let size = length-map c.args.pairs.now pair_in in
-    let this : get_or (map pair_in c.args.pairs.now) c.loop-i.i blank_pair ≡ c.unpack_pair-pair.result =
-    pair-at c.args.pairs.now c.loop-i.i ∙ sym c.unpack_pair-pair.ensures in
+    let this = pair-here c.args.pairs.now c.loop-i.i c.unpack_pair-pair.ensures in
     let fault = rw c.allows.ensures at (sym c.in_err-check_pair.ensures) in
     let r : c.from_residual.result ≡ Err c.in_err-check_pair.field-0.0 = search rules in
     rw r (checking-stop c.loop-i.invariant (omega (arith, size, c.loop-i-test.true)) this fault)
@@ -22,8 +19,7 @@ returns-in_err-check_pair c =
 pub loop-i-preserved : goal.loop-i-preserved
 loop-i-preserved c =
     let size = length-map c.args.pairs.now pair_in in
-    let this : get_or (map pair_in c.args.pairs.now) c.loop-i.i blank_pair ≡ c.unpack_pair-pair.result =
-    pair-at c.args.pairs.now c.loop-i.i ∙ sym c.unpack_pair-pair.ensures in
+    let this = pair-here c.args.pairs.now c.loop-i.i c.unpack_pair-pair.ensures in
     let right = rw c.allows.ensures at (sym c.in_ok-check_pair.ensures) in
     checking-more c.loop-i.invariant (omega (arith, size, c.loop-i-test.true)) this right
 

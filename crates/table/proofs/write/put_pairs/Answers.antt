@@ -1,15 +1,15 @@
 use Prim.Native.Nat.{suc, ◌≤◌, ◌+◌}
-use mathlib.Core.Path.{◌≡◌, sym, ◌∙◌}
+use mathlib.Core.Path.{◌≡◌, ◌∙◌}
 use mathlib.Core.List.{List, map}
 use native.Mathlib.Omega.{arith}
-use lib.ListN.{length, get_or, take, length-map}
+use lib.ListN.{length, take, length-map}
 use Rattle.table.specs.declared.Pair.{Pair}
 use Rattle.number.specs.Basics.{flat_map}
 use Rattle.number.specs.Number.{bytes_of, number_bytes}
 use Rattle.table.specs.Packed.{pair_in}
 use Rattle.table.specs.Group.{blank_pair}
 use Rattle.table.specs.TableBytes.{pair_numbers}
-use Rattle.table.proofs.CheckLaws.{pair-at}
+use Rattle.table.proofs.CheckLaws.{pair-here}
 use Rattle.number.proofs.SpliceLaws.{put-at, put-length, put_two}
 use Rattle.table.proofs.WriteLaws.{flat_next, flat_room, pair-length}
 use Rattle.table.proofs.write.put_pairs.Goals as goal
@@ -21,7 +21,7 @@ loop-number-preserved c =
     let p = c.unpack_pair-pair.result in
     let w = c.loop-number.invariant in
     let inside : suc i ≤ length listed = omega (arith, length-map c.args.pairs.now pair_in, c.loop-number-test.true) in
-    let this : get_or listed i blank_pair ≡ p = pair-at c.args.pairs.now i ∙ sym c.unpack_pair-pair.ensures in
+    let this = pair-here c.args.pairs.now i c.unpack_pair-pair.ensures in
     let room : c.args.at + (length (bytes_of (flat_map pair_numbers (take i listed))) + (length (number_bytes p.offset) + length
     (number_bytes p.port))) ≤ length c.args.out.now =
     let f = rw (this, pair-length p) at (flat_room pair_numbers listed i blank_pair inside) in

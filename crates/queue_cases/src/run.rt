@@ -61,10 +61,7 @@ impl Run {
                 loads: 0,
                 forwarded: 0,
             },
-            kept: ShiftRecord {
-                takes: [0; 32],
-                values: [0; 32],
-            },
+            kept: ShiftRecord::none(),
         }
     }
 

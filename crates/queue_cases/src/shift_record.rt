@@ -3,7 +3,7 @@ use crate::run::Run;
 use crate::show;
 use script::word;
 use shift::page::write_page;
-use shift::recording::{recorded, take_recorded};
+use shift::recording::take_recorded;
 use std::io;
 use std::io::Write;
 
@@ -23,7 +23,7 @@ pub(crate) fn take(out: &mut impl Write, run: &mut Run, port: u32) -> io::Result
 // The rule with no queue: only so can a case hand it a port that no table has.
 pub(crate) fn record(out: &mut impl Write, run: &mut Run, port: u32, value: u32) -> io::Result<()> {
     let kept = run.kept;
-    run.kept = recorded(kept, port, value);
+    run.kept.record(port, value);
     show::same(out, b":", kept == run.kept)
 }
 
@@ -42,6 +42,6 @@ pub(crate) fn set(run: &mut Run, numbers: &[u64]) {
 pub(crate) fn page(out: &mut impl Write, run: &Run, length: usize) -> Option<io::Result<()>> {
     let mut bytes = [b'.'; MOST_BYTES];
     let buffer = bytes.get_mut(..length)?;
-    let written = write_page(run.kept, buffer);
+    let written = write_page(&run.kept, buffer);
     Some(show::page(out, written, buffer))
 }

@@ -45,12 +45,12 @@ fn obey(out: &mut impl Write, kept: &mut Precedences, line: &[u8]) -> Option<io:
         Command::Count => kept.count = word(&numbers_as(b"w.......", line, end)?, 0),
         Command::Order => {
             let accesses = word(&numbers_as(b"w.......", line, end)?, 0);
-            return Some(show::ordered(out, &order(accesses, *kept)));
+            return Some(show::ordered(out, &order(accesses, kept)));
         }
         Command::Small => {
             let bytes = bytes_of(line, end)?;
             let (accesses, digits) = bytes.split_first()?;
-            let given = order(*accesses as u32, pairs::of_digits(digits));
+            let given = order(*accesses as u32, &pairs::of_digits(digits));
             return Some(show::ordered(out, &given));
         }
         Command::Pairs => pairs::replace(kept, &bytes_of(line, end)?)?,

@@ -1,5 +1,6 @@
 // Printing what ordering answers.
 use ordering::Ordered;
+use script::print_all;
 use std::io;
 use std::io::Write;
 
@@ -10,17 +11,10 @@ pub(crate) fn ordered(out: &mut impl Write, given: &Ordered) -> io::Result<()> {
     write!(out, ": {}, count {}", given.answer, given.count)?;
     if given.answer == 0 {
         out.write_all(b", order")?;
-        front(out, places)?;
+        print_all(out, places)?;
     }
     if rest.iter().any(|place| *place != 0) {
         out.write_all(b", the rest changed")?;
-    }
-    Ok(())
-}
-
-fn front(out: &mut impl Write, places: &[u8]) -> io::Result<()> {
-    for place in places {
-        write!(out, " {place}")?;
     }
     Ok(())
 }

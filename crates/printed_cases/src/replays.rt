@@ -5,7 +5,7 @@ use crate::files::Files;
 use counts::Counts;
 use number::refusal::Refusal;
 use replay::replaying;
-use std::fmt::Display;
+use script::print_all;
 use std::io;
 use std::io::Write;
 use table::Table;
@@ -44,15 +44,6 @@ fn within(lengths: &[u8], place: usize, most: usize) -> usize
     (length as usize).min(most)
 }
 
-// Words, and numbers, each with a space before it.
-fn numbers<T: Display + Copy>(out: &mut impl Write, text: &[u8], values: &[T]) -> io::Result<()> {
-    out.write_all(text)?;
-    for value in values {
-        write!(out, " {value}")?;
-    }
-    Ok(())
-}
-
 // The answer, the events that were played, and all that was lent.
 fn show(out: &mut impl Write, played: Result<usize, Refusal>, lent: &Lent) -> io::Result<()> {
     match played {
@@ -61,10 +52,14 @@ fn show(out: &mut impl Write, played: Result<usize, Refusal>, lent: &Lent) -> io
     }
     write!(out, ", loads {}", lent.counts.loads)?;
     write!(out, " forwarded {}", lent.counts.forwarded)?;
-    numbers(out, b"\n  memory", &lent.memory)?;
-    numbers(out, b"\n  answers", &lent.answers)?;
-    numbers(out, b"\n  given", &lent.given)?;
-    numbers(out, b"\n  values", &lent.values)
+    out.write_all(b"\n  memory")?;
+    print_all(out, &lent.memory)?;
+    out.write_all(b"\n  answers")?;
+    print_all(out, &lent.answers)?;
+    out.write_all(b"\n  given")?;
+    print_all(out, &lent.given)?;
+    out.write_all(b"\n  values")?;
+    print_all(out, &lent.values)
 }
 
 // Lends the first words of the memory, and the first places of the answers, the marks of given values and the values, as the lengths

@@ -2,6 +2,7 @@
 // front, and what the call left alone is still 7777.
 use crate::show;
 use queue::{Kind, Queue};
+use script::print_all;
 use std::io;
 use std::io::Write;
 
@@ -22,5 +23,5 @@ pub(crate) fn ready(
         }
     }
     out.write_all(b" run")?;
-    show::numbers(out, run)
+    print_all(out, run)
 }

@@ -3,7 +3,7 @@ use crate::show;
 use arrayvec::ArrayVec;
 use counts::Counts;
 use queue::{Frame, Kind, Queue, Side};
-use script::word;
+use script::{print_all, word};
 use shift::ShiftRecord;
 use std::io;
 use std::io::Write;
@@ -142,7 +142,7 @@ impl Run {
         show::side(out, Kind::Load, queue.frame.loads, &queue.load_entries)?;
         show::side(out, Kind::Store, queue.frame.stores, &queue.store_entries)?;
         out.write_all(b"\n  memory")?;
-        show::numbers(out, &self.memory)?;
+        print_all(out, self.memory.as_slice())?;
         write!(
             out,
             "\n  counts {} {}",

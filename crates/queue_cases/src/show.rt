@@ -81,14 +81,6 @@ pub(crate) fn side(
     Ok(())
 }
 
-// Numbers, each with a space before it.
-pub(crate) fn numbers(out: &mut impl Write, values: &[u32]) -> io::Result<()> {
-    for value in values {
-        write!(out, " {value}")?;
-    }
-    Ok(())
-}
-
 // What writing a page answers, and the buffer.
 pub(crate) fn page(
     out: &mut impl Write,

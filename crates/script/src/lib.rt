@@ -2,8 +2,10 @@
 
 #![tactic(auto)]
 
-ghost use Rattle.std.specs.Prelude.{◌≡◌, ◌%◌, ◌^◌, drop, slice_get};
+ghost use Rattle.std.specs.Prelude.{◌≡◌, ◌%◌, ◌^◌, drop, slice_get, OnOk, IfSome};
 ghost use Rattle.script.specs.Shapes.{most_of, fits_of, taken, numbers_as};
+ghost use Rattle.std.specs.Io.KnownBytes.{Appends};
+ghost use Rattle.script.specs.Printed.{all_spaced};
 ghost use Rattle.std.specs.Option.{unwrap_or};
 ghost use Rattle.std.specs.Iterator.{YieldsFirstRef, item_count};
 ghost use Rattle.script.specs.Lines.{NextByte, until, is_text, lines_in};
@@ -12,6 +14,9 @@ ghost use Rattle.script.specs.Decimal.{with_digit, spaced, digited, number_step,
 ghost use Rattle.script.specs.Hexadecimal.{hexadecimal, byte_step, bytes_from};
 
 use arrayvec::ArrayVec;
+use std::fmt::Display;
+use std::io;
+use std::io::Write;
 
 // The numbers of a line.
 pub type Numbers = ArrayVec<u64, 8>;
@@ -105,10 +110,10 @@ pub fn next_byte(text: &[u8], from: usize, byte: u8) -> usize
 fn with_digit(value: u64, digit: u8) -> u64
     ensures { result ≡ with_digit value digit }
 {
-    if value < 1844674407370955161 {
+    if value < u64::MAX / 10 {
         return value * 10 + (digit % 10) as u64;
     }
-    18446744073709551615
+    u64::MAX
 }
 
 // A space begins a number, if the one before has a digit and there is room.
@@ -226,10 +231,10 @@ fn most(letter: u8) -> u64
         b'p' => 63,
         b'r' => 80,
         b'l' => 128,
-        b'b' => 255,
-        b'h' => 65535,
-        b'a' => 18446744073709551615,
-        _ => 4294967295,
+        b'b' => u8::MAX as u64,
+        b'h' => u16::MAX as u64,
+        b'a' => u64::MAX,
+        _ => u32::MAX as u64,
     }
 }
 
@@ -260,6 +265,17 @@ pub fn byte(numbers: &[u64], place: usize) -> u8
     ensures { result ≡ unwrap_or (slice_get numbers.now place) 0 % 2 ^ 8 }
 {
     (number_at(numbers, place).unwrap_or(0) % 256) as u8
+}
+
+// Prints values, each with a space before it.
+pub fn print_all<W: Write, T: Display>(out: &mut W, values: &[T]) -> io::Result<()>
+    ensures { OnOk result (IfSome (all_spaced T.output values.now) (Appends (W.contents out.old) (W.contents out.new))) }
+{
+    for value in values {
+        out.write_all(b" ")?;
+        write!(out, "{value}")?;
+    }
+    Ok(())
 }
 
 // Does a command take these numbers? Eight letters for each command say so.

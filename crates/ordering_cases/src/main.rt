@@ -7,137 +7,78 @@ mod pairs;
 mod show;
 
 use ordering::{Precedences, order};
-use script::{Bytes, Numbers, bytes_of, is_text, next_byte, numbers_of, place, takes};
+use script::{bytes_of, is_text, lines_of, named, next_byte, numbers_as, word};
 use std::io;
 use std::io::Write;
 use streams::{large_buffer, read_full};
 
-// The names of the commands, in the order of the numbers below: first those that take decimal numbers, then those that take bytes.
-const NAMES: [u8; 44] = *b"far count order small pairs more-pairs chain";
-
-const FAR: usize = 0;
-
-const COUNT: usize = 1;
-
-const SMALL: usize = 3;
-
-const PAIRS: usize = 4;
-
-const MORE_PAIRS: usize = 5;
-
-const CHAIN: usize = 6;
-
-// The numbers that each takes before `small`, eight letters for each: `.` none, `p` to 63, `w` to 4294967295.
-const SHAPES: [u8; 24] = *b"\
-pww.....\
-w.......\
-w.......";
-
-// That the numbers fit is tested before (`takes`), so no remainder here or below changes a number.
-fn word(value: u64) -> u32 {
-    (value % 4294967296) as u32
+#[derive(Clone, Copy)]
+enum Command {
+    Far,
+    Count,
+    Order,
+    Small,
+    Pairs,
+    MorePairs,
+    Chain,
 }
 
-// A command and the numbers behind it.
-fn obey_numbers(
-    out: &mut impl Write,
-    mut kept: Precedences,
-    command: usize,
-    found: Numbers,
-) -> io::Result<Precedences> {
-    if !takes(&SHAPES, command, found) {
-        show::words(out, b" ?")?;
-        return Ok(kept);
-    }
-    let numbers = found.values;
-    match command {
-        FAR => Ok(pairs::set(
-            kept,
-            (numbers[0] % 64) as usize,
-            word(numbers[1]),
-            word(numbers[2]),
-        )),
-        COUNT => {
-            kept.count = word(numbers[0]);
-            Ok(kept)
-        }
-        _ => {
-            show::ordered(out, order(word(numbers[0]), kept))?;
-            Ok(kept)
-        }
-    }
-}
+const COMMANDS: [(&[u8], Command); 7] = [
+    (b"far", Command::Far),
+    (b"count", Command::Count),
+    (b"order", Command::Order),
+    (b"small", Command::Small),
+    (b"pairs", Command::Pairs),
+    (b"more-pairs", Command::MorePairs),
+    (b"chain", Command::Chain),
+];
 
-// Does a command take so many bytes?
-fn takes_bytes(command: usize, count: usize) -> bool {
-    match command {
-        SMALL => 0 < count,
-        PAIRS => count % 2 == 0,
-        MORE_PAIRS => count % 2 == 1,
-        CHAIN => count == 2,
-        _ => false,
-    }
-}
-
-// A command and the bytes behind it.
-fn obey_bytes(
-    out: &mut impl Write,
-    kept: Precedences,
-    command: usize,
-    bytes: Bytes,
-) -> io::Result<Precedences> {
-    if !bytes.right {
-        show::words(out, b" ?")?;
-        return Ok(kept);
-    }
-    if !takes_bytes(command, bytes.count) {
-        show::words(out, b" ?")?;
-        return Ok(kept);
-    }
-    let values = bytes.values;
-    match command {
-        SMALL => {
-            show::ordered(out, order(values[0] as u32, pairs::of_digits(bytes)))?;
-            Ok(kept)
-        }
-        PAIRS => Ok(pairs::replace(kept, bytes)),
-        MORE_PAIRS => Ok(pairs::repeat(kept, bytes)),
-        _ => Ok(pairs::chain(kept, values[0], values[1])),
-    }
-}
-
-fn one_line(out: &mut impl Write, kept: Precedences, line: &[u8]) -> io::Result<Precedences> {
-    show::words(out, line)?;
-    if is_text(line) {
-        return Ok(kept);
-    }
+// What a line does, or nothing where it is no command. Of numbers, `p` stands for one to 63, `w` for one of 32 bits.
+fn obey(out: &mut impl Write, kept: &mut Precedences, line: &[u8]) -> Option<io::Result<()>> {
     let end = next_byte(line, 0, b' ');
-    let name = &line[..end];
-    let command = place(&NAMES, name);
-    if command < SMALL {
-        return obey_numbers(out, kept, command, numbers_of(line, end));
+    match named(&COMMANDS, &line[..end])? {
+        Command::Far => {
+            let numbers = numbers_as(b"pww.....", line, end)?;
+            let place = word(&numbers, 0) as usize;
+            pairs::set(kept, place, word(&numbers, 1), word(&numbers, 2));
+        }
+        Command::Count => kept.count = word(&numbers_as(b"w.......", line, end)?, 0),
+        Command::Order => {
+            let accesses = word(&numbers_as(b"w.......", line, end)?, 0);
+            return Some(show::ordered(out, &order(accesses, kept)));
+        }
+        Command::Small => {
+            let bytes = bytes_of(line, end)?;
+            let (accesses, digits) = bytes.split_first()?;
+            let given = order(*accesses as u32, &pairs::of_digits(digits));
+            return Some(show::ordered(out, &given));
+        }
+        Command::Pairs => pairs::replace(kept, &bytes_of(line, end)?)?,
+        Command::MorePairs => pairs::repeat(kept, &bytes_of(line, end)?)?,
+        Command::Chain => pairs::chain(kept, &bytes_of(line, end)?)?,
     }
-    obey_bytes(out, kept, command, bytes_of(line, end))
+    Some(Ok(()))
 }
 
-// Every line of the script, in turn.
-fn follow(out: &mut impl Write, text: &[u8]) -> io::Result<()> {
-    let mut kept = pairs::none();
-    let mut at: usize = 0;
-    while at < text.len() {
-        let end = next_byte(text, at, b'\n');
-        kept = one_line(out, kept, &text[at..end])?;
-        show::words(out, b"\n")?;
-        if end == text.len() {
-            return Ok(());
-        }
-        at = end + 1;
+fn one_line(out: &mut impl Write, kept: &mut Precedences, line: &[u8]) -> io::Result<()> {
+    out.write_all(line)?;
+    if is_text(line) {
+        return Ok(());
     }
-    Ok(())
+    match obey(out, kept, line) {
+        Some(obeyed) => obeyed,
+        None => out.write_all(b" ?"),
+    }
 }
 
 fn main(rt: HostRuntime) -> io::Result<()> {
     let mut text = large_buffer();
     let count = read_full(&mut rt.stdin(), &mut text);
-    follow(&mut rt.stdout(), &text[..count])
+    let mut out = rt.stdout();
+    let mut kept = pairs::none();
+    for line in lines_of(&text[..count]) {
+        one_line(&mut out, &mut kept, line)?;
+        out.write_all(b"\n")?;
+    }
+    Ok(())
 }

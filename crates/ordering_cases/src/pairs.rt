@@ -1,8 +1,5 @@
 // The pairs that are handed over, and what a line's bytes make of them.
-ghost use Rattle.std.specs.Prelude.{◌≤◌};
-
 use ordering::{MOST_PAIRS, Precedence, Precedences};
-use script::Bytes;
 
 // No pairs. Every place has 0 before 0, which would be a circle if it counted.
 pub(crate) fn none() -> Precedences {
@@ -17,112 +14,77 @@ pub(crate) fn none() -> Precedences {
 }
 
 // Sets the pair at a place, and leaves the count. There is nothing beyond the last place.
-pub(crate) fn set(mut kept: Precedences, place: usize, first: u32, second: u32) -> Precedences {
-    if place < MOST_PAIRS {
-        kept.pairs[place] = Precedence { first, second };
+pub(crate) fn set(kept: &mut Precedences, place: usize, first: u32, second: u32) {
+    if let Some(pair) = kept.pairs.get_mut(place) {
+        *pair = Precedence { first, second };
     }
-    kept
 }
 
 // One pair more. Beyond the last place only the count goes on, so that 65 pairs can be asked for.
-fn with_pair(kept: Precedences, first: u32, second: u32) -> Precedences {
-    let count = kept.count;
-    let mut next = set(kept, count as usize, first, second);
-    if count < 4294967295 {
-        next.count = count + 1;
-    }
-    next
+fn push(kept: &mut Precedences, first: u32, second: u32) {
+    set(kept, kept.count as usize, first, second);
+    kept.count = kept.count.saturating_add(1);
 }
 
-// How many bytes a line has: never more than there is room for, so the test changes nothing.
-fn length(bytes: Bytes) -> usize
-    ensures { result ≤ 128 }
-{
-    if bytes.count < 128 {
-        return bytes.count;
-    }
-    128
-}
-
-// The byte at a place. No line has a byte beyond these, so the remainder changes nothing.
-fn access(values: &[u8; 128], place: usize) -> u32 {
-    wide(values[place % 128])
-}
-
-fn wide(value: u8) -> u32 {
-    value as u32
-}
-
-// The pairs in the bytes behind the first, a digit for each access.
-pub(crate) fn of_digits(bytes: Bytes) -> Precedences {
-    let values = bytes.values;
-    let last = length(bytes);
+// The pairs in some bytes, a digit for each access.
+pub(crate) fn of_digits(bytes: &[u8]) -> Precedences {
     let mut pairs = none();
-    let mut i: usize = 1;
-    while i < last {
-        let digits = access(&values, i);
-        pairs = with_pair(pairs, digits / 16, digits % 16);
-        i += 1;
+    for digits in bytes {
+        push(&mut pairs, (*digits / 16) as u32, (*digits % 16) as u32);
     }
     pairs
 }
 
-// Appends the pairs in the bytes from `from` on, two bytes to a pair.
-fn append(mut kept: Precedences, bytes: Bytes, from: usize) -> Precedences {
-    let values = bytes.values;
-    let last = length(bytes);
-    let mut i = from;
-    while i < last {
-        kept = with_pair(kept, access(&values, i), access(&values, i + 1));
-        i += 2;
+// Appends the pairs in some bytes, two bytes to a pair.
+fn append(kept: &mut Precedences, bytes: &[u8]) {
+    for pair in bytes.chunks_exact(2) {
+        push(kept, pair[0] as u32, pair[1] as u32);
     }
-    kept
 }
 
-// The pairs are these. Places beyond them stay as they were.
-pub(crate) fn replace(mut kept: Precedences, bytes: Bytes) -> Precedences {
+// The pairs are these, if no byte is left over. Places beyond them stay as they were.
+pub(crate) fn replace(kept: &mut Precedences, bytes: &[u8]) -> Option<()> {
+    if bytes.len() % 2 == 1 {
+        return None;
+    }
     kept.count = 0;
-    append(kept, bytes, 0)
+    append(kept, bytes);
+    Some(())
 }
 
-// Appends the pairs behind the first byte as often as it says.
-pub(crate) fn repeat(mut kept: Precedences, bytes: Bytes) -> Precedences {
-    let values = bytes.values;
-    let times = access(&values, 0);
-    let mut i: u32 = 0;
-    while i < times {
-        kept = append(kept, bytes, 1);
-        i += 1;
+// Appends the pairs behind the first byte as often as it says, if no byte is left over.
+pub(crate) fn repeat(kept: &mut Precedences, bytes: &[u8]) -> Option<()> {
+    let (times, pairs) = bytes.split_first()?;
+    if pairs.len() % 2 == 1 {
+        return None;
     }
-    kept
+    for _ in 0..*times {
+        append(kept, pairs);
+    }
+    Some(())
 }
 
-// The ith access on the way from one to another.
-fn on_the_way(first: u8, last: u8, i: u32) -> u32 {
+// Appends a chain of pairs from the first of two bytes down or up to the second, by one at a time.
+pub(crate) fn chain(kept: &mut Precedences, bytes: &[u8]) -> Option<()> {
+    let [first, last] = bytes else {
+        return None;
+    };
     if first < last {
-        return first as u32 + i % 256;
+        up(kept, *first as u32, *last as u32);
+    } else {
+        down(kept, *first as u32, *last as u32);
     }
-    (first as u32 + 256 - i % 256) % 256
+    Some(())
 }
 
-fn distance(first: u8, last: u8) -> u8 {
-    if first < last {
-        return last - first;
+fn up(kept: &mut Precedences, first: u32, last: u32) {
+    for access in first..last {
+        push(kept, access, access + 1);
     }
-    first - last
 }
 
-// Appends a chain of pairs, from an access down or up to another by one at a time.
-pub(crate) fn chain(mut kept: Precedences, first: u8, last: u8) -> Precedences {
-    let steps = distance(first, last) as u32;
-    let mut i: u32 = 0;
-    while i < steps {
-        kept = with_pair(
-            kept,
-            on_the_way(first, last, i),
-            on_the_way(first, last, i + 1),
-        );
-        i += 1;
+fn down(kept: &mut Precedences, first: u32, last: u32) {
+    for access in (last..first).rev() {
+        push(kept, access + 1, access);
     }
-    kept
 }

@@ -1,49 +1,43 @@
-// Both files: how long each is, and what a line's bytes add to it.
-use script::Bytes;
+// Both files, and what a line's bytes add to one.
+use arrayvec::ArrayVec;
+use printed::files::MOST_BYTES;
 
-// How many bytes each file has.
-#[derive(Clone, Copy)]
-pub struct Lengths {
-    pub table: usize,
-    pub trace: usize,
+// One byte more than a file may have.
+const ROOM: usize = MOST_BYTES + 1;
+
+pub(crate) type File = ArrayVec<u8, ROOM>;
+
+#[derive(Drop)]
+pub(crate) struct Files {
+    pub table: File,
+    pub trace: File,
 }
 
-// Puts the bytes from `first` to before `last` behind the first `count` of a file, as many as there is room for; how many it then has.
-fn append(bytes: &[u8], first: usize, last: usize, file: &mut [u8], mut count: usize) -> usize {
-    let mut i = first;
-    while i < last {
-        if bytes.len() <= i {
-            return count;
+impl Files {
+    pub(crate) fn empty() -> Files {
+        Files {
+            table: File::new(),
+            trace: File::new(),
         }
-        if file.len() <= count {
-            return count;
-        }
-        file[count] = bytes[i];
-        count += 1;
-        i += 1;
     }
-    count
 }
 
-// The file is these bytes.
-pub(crate) fn replace(bytes: Bytes, file: &mut [u8]) -> usize {
-    let values = bytes.values;
-    append(&values, 0, bytes.count, file, 0)
-}
-
-fn both(high: u8, low: u8) -> usize {
-    high as usize * 256 + low as usize
+// Puts bytes behind those of a file, as many as there is room for.
+pub(crate) fn append(file: &mut File, bytes: &[u8]) {
+    for byte in bytes {
+        if file.is_full() {
+            return;
+        }
+        file.push(*byte);
+    }
 }
 
 // Appends the bytes behind the first two as often as these two say, the higher one first.
-pub(crate) fn repeat(bytes: Bytes, file: &mut [u8], mut count: usize) -> usize {
-    let values = bytes.values;
-    let times = both(values[0], values[1]);
-    let last = bytes.count;
-    let mut i: usize = 0;
-    while i < times {
-        count = append(&values, 2, last, file, count);
-        i += 1;
+pub(crate) fn repeat(file: &mut File, bytes: &[u8]) {
+    let [high, low, rest @ ..] = bytes else {
+        return;
+    };
+    for _ in 0..*high as usize * 256 + *low as usize {
+        append(file, rest);
     }
-    count
 }

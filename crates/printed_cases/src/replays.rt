@@ -1,92 +1,80 @@
 // A replay of the trace on the table, with all that was lent as it is left.
 ghost use Rattle.std.specs.Prelude.{◌≤◌};
 
-use crate::show;
+use crate::files::Files;
 use counts::Counts;
-use replay::Replayed;
+use number::refusal::Refusal;
+use replay::replaying;
+use script::print_all;
 use std::io;
 use std::io::Write;
 use table::Table;
 use table::read::read_table;
 
-// A length, at most so large.
-fn within(value: u8, most: usize) -> usize
+// What a replay is lent. Before, the memory's words are 9, the bytes of both buffers 238 and the values 7777; the counts are 5 and 3.
+#[derive(Clone, Copy)]
+struct Lent {
+    memory: [u32; 8],
+    counts: Counts,
+    answers: [u8; 14],
+    given: [u8; 14],
+    values: [u32; 14],
+}
+
+impl Lent {
+    fn fresh() -> Lent {
+        Lent {
+            memory: [9; 8],
+            counts: Counts {
+                loads: 5,
+                forwarded: 3,
+            },
+            answers: [238; 14],
+            given: [238; 14],
+            values: [7777; 14],
+        }
+    }
+}
+
+// The byte at a place as a length, at most so large; 0 where there is none.
+fn within(lengths: &[u8], place: usize, most: usize) -> usize
     ensures { result ≤ most }
 {
-    let length = value as usize;
-    if length < most {
-        return length;
+    let length = lengths.get(place).copied().unwrap_or(0);
+    (length as usize).min(most)
+}
+
+// The answer, the events that were played, and all that was lent.
+fn show(out: &mut impl Write, played: Result<usize, Refusal>, lent: &Lent) -> io::Result<()> {
+    match played {
+        Ok(events) => write!(out, ": 0, events {events}")?,
+        Err(refusal) => write!(out, ": {}, events 0", refusal.number())?,
     }
-    most
+    write!(out, ", loads {}", lent.counts.loads)?;
+    write!(out, " forwarded {}", lent.counts.forwarded)?;
+    out.write_all(b"\n  memory")?;
+    print_all(out, &lent.memory)?;
+    out.write_all(b"\n  answers")?;
+    print_all(out, &lent.answers)?;
+    out.write_all(b"\n  given")?;
+    print_all(out, &lent.given)?;
+    out.write_all(b"\n  values")?;
+    print_all(out, &lent.values)
 }
 
-fn show_replayed(out: &mut impl Write, played: Replayed) -> io::Result<()> {
-    let counts = played.counts;
-    show::number(out, b": ", played.answer as u64)?;
-    show::number(out, b", events ", played.events as u64)?;
-    show::number(out, b", loads ", counts.loads as u64)?;
-    show::number(out, b" forwarded ", counts.forwarded as u64)
-}
-
-// Lends the first words of the memory, and the first places of each buffer, as the lengths say.
-fn replay_in(
-    lengths: [u8; 4],
-    table: Table,
-    trace: &[u8],
-    memory: &mut [u32],
-    answers: &mut [u8],
-    given: &mut [u8],
-    values: &mut [u32],
-) -> Replayed {
-    let words = within(lengths[0], memory.len());
-    let first = within(lengths[1], answers.len());
-    let second = within(lengths[2], given.len());
-    let third = within(lengths[3], values.len());
-    let counts = Counts {
-        loads: 5,
-        forwarded: 3,
-    };
-    replay::replaying::replay(
+// Lends the first words of the memory, and the first places of the answers, the marks of given values and the values, as the lengths
+// say. A table that cannot be read counts as none.
+pub(crate) fn replay(out: &mut impl Write, files: &Files, lengths: &[u8]) -> io::Result<()> {
+    let table = read_table(&files.table).unwrap_or(Table::none());
+    let mut lent = Lent::fresh();
+    let played = replaying::replay(
         table,
-        trace,
-        &mut memory[..words],
-        counts,
-        &mut answers[..first],
-        &mut given[..second],
-        &mut values[..third],
-    )
-}
-
-// Before, the memory's words are 9, the bytes of both buffers 238 and the values 7777; the counts are 5 and 3.
-fn replay_on(out: &mut impl Write, lengths: [u8; 4], table: Table, trace: &[u8]) -> io::Result<()> {
-    let mut memory = [9u32; 8];
-    let mut answers = [238u8; 14];
-    let mut given = [238u8; 14];
-    let mut values = [7777u32; 14];
-    let played = replay_in(
-        lengths,
-        table,
-        trace,
-        &mut memory,
-        &mut answers,
-        &mut given,
-        &mut values,
+        &files.trace,
+        &mut lent.memory[..within(lengths, 0, 8)],
+        &mut lent.counts,
+        &mut lent.answers[..within(lengths, 1, 14)],
+        &mut lent.given[..within(lengths, 2, 14)],
+        &mut lent.values[..within(lengths, 3, 14)],
     );
-    show_replayed(out, played)?;
-    show::numbers(out, b"\n  memory", &memory)?;
-    show::bytes(out, b"\n  answers", &answers)?;
-    show::bytes(out, b"\n  given", &given)?;
-    show::numbers(out, b"\n  values", &values)
-}
-
-// The lengths are those of the memory, the answers, the marks of given values, and the values.
-pub(crate) fn replay(
-    out: &mut impl Write,
-    lengths: [u8; 4],
-    table: &[u8],
-    trace: &[u8],
-) -> io::Result<()> {
-    let read = read_table(table);
-    let held = read.table;
-    replay_on(out, lengths, held, trace)
+    show(out, played, &lent)
 }

@@ -1,98 +1,80 @@
 // The text of both files, in a buffer whose bytes are EE before.
-use crate::show;
-use number::BytesWritten;
+use crate::files::Files;
+use number::refusal::Refusal;
+use printed::text;
 use printed::text::MOST_TEXT;
 use std::io;
 use std::io::Write;
 
+// Of its own, so that nothing is proved where so long a literal stands.
 fn text_buffer() -> [u8; MOST_TEXT] {
     [0xEE; MOST_TEXT]
 }
 
-// One byte too short.
-fn short_buffer() -> [u8; MOST_TEXT - 1] {
-    [0xEE; MOST_TEXT - 1]
-}
-
-// Says whether the bytes from a place on are still EE.
-fn show_kept(out: &mut impl Write, buffer: &[u8], from: usize) -> io::Result<()> {
-    let mut i = from;
-    while i < buffer.len() {
-        if buffer[i] != 0xEE {
-            return show::words(out, b", the rest changed");
-        }
-        i += 1;
+// Says whether some bytes are all EE still.
+fn show_kept(out: &mut impl Write, rest: &[u8]) -> io::Result<()> {
+    if rest.iter().all(|byte| *byte == 0xEE) {
+        return out.write_all(b", the rest kept");
     }
-    show::words(out, b", the rest kept")
+    out.write_all(b", the rest changed")
 }
 
 // What came back: the refusal, or the text's length and whether the rest of the buffer is kept, and then the text.
-fn show_text(out: &mut impl Write, buffer: &[u8], written: BytesWritten) -> io::Result<()> {
+fn show_text(
+    out: &mut impl Write,
+    buffer: &[u8],
+    written: Result<usize, Refusal>,
+) -> io::Result<()> {
     match written {
-        BytesWritten::Unwritten(refusal) => {
-            show::number(out, b": ", refusal as u64)?;
-            show_kept(out, buffer, 0)
+        Ok(count) => {
+            let (text, rest) = buffer.split_at(count.min(buffer.len()));
+            write!(out, ": bytes {count}")?;
+            show_kept(out, rest)?;
+            out.write_all(b"\n")?;
+            out.write_all(text)
         }
-        BytesWritten::Bytes(n) => {
-            show::number(out, b": bytes ", n as u64)?;
-            show_kept(out, buffer, n)?;
-            show::words(out, b"\n")?;
-            if n < buffer.len() {
-                return show::words(out, &buffer[..n]);
-            }
-            show::words(out, buffer)
+        Err(refusal) => {
+            write!(out, ": {}", refusal.number())?;
+            show_kept(out, buffer)
         }
     }
 }
 
-pub(crate) fn print(out: &mut impl Write, table: &[u8], trace: &[u8]) -> io::Result<()> {
-    let mut buffer = text_buffer();
-    let written = printed::text::print(table, trace, &mut buffer);
-    show_text(out, &buffer, written)
-}
-
-pub(crate) fn print_short(out: &mut impl Write, table: &[u8], trace: &[u8]) -> io::Result<()> {
-    let mut buffer = short_buffer();
-    let written = printed::text::print(table, trace, &mut buffer);
-    show_text(out, &buffer, written)
+// The text in a buffer of so many bytes, which are no more than there is room for.
+pub(crate) fn print(out: &mut impl Write, files: &Files, length: usize) -> io::Result<()> {
+    let mut room = text_buffer();
+    let buffer = &mut room[..length.min(MOST_TEXT)];
+    let written = text::print(&files.table, &files.trace, buffer);
+    show_text(out, buffer, written)
 }
 
 // Each byte in turn, added to 31 times what was there, modulo 2^32.
-fn checksum(text: &[u8]) -> u64 {
-    let mut sum: u64 = 0;
-    let mut i: usize = 0;
-    while i < text.len() {
-        sum = mixed(sum, text[i]);
-        i += 1;
+fn checksum(text: &[u8]) -> u32 {
+    let mut sum: u32 = 0;
+    for byte in text {
+        sum = sum.wrapping_mul(31).wrapping_add(*byte as u32);
     }
     sum
 }
 
-fn mixed(sum: u64, byte: u8) -> u64 {
-    (sum % 4294967296 * 31 + byte as u64) % 4294967296
-}
-
-// The checksum of the first n bytes, and the last 48 of them.
-fn show_end(out: &mut impl Write, buffer: &[u8], n: usize) -> io::Result<()> {
-    if buffer.len() < n {
-        return Ok(());
+// The checksum of a text, and its last 48 bytes.
+fn show_end(out: &mut impl Write, text: &[u8]) -> io::Result<()> {
+    write!(out, " checksum {}", checksum(text))?;
+    if let Some(from) = text.len().checked_sub(48) {
+        out.write_all(b" and at the end\n")?;
+        out.write_all(&text[from..])?;
     }
-    show::number(out, b" checksum ", checksum(&buffer[..n]))?;
-    if n < 48 {
-        return Ok(());
-    }
-    let from = n - 48;
-    show::words(out, b" and at the end\n")?;
-    show::words(out, &buffer[from..n])
+    Ok(())
 }
 
 // A text that is too long to be stored: its length, its checksum and its end.
-pub(crate) fn measure(out: &mut impl Write, table: &[u8], trace: &[u8]) -> io::Result<()> {
+pub(crate) fn measure(out: &mut impl Write, files: &Files) -> io::Result<()> {
     let mut buffer = text_buffer();
-    let written = printed::text::print(table, trace, &mut buffer);
-    if let BytesWritten::Bytes(n) = written {
-        show::number(out, b": bytes ", n as u64)?;
-        return show_end(out, &buffer, n);
+    if let Ok(count) = text::print(&files.table, &files.trace, &mut buffer) {
+        write!(out, ": bytes {count}")?;
+        if let Some(text) = buffer.get(..count) {
+            return show_end(out, text);
+        }
     }
     Ok(())
 }

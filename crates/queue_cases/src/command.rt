@@ -1,124 +1,147 @@
-// The commands: their names, how many numbers each takes, and how large these may be.
-use script::Numbers;
+// The commands other than `table`: their names, how many numbers each takes, and how large these may be.
+use cases::Part;
+use queue::Kind;
 
-// The names, in the order of the numbers below.
-const NAMES: [u8; 372] =
-    *b"activate load-address store-address store-data take serve write ready-loads ready-stores \
-each open memory counts count share show sound unpack pack set-load-depth set-load-count set-load-next set-store-depth \
-set-store-count set-store-next set-words set-load set-store set-groups set-group set-load-pair set-store-pair put-table \
-take-recorded recorded set-record page table";
-
-pub(crate) const ACTIVATE: usize = 0;
-
-pub(crate) const LOAD_ADDRESS: usize = 1;
-
-pub(crate) const STORE_ADDRESS: usize = 2;
-
-pub(crate) const STORE_DATA: usize = 3;
-
-pub(crate) const SERVE: usize = 5;
-
-pub(crate) const WRITE: usize = 6;
-
-pub(crate) const READY_LOADS: usize = 7;
-
-pub(crate) const READY_STORES: usize = 8;
-
-pub(crate) const EACH: usize = 9;
-
-pub(crate) const OPEN: usize = 10;
-
-pub(crate) const MEMORY: usize = 11;
-
-pub(crate) const COUNTS: usize = 12;
-
-pub(crate) const COUNT: usize = 13;
-
-pub(crate) const SHARE: usize = 14;
-
-pub(crate) const SHOW: usize = 15;
-
-pub(crate) const UNPACK: usize = 17;
-
-pub(crate) const PACK: usize = 18;
-
-// The first of the commands that set a part of a record.
-pub(crate) const SET_LOAD_DEPTH: usize = 19;
-
-pub(crate) const SET_STORE_DEPTH: usize = 22;
-
-pub(crate) const SET_WORDS: usize = 25;
-
-pub(crate) const SET_LOAD: usize = 26;
-
-pub(crate) const SET_STORE: usize = 27;
-
-pub(crate) const SET_GROUPS: usize = 28;
-
-pub(crate) const SET_GROUP: usize = 29;
-
-pub(crate) const SET_LOAD_PAIR: usize = 30;
-
-pub(crate) const SET_STORE_PAIR: usize = 31;
-
-pub(crate) const PUT_TABLE: usize = 32;
-
-// The first of the commands on the shift record.
-pub(crate) const TAKE_RECORDED: usize = 33;
-
-pub(crate) const RECORDED: usize = 34;
-
-pub(crate) const SET_RECORD: usize = 35;
-
-pub(crate) const TABLE: usize = 37;
-
-// The numbers that each takes before `table`, eight letters for each: `.` none, `w` any, `o` any or none, `f` to 1, `g` to 15,
-// `q` to 31, `p` to 63, `r` to 80, `b` to 255, `h` to 65535.
-const SHAPES: [u8; 296] = *b"\
-w.......\
-ww......\
-ww......\
-ww......\
-w.......\
-w.......\
-w.......\
-r.......\
-r.......\
-........\
-wwww....\
-oooooooo\
-ww......\
-f.......\
-........\
-........\
-........\
-ww......\
-bbfhfwf.\
-b.......\
-b.......\
-w.......\
-b.......\
-b.......\
-w.......\
-h.......\
-pqbfhfwf\
-pqbfhfwf\
-b.......\
-gbbbb...\
-qbb.....\
-qbb.....\
-........\
-w.......\
-ww......\
-qww.....\
-h.......";
-
-// The command of that name, or 38.
-pub(crate) fn named(word: &[u8]) -> usize {
-    script::place(&NAMES, word)
+#[derive(Clone, Copy)]
+pub(crate) enum Command {
+    Call(Call),
+    Each,
+    Open,
+    Memory,
+    Counts,
+    Count,
+    Share,
+    Show,
+    Sound,
+    Unpack,
+    Pack,
+    Set(Field),
+    SetTable(Part),
+    PutTable,
+    TakeRecorded,
+    Recorded,
+    SetRecord,
+    Page,
 }
 
-// Does a command other than `table` take these numbers?
-pub(crate) fn takes(command: usize, arguments: Numbers) -> bool {
-    script::takes(&SHAPES, command, arguments)
+// A call on the queue.
+#[derive(Clone, Copy)]
+pub(crate) enum Call {
+    Activate,
+    LoadAddress,
+    StoreAddress,
+    StoreData,
+    Take,
+    Serve,
+    Write,
+    Ready(Kind),
+}
+
+// The calls of `each`, in their order.
+pub(crate) const CALLS: [Call; 9] = [
+    Call::Activate,
+    Call::LoadAddress,
+    Call::StoreAddress,
+    Call::StoreData,
+    Call::Take,
+    Call::Serve,
+    Call::Write,
+    Call::Ready(Kind::Load),
+    Call::Ready(Kind::Store),
+];
+
+// A field of the queue's record.
+#[derive(Clone, Copy)]
+pub(crate) enum Field {
+    Depth(Kind),
+    Count(Kind),
+    Next(Kind),
+    Words,
+    Entry(Kind),
+}
+
+// What each name asks for.
+pub(crate) const COMMANDS: [(&[u8], Command); 37] = [
+    (b"activate", Command::Call(Call::Activate)),
+    (b"load-address", Command::Call(Call::LoadAddress)),
+    (b"store-address", Command::Call(Call::StoreAddress)),
+    (b"store-data", Command::Call(Call::StoreData)),
+    (b"take", Command::Call(Call::Take)),
+    (b"serve", Command::Call(Call::Serve)),
+    (b"write", Command::Call(Call::Write)),
+    (b"ready-loads", Command::Call(Call::Ready(Kind::Load))),
+    (b"ready-stores", Command::Call(Call::Ready(Kind::Store))),
+    (b"each", Command::Each),
+    (b"open", Command::Open),
+    (b"memory", Command::Memory),
+    (b"counts", Command::Counts),
+    (b"count", Command::Count),
+    (b"share", Command::Share),
+    (b"show", Command::Show),
+    (b"sound", Command::Sound),
+    (b"unpack", Command::Unpack),
+    (b"pack", Command::Pack),
+    (b"set-load-depth", Command::Set(Field::Depth(Kind::Load))),
+    (b"set-load-count", Command::Set(Field::Count(Kind::Load))),
+    (b"set-load-next", Command::Set(Field::Next(Kind::Load))),
+    (b"set-store-depth", Command::Set(Field::Depth(Kind::Store))),
+    (b"set-store-count", Command::Set(Field::Count(Kind::Store))),
+    (b"set-store-next", Command::Set(Field::Next(Kind::Store))),
+    (b"set-words", Command::Set(Field::Words)),
+    (b"set-load", Command::Set(Field::Entry(Kind::Load))),
+    (b"set-store", Command::Set(Field::Entry(Kind::Store))),
+    (b"set-groups", Command::SetTable(Part::Count)),
+    (b"set-group", Command::SetTable(Part::Group)),
+    (b"set-load-pair", Command::SetTable(Part::LoadPair)),
+    (b"set-store-pair", Command::SetTable(Part::StorePair)),
+    (b"put-table", Command::PutTable),
+    (b"take-recorded", Command::TakeRecorded),
+    (b"recorded", Command::Recorded),
+    (b"set-record", Command::SetRecord),
+    (b"page", Command::Page),
+];
+
+impl Command {
+    // The numbers that it takes, eight letters: `.` none, `w` any, `o` any or none, `f` to 1, `g` to 15, `q` to 31, `p` to 63, `r` to
+    // 80, `b` to 255, `h` to 65535.
+    pub(crate) fn shape(self) -> &'static [u8; 8] {
+        match self {
+            Command::Call(call) => call.shape(),
+            Command::Set(field) => field.shape(),
+            Command::SetTable(Part::Count) => b"b.......",
+            Command::SetTable(Part::Group) => b"gbbbb...",
+            Command::SetTable(_) => b"qbb.....",
+            Command::Each | Command::Share | Command::Show => b"........",
+            Command::Sound | Command::PutTable => b"........",
+            Command::Open => b"wwww....",
+            Command::Memory => b"oooooooo",
+            Command::Counts | Command::Unpack | Command::Recorded => b"ww......",
+            Command::Count => b"f.......",
+            Command::Pack => b"bbfhfwf.",
+            Command::TakeRecorded => b"w.......",
+            Command::SetRecord => b"qww.....",
+            Command::Page => b"h.......",
+        }
+    }
+}
+
+impl Call {
+    fn shape(self) -> &'static [u8; 8] {
+        match self {
+            Call::Activate | Call::Take | Call::Serve | Call::Write => b"w.......",
+            Call::LoadAddress | Call::StoreAddress | Call::StoreData => b"ww......",
+            Call::Ready(_) => b"r.......",
+        }
+    }
+}
+
+impl Field {
+    fn shape(self) -> &'static [u8; 8] {
+        match self {
+            Field::Depth(_) | Field::Count(_) => b"b.......",
+            Field::Next(_) => b"w.......",
+            Field::Words => b"h.......",
+            Field::Entry(_) => b"pqbfhfwf",
+        }
+    }
 }

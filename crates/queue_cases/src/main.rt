@@ -9,98 +9,84 @@ mod packing;
 mod ready;
 mod records;
 mod run;
-mod same;
 mod shift_record;
 mod show;
 
+use crate::command::{COMMANDS, Command};
 use crate::run::Run;
-use script::{Numbers, is_text};
+use cases::set_part;
+use script::{bytes_of, is_text, lines_of, named, next_byte, numbers_as, word};
 use std::io;
 use std::io::Write;
 use streams::{large_buffer, read_full};
 
-// That a number fits 32 bits is tested before (`command::takes`).
-fn word(value: u64) -> u32 {
-    (value % 4294967296) as u32
+// What the command does, whose numbers are as many as it takes; nothing where a page would be too long.
+fn obey(
+    out: &mut impl Write,
+    run: &mut Run,
+    command: Command,
+    numbers: &[u64],
+) -> Option<io::Result<()>> {
+    let first = word(numbers, 0);
+    let second = word(numbers, 1);
+    match command {
+        Command::Call(call) => return Some(calls::call(out, run, call, first, second)),
+        Command::Each => return Some(calls::each(out, run)),
+        Command::Open => return Some(run.open(out, numbers)),
+        Command::Memory => run.set_memory(numbers),
+        Command::Counts => run.set_counts(first, second),
+        Command::Count => return Some(run.count(out, first == 1)),
+        Command::Share => return Some(run.show_share(out)),
+        Command::Show => return Some(run.show(out)),
+        Command::Sound => return Some(run.show_sound(out)),
+        Command::Unpack => return Some(packing::unpack(out, first, second)),
+        Command::Pack => return Some(packing::pack(out, numbers)),
+        Command::Set(field) => records::set(&mut run.queue, field, numbers),
+        Command::SetTable(part) => set_part(&mut run.table, part, numbers),
+        Command::PutTable => run.queue.frame.table = run.table,
+        Command::TakeRecorded => return Some(shift_record::take(out, run, first)),
+        Command::Recorded => return Some(shift_record::record(out, run, first, second)),
+        Command::SetRecord => shift_record::set(run, numbers),
+        Command::Page => return shift_record::page(out, run, first as usize),
+    }
+    Some(Ok(()))
 }
 
-fn words(n: [u64; 8]) -> [u32; 8] {
-    [
-        word(n[0]),
-        word(n[1]),
-        word(n[2]),
-        word(n[3]),
-        word(n[4]),
-        word(n[5]),
-        word(n[6]),
-        word(n[7]),
-    ]
-}
-
-// What the command does, once its numbers are as many as it takes.
-fn obey(out: &mut impl Write, run: Run, command: usize, arguments: Numbers) -> io::Result<Run> {
-    if !command::takes(command, arguments) {
-        show::words(out, b" ?")?;
-        return Ok(run);
+// A line with a command, or nothing where it is none.
+fn command_line(out: &mut impl Write, run: &mut Run, line: &[u8]) -> Option<io::Result<()>> {
+    let end = next_byte(line, 0, b' ');
+    let name = &line[..end];
+    if name == b"table".as_slice() {
+        return Some(run.read(out, &bytes_of(line, end)?));
     }
-    let values = arguments.values;
-    let numbers = words(values);
-    if command < command::EACH {
-        return calls::call(out, run, command, numbers[0], numbers[1]);
-    }
-    if command == command::EACH {
-        return calls::each(out, run);
-    }
-    if command < command::SET_LOAD_DEPTH {
-        return run::other(out, run, command, numbers, arguments.count);
-    }
-    if command < command::TAKE_RECORDED {
-        return Ok(records::set(run, command, numbers));
-    }
-    shift_record::obey(out, run, command, numbers)
-}
-
-// A line with a command.
-fn command_line(out: &mut impl Write, run: Run, line: &[u8]) -> io::Result<Run> {
-    let end = script::next_byte(line, 0, b' ');
-    let word = &line[..end];
-    let command = command::named(word);
-    if command == command::TABLE {
-        return run::read_table(out, run, script::bytes_of(line, end));
-    }
-    obey(out, run, command, script::numbers_of(line, end))
+    let command = named(&COMMANDS, name)?;
+    let numbers = numbers_as(command.shape(), line, end)?;
+    obey(out, run, command, &numbers)
 }
 
 // An empty line ends a case: nothing of it is held any more.
-fn one_line(out: &mut impl Write, run: Run, line: &[u8]) -> io::Result<Run> {
-    show::words(out, line)?;
-    if line.len() == 0 {
-        return Ok(run::fresh());
+fn one_line(out: &mut impl Write, run: &mut Run, line: &[u8]) -> io::Result<()> {
+    out.write_all(line)?;
+    if line.is_empty() {
+        *run = Run::fresh();
     }
     if is_text(line) {
-        return Ok(run);
+        return Ok(());
     }
-    command_line(out, run, line)
-}
-
-// Every line of the script, in turn.
-fn follow(out: &mut impl Write, text: &[u8]) -> io::Result<()> {
-    let mut run = run::fresh();
-    let mut at: usize = 0;
-    while at < text.len() {
-        let end = script::next_byte(text, at, b'\n');
-        run = one_line(out, run, &text[at..end])?;
-        show::words(out, b"\n")?;
-        if end == text.len() {
-            return Ok(());
-        }
-        at = end + 1;
+    match command_line(out, run, line) {
+        Some(obeyed) => obeyed,
+        None => out.write_all(b" ?"),
     }
-    Ok(())
 }
 
 fn main(rt: HostRuntime) -> io::Result<()> {
     let mut text = large_buffer();
     let count = read_full(&mut rt.stdin(), &mut text);
-    follow(&mut rt.stdout(), &text[..count])
+    let mut out = rt.stdout();
+    let mut run = Run::fresh();
+    for line in lines_of(&text[..count]) {
+        one_line(&mut out, &mut run, line)?;
+        out.write_all(b"\n")?;
+    }
+    Ok(())
 }

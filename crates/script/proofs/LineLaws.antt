@@ -1,112 +1,60 @@
 -- Laws of what is read of a line, byte by byte.
-use Prim.Native.Nat.{ℕ, suc, ◌+◌, ◌-◌, ◌*◌, ◌/◌, ◌≤◌, ◌<◌}
-use mathlib.Core.Path.{◌≡◌, refl, sym, ◌∙◌}
-use mathlib.Core.Bool.{Bool, true, false}
-use native.Mathlib.Omega.{arith}
-use lib.Dec.{eqb, ltb}
-use mathlib.Core.List.{List}
-use native.Mathlib.Numerals.{add-one}
-use lib.ListN.{length, drop, get_or, drop_of_length-le}
-use lib.Seq.{drop-cons}
-use borrow.Author.Tests.{eq-eqb, ne_eqb, lt-ltb}
-use Rattle.script.specs.declared.Numbers.{Numbers}
-use Rattle.script.specs.declared.Bytes.{Bytes}
-use Rattle.script.specs.declared.Looking.{Looking}
-use Rattle.script.specs.Lines.{pick, until}
+use Rattle.std.proofs.Common.{◌≡◌, ℕ, suc, ◌+◌, ◌-◌, ◌*◌, ◌/◌, ◌<◌, ◌≤◌, Bool, true, false, cond, not, nat_eq, List, [], ◌∷◌, length, get_or, take, drop, refl, one-add, drop-cons, arith, Option, Some, None, slice_get}
+use Rattle.std.proofs.Math.ListN.{drop_of_length-le}
+use borrow.Author.Tests.{lt-ltb}
+use Rattle.script.specs.Lines.{pick, read_all, until, begun_by, lines_in}
 use Rattle.script.specs.Shapes.{fits_of, fit_from, taken}
-use Rattle.script.specs.Names.{look_step, look_steps}
-use Rattle.script.specs.Decimal.{number_step, number_steps}
-use Rattle.script.specs.Hexadecimal.{byte_step, byte_steps}
 
--- the byte stands here; it does not; the bytes end
-pub until_here : (byte : ℕ) (l : List ℕ) (i : ℕ) → i < length l → get_or l i 0 ≡ byte → until byte (drop i l) ≡ 0
-unfolding until
-until_here byte l i h e = rw (drop-cons l i 0, eq-eqb _ _ e)
+-- one byte more; no more bytes; nothing is read behind a step that gives nothing
+pub read_next : {A : Type 0} (step : A → ℕ → Option A) (a : A) (l : List ℕ) (i : ℕ) → i < length l
+    → read_all step (Some a) (drop i l) ≡ read_all step (step a (get_or l i 0)) (drop (suc i) l)
+unfolding read_all
+read_next step a l i h = rw (drop-cons l i 0)
 
-pub until_next : (byte : ℕ) (l : List ℕ) (i : ℕ) → i < length l → (get_or l i 0 ≡ byte → ⊥)
-    → until byte (drop i l) ≡ suc (until byte (drop (i + 1) l))
-unfolding until
-until_next byte l i h e = rw (add-one, drop-cons l i 0, ne_eqb _ _ e)
+pub read_end : {A : Type 0} (step : A → ℕ → Option A) (r : Option A) (l : List ℕ) (i : ℕ) → length l ≤ i → read_all step r (drop i l) ≡ r
+unfolding read_all
+read_end step r l i h = rw (drop_of_length-le l h)
 
-pub until_end : (byte : ℕ) (l : List ℕ) (i : ℕ) → length l ≤ i → until byte (drop i l) ≡ 0
-unfolding until
-until_end byte l i h = rw (drop_of_length-le l h)
-
--- one byte more, and no more bytes
-pub number_steps_next : (r : Numbers) (l : List ℕ) (i : ℕ) → i < length l
-    → number_steps r (drop i l) ≡ number_steps (number_step r (get_or l i 0)) (drop (suc i) l)
-unfolding number_steps
-number_steps_next r l i h = rw (drop-cons l i 0)
-
-pub number_steps_end : (r : Numbers) (l : List ℕ) (i : ℕ) → length l ≤ i → number_steps r (drop i l) ≡ r
-unfolding number_steps
-number_steps_end r l i h = rw (drop_of_length-le l h)
-
-pub byte_steps_next : (r : Bytes) (l : List ℕ) (i : ℕ) → i < length l
-    → byte_steps r (drop i l) ≡ byte_steps (byte_step r (get_or l i 0)) (drop (suc i) l)
-unfolding byte_steps
-byte_steps_next r l i h = rw (drop-cons l i 0)
-
-pub byte_steps_end : (r : Bytes) (l : List ℕ) (i : ℕ) → length l ≤ i → byte_steps r (drop i l) ≡ r
-unfolding byte_steps
-byte_steps_end r l i h = rw (drop_of_length-le l h)
-
-pub look_steps_next : (word : List ℕ) (r : Looking) (l : List ℕ) (i : ℕ) → i < length l
-    → look_steps word r (drop i l) ≡ look_steps word (look_step word r (get_or l i 0)) (drop (suc i) l)
-unfolding look_steps
-look_steps_next word r l i h = rw (drop-cons l i 0)
-
-pub look_steps_end : (word : List ℕ) (r : Looking) (l : List ℕ) (i : ℕ) → length l ≤ i → look_steps word r (drop i l) ≡ r
-unfolding look_steps
-look_steps_end word r l i h = rw (drop_of_length-le l h)
-
--- a byte ends one name at most
-pub look-few : (word : List ℕ) (r : Looking) (b : ℕ) → (look_step word r b).number ≤ r.number + 1
-unfolding look_step
-look-few word r b = go r.found (eqb b 32) r.alike (eqb r.at (length word)) (ltb r.at (length word))
-  where
-    next : Looking
-    next = record { found = false; number = r.number + 1; at = 0; alike = true }
-
-    go : (f s a e l : Bool) → (pick f r (pick s (pick a (pick e (record { found = true; number = r.number; at = 0; alike = true }) next) next)
-        (pick l (record { found = false; number = r.number; at = r.at + 1; alike = pick (eqb (get_or word r.at 0) b) r.alike false })
-        (record { found = false; number = r.number; at = r.at; alike = false })))).number ≤ r.number + 1
-    go true s a e l = omega arith
-    go false true true true l = omega arith
-    go false true true false l = omega arith
-    go false true false e l = omega arith
-    go false false a e true = omega arith
-    go false false a e false = omega arith
+pub read_none : {A : Type 0} (step : A → ℕ → Option A) (l : List ℕ) → read_all step None l ≡ None
+unfolding read_all
+read_none step [] = refl
+read_none step (b ∷ s) = read_none step s
 
 -- does the ith number fit its letter
-abbrev pub fits_at : List ℕ → ℕ → Numbers → ℕ → Bool
-fits_at shapes base r i = fits_of (get_or shapes (base + i) 0) (ltb i r.count) (get_or r.values i 0)
+abbrev pub fits_at : List ℕ → ℕ → List ℕ → ℕ → Bool
+fits_at shapes base numbers i = fits_of (get_or shapes (base + i) 0) (slice_get numbers i)
 
-pub fit_next : (shapes : List ℕ) (base : ℕ) (r : Numbers) (i : ℕ) → i < 8
-    → fit_from shapes base r i (8 - i) ≡ pick (fits_at shapes base r i) (fit_from shapes base r (i + 1) (8 - (i + 1))) false
+pub fit_next : (shapes : List ℕ) (base : ℕ) (numbers : List ℕ) (i : ℕ) → i < 8
+    → fit_from shapes base numbers i (8 - i) ≡ pick (fits_at shapes base numbers i) (fit_from shapes base numbers (i + 1) (8 - (i + 1))) false
 unfolding fit_from
-fit_next shapes base r i h =
+fit_next shapes base numbers i h =
     let e : 8 - i ≡ suc (8 - (i + 1)) = omega arith in
     rw e refl
 
-pub fit_end : (shapes : List ℕ) (base : ℕ) (r : Numbers) (i : ℕ) → 8 ≤ i → fit_from shapes base r i (8 - i) ≡ true
+pub fit_all : (shapes : List ℕ) (base : ℕ) (numbers : List ℕ) (i : ℕ) → 8 ≤ i → fit_from shapes base numbers i (8 - i) ≡ true
 unfolding fit_from
-fit_end shapes base r i h =
+fit_all shapes base numbers i h =
     let e : 8 - i ≡ 0 = omega arith in
     rw e refl
 
-pub fit_on : (shapes : List ℕ) (base : ℕ) (r : Numbers) (i : ℕ) → i < 8 → fits_at shapes base r i ≡ true
-    → fit_from shapes base r (i + 1) (8 - (i + 1)) ≡ fit_from shapes base r i (8 - i)
-fit_on shapes base r i h e = rw (fit_next shapes base r i h, e)
+pub taken-fits : (shapes : List ℕ) (command : ℕ) (numbers : List ℕ) → command < length shapes / 8
+    → taken shapes command numbers ≡ fit_from shapes (command * 8) numbers 0 8
+taken-fits shapes command numbers known = rw (lt-ltb _ _ known) refl
 
-module _ (shapes : List ℕ) (command : ℕ) (r : Numbers) (right : r.right ≡ true) (known : command < length shapes / 8) where
-  pub taken-fits : taken shapes command r ≡ fit_from shapes (command * 8) r 0 8
-  taken-fits = rw (right, lt-ltb _ _ known)
+pub no_lines : (l : List ℕ) → length l ≡ 0 → lines_in l ≡ []
+unfolding lines_in
+no_lines [] h = refl
+no_lines (b ∷ s) h = cc
 
-  pub taken_not : (i : ℕ) → i < 8 → fit_from shapes (command * 8) r i (8 - i) ≡ fit_from shapes (command * 8) r 0 8
-      → fits_at shapes (command * 8) r i ≡ false → taken shapes command r ≡ false
-  taken_not i h e f = taken-fits ∙ sym e ∙ fit_next shapes (command * 8) r i h ∙ rw f refl
+-- the first line of a text that is not empty, and those behind its line feed
+after_byte : (b : ℕ) (s : List ℕ) (e : Bool) → (begun_by b (lines_in s) ≡ (b ∷ take (until 10 s) s) ∷ lines_in (drop 1 (drop (until 10 s) s)))
+    → pick e ([] ∷ lines_in s) (begun_by b (lines_in s))
+    ≡ take (cond (not e) (1 + until 10 s) 0) (b ∷ s) ∷ lines_in (drop 1 (drop (cond (not e) (1 + until 10 s) 0) (b ∷ s)))
+after_byte b s true h = refl
+after_byte b s false h = rw one-add h
 
-  pub taken-all : (i : ℕ) → 8 ≤ i → fit_from shapes (command * 8) r i (8 - i) ≡ fit_from shapes (command * 8) r 0 8
-      → taken shapes command r ≡ true
-  taken-all i h e = taken-fits ∙ sym e ∙ fit_end shapes (command * 8) r i h
+pub first_line : (l : List ℕ) → 0 < length l → lines_in l ≡ take (until 10 l) l ∷ lines_in (drop 1 (drop (until 10 l) l))
+unfolding lines_in
+first_line [] h = absurd (omega arith)
+first_line (b ∷ []) h = after_byte b [] (nat_eq b 10) refl
+first_line (b ∷ c ∷ t) h = after_byte b (c ∷ t) (nat_eq b 10) (rw (first_line (c ∷ t) (omega arith)))

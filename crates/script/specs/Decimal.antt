@@ -1,44 +1,39 @@
--- The decimal numbers of a line, read one byte after another: each rule gives what has been read once that byte is taken.
-use Rattle.std.specs.Prelude.{ℕ, ◌+◌, ◌-◌, ◌*◌, ◌%◌, true, false, List, [], ◌∷◌, eqb, ltb, get_or, set, drop, replicate}
-use Rattle.script.specs.declared.Numbers.{Numbers}
-use Rattle.script.specs.Lines.{pick}
+-- The decimal numbers of a line, read one byte after another: each rule gives what has been read once that byte is taken, or nothing
+-- where the line has something else.
+use Rattle.std.specs.Prelude.{ℕ, ◌+◌, ◌-◌, ◌*◌, ◌%◌, Bool, true, false, List, [], ◌∷◌, ◌++◌, Option, Some, None, eqb, ltb, length, take, drop, get_or}
+use Rattle.arrayvec.specs.ArrayVec.{ArrayVec}
+use Rattle.script.specs.declared.NumbersRead.{NumbersRead}
+use Rattle.script.specs.Lines.{pick, read_all}
 
 -- a number with one more digit; those that are too large count as the largest
 abbrev pub with_digit : ℕ → ℕ → ℕ
 with_digit value digit = pick (ltb value 1844674407370955161) (value * 10 + digit % 10) 18446744073709551615
 
--- the line has something else
-abbrev pub wrong_numbers : Numbers → Numbers
-wrong_numbers r = record { right = false; bare = false; count = r.count; values = r.values }
+abbrev pub read_so_far : List ℕ → Bool → NumbersRead
+read_so_far numbers bare = record { numbers = record { items = numbers }; bare = bare }
 
 -- a space begins a number, if the one before has a digit and there is room
-abbrev pub spaced : Numbers → Numbers
-spaced r =
-    pick r.bare (wrong_numbers r)
-    (pick (ltb r.count 8) (record { right = r.right; bare = true; count = r.count + 1; values = r.values }) (wrong_numbers r))
+abbrev pub spaced : NumbersRead → Option NumbersRead
+spaced r = pick r.bare None (pick (ltb (length r.numbers.items) 8) (Some (read_so_far (r.numbers.items ++ 0 ∷ []) true)) None)
 
--- a digit belongs to the last number
-abbrev pub digited : Numbers → ℕ → Numbers
-digited r digit =
-    pick (eqb r.count 0) (wrong_numbers r)
-    (pick (ltb (r.count - 1) 8)
-    (record { right = r.right; bare = false; count = r.count; values = set r.values (r.count - 1) (with_digit (get_or r.values (r.count - 1) 0) digit) })
-    (wrong_numbers r))
+-- a digit belongs to the last number, and there is none before the first space
+abbrev pub with_last : ℕ → List ℕ → List ℕ
+with_last digit l = take (length l - 1) l ++ with_digit (get_or l (length l - 1) 0) digit ∷ []
 
-unfoldable pub number_step : Numbers → ℕ → Numbers
-number_step r b = pick (eqb b 32) (spaced r) (pick (ltb b 48) (wrong_numbers r) (pick (ltb 57 b) (wrong_numbers r) (digited r (b - 48))))
+abbrev pub digited : NumbersRead → ℕ → Option NumbersRead
+digited r digit = pick (eqb (length r.numbers.items) 0) None (Some (read_so_far (with_last digit r.numbers.items) false))
 
-unfoldable pub number_steps : Numbers → List ℕ → Numbers
-number_steps r [] = r
-number_steps r (b ∷ s) = number_steps (number_step r b) s
+abbrev pub number_step : NumbersRead → ℕ → Option NumbersRead
+number_step r b = pick (eqb b 32) (spaced r) (pick (ltb b 48) None (pick (ltb 57 b) None (digited r (b - 48))))
 
-abbrev pub no_numbers : Numbers
-no_numbers = record { right = true; bare = false; count = 0; values = replicate 8 0 }
+abbrev pub number_steps : Option NumbersRead → List ℕ → Option NumbersRead
+number_steps = read_all number_step
 
 -- a space at the end begins no number
-abbrev pub numbers_end : Numbers → Numbers
-numbers_end r = pick r.bare (wrong_numbers r) r
+abbrev pub numbers_end : Option NumbersRead → Option (ArrayVec ℕ)
+numbers_end None = None
+numbers_end (Some r) = pick r.bare None (Some r.numbers)
 
 -- the numbers of a line from a place on
-abbrev pub numbers_from : List ℕ → ℕ → Numbers
-numbers_from line from = numbers_end (number_steps no_numbers (drop from line))
+abbrev pub numbers_from : List ℕ → ℕ → Option (ArrayVec ℕ)
+numbers_from line from = numbers_end (number_steps (Some (read_so_far [] false)) (drop from line))

@@ -1,43 +1,48 @@
 -- The bytes of a line in hexadecimal, read one byte of the line after another.
-use Rattle.std.specs.Prelude.{ℕ, ◌+◌, ◌-◌, ◌*◌, ◌%◌, true, false, List, [], ◌∷◌, eqb, ltb, leb, set, drop, replicate}
-use Rattle.script.specs.declared.Bytes.{Bytes}
-use Rattle.script.specs.Lines.{pick}
+use Rattle.std.specs.Prelude.{ℕ, ◌+◌, ◌-◌, ◌*◌, ◌%◌, List, [], ◌∷◌, ◌++◌, Option, Some, None, eqb, ltb, leb, length, drop}
+use Rattle.arrayvec.specs.ArrayVec.{ArrayVec}
+use Rattle.script.specs.declared.BytesRead.{BytesRead}
+use Rattle.script.specs.declared.Next.{Next}
+use Rattle.script.specs.declared.Next.TheVariants.{Space, First, Second}
+use Rattle.script.specs.Lines.{pick, read_all}
 
--- a digit's value, or 16 for what is none
-abbrev pub hexadecimal : ℕ → ℕ
-hexadecimal b = pick (ltb b 48) 16 (pick (leb b 57) (b - 48) (pick (ltb b 65) 16 (pick (ltb 70 b) 16 (b - 55))))
+-- a digit's value
+abbrev pub hexadecimal : ℕ → Option ℕ
+hexadecimal b = pick (ltb b 48) None (pick (leb b 57) (Some (b - 48)) (pick (ltb b 65) None (pick (ltb 70 b) None (Some (b - 55)))))
 
--- the line has something else
-abbrev pub wrong_bytes : Bytes → Bytes
-wrong_bytes r = record { right = false; phase = 0; high = 0; count = r.count; values = r.values }
+abbrev pub read_so_far : List ℕ → Next → BytesRead
+read_so_far bytes next = record { bytes = record { items = bytes }; next = next }
 
--- a byte is a space, then a digit, then a second one
-abbrev pub byte_begun : Bytes → ℕ → Bytes
-byte_begun r b = pick (eqb b 32) (record { right = r.right; phase = 1; high = 0; count = r.count; values = r.values }) (wrong_bytes r)
+-- a byte is a space, then a digit, then a second one, if there is room
+abbrev pub first_digit : List ℕ → Option ℕ → Option BytesRead
+first_digit l None = None
+first_digit l (Some d) = Some (read_so_far l (Second d))
 
-abbrev pub first_digit : Bytes → ℕ → Bytes
-first_digit r d = pick (ltb d 16) (record { right = r.right; phase = 2; high = d; count = r.count; values = r.values }) (wrong_bytes r)
+abbrev pub second_digit : List ℕ → ℕ → Option ℕ → Option BytesRead
+second_digit l high None = None
+second_digit l high (Some d) = pick (ltb (length l) 128) (Some (read_so_far (l ++ (high % 16 * 16 + d % 16) ∷ []) Space)) None
 
-abbrev pub second_digit : Bytes → ℕ → Bytes
-second_digit r d =
-    pick (ltb 15 d) (wrong_bytes r)
-    (pick (ltb r.count 128)
-    (record { right = r.right; phase = 0; high = 0; count = r.count + 1; values = set r.values r.count (r.high % 16 * 16 + d % 16) })
-    (wrong_bytes r))
+abbrev pub step_from : Next → List ℕ → ℕ → Option BytesRead
+step_from Space l b = pick (eqb b 32) (Some (read_so_far l First)) None
+step_from First l b = first_digit l (hexadecimal b)
+step_from (Second high) l b = second_digit l high (hexadecimal b)
 
-unfoldable pub byte_step : Bytes → ℕ → Bytes
-byte_step r b = pick (eqb r.phase 0) (byte_begun r b) (pick (eqb r.phase 1) (first_digit r (hexadecimal b)) (second_digit r (hexadecimal b)))
+abbrev pub byte_step : BytesRead → ℕ → Option BytesRead
+byte_step r b = step_from r.next r.bytes.items b
 
-unfoldable pub byte_steps : Bytes → List ℕ → Bytes
-byte_steps r [] = r
-byte_steps r (b ∷ s) = byte_steps (byte_step r b) s
+abbrev pub byte_steps : Option BytesRead → List ℕ → Option BytesRead
+byte_steps = read_all byte_step
 
-abbrev pub no_bytes : Bytes
-no_bytes = record { right = true; phase = 0; high = 0; count = 0; values = replicate 128 0 }
+-- a space alone, or a digit alone, at the end is no byte
+abbrev pub whole : Next → ArrayVec ℕ → Option (ArrayVec ℕ)
+whole Space l = Some l
+whole First l = None
+whole (Second high) l = None
 
-abbrev pub bytes_end : Bytes → Bytes
-bytes_end r = pick (eqb r.phase 0) r (wrong_bytes r)
+abbrev pub bytes_end : Option BytesRead → Option (ArrayVec ℕ)
+bytes_end None = None
+bytes_end (Some r) = whole r.next r.bytes
 
 -- the bytes of a line from a place on
-abbrev pub bytes_from : List ℕ → ℕ → Bytes
-bytes_from line from = bytes_end (byte_steps no_bytes (drop from line))
+abbrev pub bytes_from : List ℕ → ℕ → Option (ArrayVec ℕ)
+bytes_from line from = bytes_end (byte_steps (Some (read_so_far [] Space)) (drop from line))

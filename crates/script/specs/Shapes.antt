@@ -1,7 +1,8 @@
 -- The numbers that a command takes.
-use Rattle.std.specs.Prelude.{ℕ, zero, suc, ◌+◌, ◌*◌, ◌/◌, Bool, true, false, List, eqb, ltb, leb, length, get_or}
-use Rattle.script.specs.declared.Numbers.{Numbers}
+use Rattle.std.specs.Prelude.{ℕ, zero, suc, ◌+◌, ◌*◌, ◌/◌, Bool, true, false, List, Option, Some, None, eqb, ltb, leb, length, get_or, slice_get}
+use Rattle.arrayvec.specs.ArrayVec.{ArrayVec}
 use Rattle.script.specs.Lines.{pick}
+use Rattle.script.specs.Decimal.{numbers_from}
 
 -- the largest number that a letter stands for: f k g q p r l b h a, and 32 bits for the others
 abbrev pub most_of : ℕ → ℕ
@@ -11,15 +12,24 @@ most_of letter =
     (pick (eqb letter 97) 18446744073709551615 4294967295)))))))))
 
 -- a number stands where no point is, and is not too large; none stands where a point is, or the letter o
-abbrev pub fits_of : ℕ → Bool → ℕ → Bool
-fits_of letter given value = pick given (pick (eqb letter 46) false (leb value (most_of letter))) (pick (eqb letter 111) true (eqb letter 46))
+abbrev pub fits_of : ℕ → Option ℕ → Bool
+fits_of letter (Some value) = pick (eqb letter 46) false (leb value (most_of letter))
+fits_of letter None = pick (eqb letter 111) true (eqb letter 46)
 
 -- so many places from the ith on, of the eight whose letters begin at a place
-unfoldable pub fit_from : List ℕ → ℕ → Numbers → ℕ → ℕ → Bool
-fit_from shapes base r i zero = true
-fit_from shapes base r i (suc left) =
-    pick (fits_of (get_or shapes (base + i) 0) (ltb i r.count) (get_or r.values i 0)) (fit_from shapes base r (i + 1) left) false
+unfoldable pub fit_from : List ℕ → ℕ → List ℕ → ℕ → ℕ → Bool
+fit_from shapes base numbers i zero = true
+fit_from shapes base numbers i (suc left) =
+    pick (fits_of (get_or shapes (base + i) 0) (slice_get numbers i)) (fit_from shapes base numbers (i + 1) left) false
 
 -- eight letters for each command say what numbers it takes
-abbrev pub taken : List ℕ → ℕ → Numbers → Bool
-taken shapes command r = pick r.right (pick (ltb command (length shapes / 8)) (fit_from shapes (command * 8) r 0 8) false) false
+abbrev pub taken : List ℕ → ℕ → List ℕ → Bool
+taken shapes command numbers = pick (ltb command (length shapes / 8)) (fit_from shapes (command * 8) numbers 0 8) false
+
+-- the numbers of a line from a place on, if a command with these letters takes them
+abbrev pub if_taken : List ℕ → Option (ArrayVec ℕ) → Option (ArrayVec ℕ)
+if_taken shape None = None
+if_taken shape (Some numbers) = pick (taken shape 0 numbers.items) (Some numbers) None
+
+abbrev pub numbers_as : List ℕ → List ℕ → ℕ → Option (ArrayVec ℕ)
+numbers_as shape line from = if_taken shape (numbers_from line from)

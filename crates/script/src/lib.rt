@@ -2,422 +2,304 @@
 
 #![tactic(auto)]
 
-ghost use Rattle.std.specs.Prelude.{◌≡◌, ◌<◌, ◌+◌, true, false};
-ghost use Rattle.script.specs.Shapes.{most_of, fits_of, taken};
-ghost use Rattle.script.specs.Lines.{NextByte, is_text};
-ghost use Rattle.script.specs.Names.{look_on, look_end, look_step, look_last, name_place};
-ghost use Rattle.script.specs.Decimal.{with_digit, wrong_numbers, spaced, digited, number_step, numbers_end, numbers_from};
-ghost use Rattle.script.specs.Hexadecimal.{hexadecimal, wrong_bytes, first_digit, second_digit, byte_begun, byte_step, bytes_end, bytes_from};
+ghost use Rattle.std.specs.Prelude.{◌≡◌, ◌%◌, ◌^◌, drop, slice_get, OnOk, IfSome};
+ghost use Rattle.script.specs.Shapes.{most_of, fits_of, taken, numbers_as};
+ghost use Rattle.std.specs.Io.KnownBytes.{Appends};
+ghost use Rattle.script.specs.Printed.{all_spaced};
+ghost use Rattle.std.specs.Option.{unwrap_or};
+ghost use Rattle.std.specs.Iterator.{YieldsFirstRef, item_count};
+ghost use Rattle.script.specs.Lines.{NextByte, until, is_text, lines_in};
+ghost use Rattle.script.specs.Names.{named_in};
+ghost use Rattle.script.specs.Decimal.{with_digit, spaced, digited, number_step, numbers_from};
+ghost use Rattle.script.specs.Hexadecimal.{hexadecimal, byte_step, bytes_from};
 
-// The numbers of a line, as many as `count`, each with one space before it; one of 18446744073709551610 or more
-// counts as 18446744073709551615. `right` says that there was nothing else. `bare` has a meaning while the line
-// is read: a space is not followed by a digit yet.
-#[derive(Clone, Copy)]
-pub struct Numbers {
-    pub right: bool,
-    pub bare: bool,
-    pub count: usize,
-    pub values: [u64; 8],
+use arrayvec::ArrayVec;
+use std::fmt::Display;
+use std::io;
+use std::io::Write;
+
+// The numbers of a line.
+pub type Numbers = ArrayVec<u64, 8>;
+
+// The bytes of a line.
+pub type Bytes = ArrayVec<u8, 128>;
+
+// The numbers that are read so far. The last of them is `bare` where only its space is read, and no digit yet.
+#[derive(Drop)]
+struct NumbersRead {
+    numbers: Numbers,
+    bare: bool,
 }
 
-// The bytes of a line, as many as `count`, each with one space before it. While the line is read, `phase` says what comes next:
-// 0 a space, 1 a digit, 2 a second one behind the digit `high`.
+// What comes next among bytes: a space, a digit, or a second digit behind this one.
 #[derive(Clone, Copy)]
-pub struct Bytes {
-    pub right: bool,
-    pub phase: u8,
-    pub high: u8,
-    pub count: usize,
-    pub values: [u8; 128],
+enum Next {
+    Space,
+    First,
+    Second(u8),
 }
 
-// A search for a word among names: how many names came before, and the word's place up to which this one is `alike`.
-#[derive(Clone, Copy)]
-pub struct Looking {
-    pub found: bool,
-    pub number: usize,
-    pub at: usize,
-    pub alike: bool,
+// The bytes that are read so far, and what comes next.
+#[derive(Drop)]
+struct BytesRead {
+    bytes: Bytes,
+    next: Next,
+}
+
+// What is left of a text, which its lines come from.
+#[derive(Drop)]
+pub struct Lines<'a> {
+    text: &'a [u8],
+}
+
+impl<'a> Iterator for Lines<'a> {
+    type Item = &'a [u8];
+
+    ghost next_gives = { YieldsFirstRef (λ s. lines_in s.text.now) };
+
+    ghost remaining = { item_count (λ s. lines_in s.text.now) };
+
+    fn next(&mut self) -> Option<&'a [u8]> {
+        if self.text.is_empty() {
+            return None;
+        }
+        let (line, rest) = self.text.split_at(until(self.text, b'\n'));
+        self.text = behind(rest, 1);
+        Some(line)
+    }
+}
+
+// The lines of a text, each without its line feed; the last may have none.
+pub fn lines_of(text: &[u8]) -> Lines<'_>
+    ensures { lines_in result.text.now ≡ lines_in text.now }
+{
+    Lines { text }
 }
 
 // Is it a heading or an empty line?
 pub fn is_text(line: &[u8]) -> bool
     ensures { result ≡ is_text line.now }
 {
-    if line.len() == 0 {
-        return true;
+    match line {
+        [] => true,
+        [first, ..] => *first == b'#',
     }
-    line[0] == b'#'
+}
+
+// What stands from a place on: nothing, if the place is beyond the end.
+fn behind(text: &[u8], from: usize) -> &[u8]
+    ensures { result.now ≡ drop from text.now }
+{
+    &text[from.min(text.len())..]
+}
+
+// How many bytes come before the first such byte, or before the end.
+fn until(text: &[u8], byte: u8) -> usize
+    ensures { result ≡ until byte text.now }
+{
+    text.iter().take_while(|b| **b != byte).count()
 }
 
 // The place of the next such byte, or the end.
 pub fn next_byte(text: &[u8], from: usize, byte: u8) -> usize
     ensures { NextByte text.now from byte result }
 {
-    let mut i = from;
-    while i < text.len() {
-        if text[i] == byte {
-            return i;
-        }
-        i += 1;
-    }
-    i
+    from + until(behind(text, from), byte)
 }
 
 fn with_digit(value: u64, digit: u8) -> u64
     ensures { result ≡ with_digit value digit }
 {
-    if value < 1844674407370955161 {
+    if value < u64::MAX / 10 {
         return value * 10 + (digit % 10) as u64;
     }
-    18446744073709551615
+    u64::MAX
 }
 
-fn wrong_numbers(mut found: Numbers) -> Numbers
-    ensures { result ≡ wrong_numbers found }
+// A space begins a number, if the one before has a digit and there is room.
+fn spaced(mut read: NumbersRead) -> Option<NumbersRead>
+    ensures { result ≡ spaced read }
 {
-    found.right = false;
-    found.bare = false;
-    found
+    if read.bare {
+        return None;
+    }
+    read.numbers.try_push(0).ok()?;
+    read.bare = true;
+    Some(read)
 }
 
-fn space(mut found: Numbers) -> Numbers
-    ensures { result ≡ spaced found }
+// A digit belongs to the last number.
+fn digited(mut read: NumbersRead, digit: u8) -> Option<NumbersRead>
+    ensures { result ≡ digited read digit }
 {
-    if found.bare {
-        return wrong_numbers(found);
-    }
-    if found.count < 8 {
-        found.bare = true;
-        found.count = found.count + 1;
-        return found;
-    }
-    wrong_numbers(found)
+    let last = read.numbers.pop()?;
+    read.numbers.push(with_digit(last, digit));
+    read.bare = false;
+    Some(read)
 }
 
-fn digit(mut found: Numbers, digit: u8) -> Numbers
-    ensures { result ≡ digited found digit }
+fn number_step(read: NumbersRead, byte: u8) -> Option<NumbersRead>
+    ensures { result ≡ number_step read byte }
 {
-    if found.count == 0 {
-        return wrong_numbers(found);
+    match byte {
+        b' ' => spaced(read),
+        b'0'..=b'9' => digited(read, byte - b'0'),
+        _ => None,
     }
-    let place = found.count - 1;
-    if place < 8 {
-        found.values[place] = with_digit(found.values[place], digit);
-        found.bare = false;
-        return found;
-    }
-    wrong_numbers(found)
 }
 
-fn number_step(found: Numbers, byte: u8) -> Numbers
-    ensures { result ≡ number_step found byte }
-{
-    if byte == b' ' {
-        return space(found);
-    }
-    if byte < b'0' {
-        return wrong_numbers(found);
-    }
-    if b'9' < byte {
-        return wrong_numbers(found);
-    }
-    digit(found, byte - b'0')
-}
-
-fn end_numbers(found: Numbers) -> Numbers
-    ensures { result ≡ numbers_end found }
-{
-    if found.bare {
-        return wrong_numbers(found);
-    }
-    found
-}
-
-// The numbers of a line from a place on.
-pub fn numbers_of(line: &[u8], from: usize) -> Numbers
+// The numbers of a line from a place on, each with one space before it, if there is nothing else and they are at most 8; one of
+// 18446744073709551610 or more counts as 18446744073709551615.
+pub fn numbers_of(line: &[u8], from: usize) -> Option<Numbers>
     ensures { result ≡ numbers_from line.now from }
 {
-    let mut found = Numbers {
-        right: true,
+    let mut read = NumbersRead {
+        numbers: Numbers::new(),
         bare: false,
-        count: 0,
-        values: [0; 8],
     };
-    let mut i = from;
-    while i < line.len() {
-        found = number_step(found, line[i]);
-        i += 1;
+    for byte in behind(line, from) {
+        read = number_step(read, *byte)?;
     }
-    end_numbers(found)
+    if read.bare { None } else { Some(read.numbers) }
 }
 
-// A hexadecimal digit's value, or 16 for what is none.
-fn hexadecimal(byte: u8) -> u8
+// A hexadecimal digit's value.
+fn hexadecimal(byte: u8) -> Option<u8>
     ensures { result ≡ hexadecimal byte }
 {
-    if byte < b'0' {
-        return 16;
+    match byte {
+        b'0'..=b'9' => Some(byte - b'0'),
+        b'A'..=b'F' => Some(byte - b'A' + 10),
+        _ => None,
     }
-    if byte <= b'9' {
-        return byte - b'0';
-    }
-    if byte < b'A' {
-        return 16;
-    }
-    if b'F' < byte {
-        return 16;
-    }
-    byte - 55
 }
 
-fn wrong_bytes(mut found: Bytes) -> Bytes
-    ensures { result ≡ wrong_bytes found }
+fn byte_step(mut read: BytesRead, byte: u8) -> Option<BytesRead>
+    ensures { result ≡ byte_step read byte }
 {
-    found.right = false;
-    found.phase = 0;
-    found.high = 0;
-    found
+    read.next = match read.next {
+        Next::Space if byte == b' ' => Next::First,
+        Next::Space => return None,
+        Next::First => Next::Second(hexadecimal(byte)?),
+        Next::Second(high) => {
+            let low = hexadecimal(byte)?;
+            read.bytes.try_push(high % 16 * 16 + low % 16).ok()?;
+            Next::Space
+        }
+    };
+    Some(read)
 }
 
-fn begin_byte(mut found: Bytes, byte: u8) -> Bytes
-    ensures { result ≡ byte_begun found byte }
-{
-    if byte == b' ' {
-        found.phase = 1;
-        found.high = 0;
-        return found;
-    }
-    wrong_bytes(found)
-}
-
-fn first_digit(mut found: Bytes, digit: u8) -> Bytes
-    ensures { result ≡ first_digit found digit }
-{
-    if digit < 16 {
-        found.phase = 2;
-        found.high = digit;
-        return found;
-    }
-    wrong_bytes(found)
-}
-
-fn second_digit(mut found: Bytes, digit: u8) -> Bytes
-    ensures { result ≡ second_digit found digit }
-{
-    if 15 < digit {
-        return wrong_bytes(found);
-    }
-    let place = found.count;
-    if place < 128 {
-        found.values[place] = found.high % 16 * 16 + digit % 16;
-        found.phase = 0;
-        found.high = 0;
-        found.count = place + 1;
-        return found;
-    }
-    wrong_bytes(found)
-}
-
-fn byte_step(found: Bytes, byte: u8) -> Bytes
-    ensures { result ≡ byte_step found byte }
-{
-    if found.phase == 0 {
-        return begin_byte(found, byte);
-    }
-    if found.phase == 1 {
-        return first_digit(found, hexadecimal(byte));
-    }
-    second_digit(found, hexadecimal(byte))
-}
-
-fn end_bytes(found: Bytes) -> Bytes
-    ensures { result ≡ bytes_end found }
-{
-    if found.phase == 0 {
-        return found;
-    }
-    wrong_bytes(found)
-}
-
-// The bytes of a line from a place on.
-pub fn bytes_of(line: &[u8], from: usize) -> Bytes
+// The bytes of a line from a place on, each two digits with one space before them, if there is nothing else and they are at most 128.
+pub fn bytes_of(line: &[u8], from: usize) -> Option<Bytes>
     ensures { result ≡ bytes_from line.now from }
 {
-    let mut found = Bytes {
-        right: true,
-        phase: 0,
-        high: 0,
-        count: 0,
-        values: [0; 128],
+    let mut read = BytesRead {
+        bytes: Bytes::new(),
+        next: Next::Space,
     };
-    let mut i = from;
-    while i < line.len() {
-        found = byte_step(found, line[i]);
-        i += 1;
+    for byte in behind(line, from) {
+        read = byte_step(read, *byte)?;
     }
-    end_bytes(found)
+    match read.next {
+        Next::Space => Some(read.bytes),
+        _ => None,
+    }
 }
 
-fn look_on(mut looking: Looking, word: &[u8], byte: u8) -> Looking
-    ensures { result ≡ look_on word.now looking byte }
+// What stands beside a word in a table, if the word is one of its names; of two that are alike the first counts.
+pub fn named<T: Copy>(table: &[(&[u8], T)], word: &[u8]) -> Option<T>
+    ensures { result ≡ named_in (λ e. e.0.now) (λ e. e.1) word.now table.now }
 {
-    let at = looking.at;
-    looking.found = false;
-    if at < word.len() {
-        looking.at = at + 1;
-        if word[at] == byte {
-            return looking;
+    for (name, value) in table {
+        if *name == word {
+            return Some(*value);
         }
-        looking.alike = false;
-        return looking;
     }
-    looking.alike = false;
-    looking
-}
-
-fn next_name(looking: Looking) -> Looking
-    requires { looking.number < 18446744073709551615 }
-    ensures { result ≡ record { found = false; number = looking.number + 1; at = 0; alike = true } }
-{
-    Looking {
-        found: false,
-        number: looking.number + 1,
-        at: 0,
-        alike: true,
-    }
-}
-
-fn look_end(looking: Looking, word: &[u8]) -> Looking
-    requires { looking.number < 18446744073709551615 }
-    ensures { result ≡ look_end word.now looking }
-{
-    if looking.alike {
-        if looking.at == word.len() {
-            return Looking {
-                found: true,
-                number: looking.number,
-                at: 0,
-                alike: true,
-            };
-        }
-        return next_name(looking);
-    }
-    next_name(looking)
-}
-
-fn look_step(looking: Looking, word: &[u8], byte: u8) -> Looking
-    requires { looking.number < 18446744073709551615 }
-    ensures { result ≡ look_step word.now looking byte }
-{
-    if looking.found {
-        return looking;
-    }
-    if byte == b' ' {
-        return look_end(looking, word);
-    }
-    look_on(looking, word, byte)
-}
-
-fn look_last(looking: Looking, word: &[u8]) -> Looking
-    requires { looking.number < 18446744073709551615 }
-    ensures { result ≡ look_last word.now looking }
-{
-    if looking.found {
-        return looking;
-    }
-    look_end(looking, word)
-}
-
-// The place of a word among names with a space between; their number where it is none of them.
-pub fn place(names: &[u8], word: &[u8]) -> usize
-    ensures { result ≡ name_place names.now word.now }
-{
-    let mut looking = Looking {
-        found: false,
-        number: 0,
-        at: 0,
-        alike: true,
-    };
-    let mut i: usize = 0;
-    while i < names.len() {
-        looking = look_step(looking, word, names[i]);
-        i += 1;
-    }
-    let last = look_last(looking, word);
-    last.number
+    None
 }
 
 // The largest number that a letter stands for.
 fn most(letter: u8) -> u64
     ensures { result ≡ most_of letter }
 {
-    if letter == b'f' {
-        return 1;
+    match letter {
+        b'f' => 1,
+        b'k' => 6,
+        b'g' => 15,
+        b'q' => 31,
+        b'p' => 63,
+        b'r' => 80,
+        b'l' => 128,
+        b'b' => u8::MAX as u64,
+        b'h' => u16::MAX as u64,
+        b'a' => u64::MAX,
+        _ => u32::MAX as u64,
     }
-    if letter == b'k' {
-        return 6;
-    }
-    if letter == b'g' {
-        return 15;
-    }
-    if letter == b'q' {
-        return 31;
-    }
-    if letter == b'p' {
-        return 63;
-    }
-    if letter == b'r' {
-        return 80;
-    }
-    if letter == b'l' {
-        return 128;
-    }
-    if letter == b'b' {
-        return 255;
-    }
-    if letter == b'h' {
-        return 65535;
-    }
-    if letter == b'a' {
-        return 18446744073709551615;
-    }
-    4294967295
 }
 
 // May a number stand where the letter is, or none?
-fn fits(letter: u8, given: bool, value: u64) -> bool
-    ensures { result ≡ fits_of letter given value }
+fn fits(letter: u8, number: Option<u64>) -> bool
+    ensures { result ≡ fits_of letter number }
 {
-    if given {
-        if letter == b'.' {
-            return false;
-        }
-        return value <= most(letter);
+    match number {
+        Some(value) => letter != b'.' && value <= most(letter),
+        None => letter == b'o' || letter == b'.',
     }
-    if letter == b'o' {
-        return true;
+}
+
+fn number_at(numbers: &[u64], place: usize) -> Option<u64>
+    ensures { result ≡ slice_get numbers.now place }
+{
+    numbers.get(place).copied()
+}
+
+// The number at a place as one of 32 bits or of 8; 0 where there is none. Of a larger number it is the remainder.
+pub fn word(numbers: &[u64], place: usize) -> u32
+    ensures { result ≡ unwrap_or (slice_get numbers.now place) 0 % 2 ^ 32 }
+{
+    (number_at(numbers, place).unwrap_or(0) % 4294967296) as u32
+}
+
+pub fn byte(numbers: &[u64], place: usize) -> u8
+    ensures { result ≡ unwrap_or (slice_get numbers.now place) 0 % 2 ^ 8 }
+{
+    (number_at(numbers, place).unwrap_or(0) % 256) as u8
+}
+
+// Prints values, each with a space before it.
+pub fn print_all<W: Write, T: Display>(out: &mut W, values: &[T]) -> io::Result<()>
+    ensures { OnOk result (IfSome (all_spaced T.output values.now) (Appends (W.contents out.old) (W.contents out.new))) }
+{
+    for value in values {
+        out.write_all(b" ")?;
+        write!(out, "{value}")?;
     }
-    letter == b'.'
+    Ok(())
 }
 
 // Does a command take these numbers? Eight letters for each command say so.
-pub fn takes(shapes: &[u8], command: usize, found: Numbers) -> bool
-    ensures { result ≡ taken shapes.now command found }
+pub fn takes(shapes: &[u8], command: usize, numbers: &[u64]) -> bool
+    ensures { result ≡ taken shapes.now command numbers.now }
 {
-    if !found.right {
-        return false;
-    }
     if shapes.len() / 8 <= command {
         return false;
     }
-    let mut i: usize = 0;
-    while i < 8 {
-        let letter = shapes[command * 8 + i];
-        if !fits(letter, i < found.count, found.values[i]) {
+    for i in 0..8 {
+        if !fits(shapes[command * 8 + i], number_at(numbers, i)) {
             return false;
         }
-        i += 1;
     }
     true
+}
+
+// The numbers of a line from a place on, if a command with these eight letters takes them.
+pub fn numbers_as(shape: &[u8; 8], line: &[u8], from: usize) -> Option<Numbers>
+    ensures { result ≡ numbers_as shape.now line.now from }
+{
+    let numbers = numbers_of(line, from)?;
+    if takes(shape, 0, &numbers) {
+        return Some(numbers);
+    }
+    None
 }

@@ -4,79 +4,73 @@
 #![tactic(auto)]
 
 mod command;
+mod reads;
 mod run;
 mod show;
-mod tables;
-mod traces;
+mod writes;
 
-use crate::run::Run;
-use script::is_text;
+use crate::command::{COMMANDS, Command};
+use crate::run::{Run, filled};
+use cases::set_part;
+use number::writing::number_length;
+use script::{bytes_of, is_text, lines_of, named, next_byte, numbers_as, word};
 use std::io;
 use std::io::Write;
 use streams::{large_buffer, read_full};
 
-// What the command does, once its numbers are as many as it takes.
-fn obey(out: &mut impl Write, run: Run, command: usize, numbers: [u64; 8]) -> io::Result<Run> {
-    if command == command::LENGTH {
-        show::number(
-            out,
-            b": ",
-            number::writing::number_length((numbers[0] % 4294967296) as u32) as u64,
-        )?;
-        return Ok(run);
-    }
-    if command < command::FILL {
-        return run::look(out, run, command, numbers[0]);
-    }
-    if command < command::WRITE_NUMBER {
-        return Ok(tables::set(run, command, numbers));
-    }
-    traces::write(out, run, command, numbers)
-}
-
-// A line with a command.
-fn command_line(out: &mut impl Write, run: Run, line: &[u8]) -> io::Result<Run> {
-    let end = script::next_byte(line, 0, b' ');
-    let word = &line[..end];
-    let command = command::named(word);
-    if command == command::BYTES {
-        return run::set_bytes(out, run, script::bytes_of(line, end));
-    }
-    let arguments = script::numbers_of(line, end);
-    if !command::takes(command, arguments) {
-        show::words(out, b" ?")?;
-        return Ok(run);
-    }
-    let numbers = arguments.values;
-    obey(out, run, command, numbers)
-}
-
-fn one_line(out: &mut impl Write, run: Run, line: &[u8]) -> io::Result<Run> {
-    show::words(out, line)?;
-    if is_text(line) {
-        return Ok(run);
-    }
-    command_line(out, run, line)
-}
-
-// Every line of the script, in turn.
-fn follow(out: &mut impl Write, text: &[u8]) -> io::Result<()> {
-    let mut run = run::fresh();
-    let mut at: usize = 0;
-    while at < text.len() {
-        let end = script::next_byte(text, at, b'\n');
-        run = one_line(out, run, &text[at..end])?;
-        show::words(out, b"\n")?;
-        if end == text.len() {
-            return Ok(());
+// What the command does, whose numbers are as many as it takes; nothing where they ask for more room than there is.
+fn obey(
+    out: &mut impl Write,
+    run: &mut Run,
+    command: Command,
+    numbers: &[u64],
+) -> Option<io::Result<()>> {
+    match command {
+        Command::Read(what) => return Some(reads::read(out, run, what, numbers)),
+        Command::Check => return Some(show::checked(out, run.table.check())),
+        Command::Length => {
+            return Some(write!(out, ": {}", number_length(word(numbers, 0))));
         }
-        at = end + 1;
+        Command::Buffer => run.length = word(numbers, 0) as usize,
+        Command::Fill => run.table = filled(),
+        Command::Set(part) => set_part(&mut run.table, part, numbers),
+        Command::Write(what) => return writes::write(out, run, what, numbers),
     }
-    Ok(())
+    Some(Ok(()))
+}
+
+// A line with a command, or nothing where it is none.
+fn command_line(out: &mut impl Write, run: &mut Run, line: &[u8]) -> Option<io::Result<()>> {
+    let end = next_byte(line, 0, b' ');
+    let name = &line[..end];
+    if name == b"bytes".as_slice() {
+        run.bytes = bytes_of(line, end)?;
+        return Some(Ok(()));
+    }
+    let (shape, command) = named(&COMMANDS, name)?;
+    let numbers = numbers_as(shape, line, end)?;
+    obey(out, run, command, &numbers)
+}
+
+fn one_line(out: &mut impl Write, run: &mut Run, line: &[u8]) -> io::Result<()> {
+    out.write_all(line)?;
+    if is_text(line) {
+        return Ok(());
+    }
+    match command_line(out, run, line) {
+        Some(obeyed) => obeyed,
+        None => out.write_all(b" ?"),
+    }
 }
 
 fn main(rt: HostRuntime) -> io::Result<()> {
     let mut text = large_buffer();
     let count = read_full(&mut rt.stdin(), &mut text);
-    follow(&mut rt.stdout(), &text[..count])
+    let mut out = rt.stdout();
+    let mut run = Run::fresh();
+    for line in lines_of(&text[..count]) {
+        one_line(&mut out, &mut run, line)?;
+        out.write_all(b"\n")?;
+    }
+    Ok(())
 }

@@ -1,155 +1,126 @@
-// Printing: words, numbers, bytes in hexadecimal, and what the calls answer.
-ghost use Rattle.std.specs.Prelude.{◌<◌};
-
-use number::{BytesWritten, NumberRead};
+// Printing what the calls answer.
+use number::refusal::Refusal;
 use std::io;
 use std::io::Write;
-use table::parts::{group_at, unpack_pair};
-use table::{Pair, Span, Table};
-use trace::{Event, EventRead, HeaderRead};
+use table::parts::unpack_pair;
+use table::{Span, Table};
+use trace::{Event, Header};
 
-pub(crate) fn words(out: &mut impl Write, text: &[u8]) -> io::Result<()> {
-    out.write_all(text)
+pub(crate) fn refused(out: &mut impl Write, refusal: Refusal) -> io::Result<()> {
+    write!(out, ": {}", refusal.number())
 }
 
-// Words and a number.
-pub(crate) fn number(out: &mut impl Write, text: &[u8], value: u64) -> io::Result<()> {
-    out.write_all(text)?;
-    write!(out, "{value}")
-}
-
-fn digit(value: u8) -> u8
-    requires { value < 16 }
-{
-    if value < 10 { 48 + value } else { 55 + value }
-}
-
-// A byte, with a space before it.
-fn byte(out: &mut impl Write, value: u8) -> io::Result<()> {
-    let shown = [b' ', digit(value / 16), digit(value % 16)];
-    out.write_all(&shown)
-}
-
-// The first `count` bytes.
-pub(crate) fn front(out: &mut impl Write, data: &[u8], count: usize) -> io::Result<()> {
-    if count < data.len() {
-        return bytes(out, &data[..count]);
+// What checking a table answers.
+pub(crate) fn checked(out: &mut impl Write, answer: Result<(), Refusal>) -> io::Result<()> {
+    match answer {
+        Ok(()) => out.write_all(b": 0"),
+        Err(refusal) => refused(out, refusal),
     }
-    bytes(out, data)
 }
 
-// Bytes, each with a space before it.
-fn bytes(out: &mut impl Write, data: &[u8]) -> io::Result<()> {
-    let mut i: usize = 0;
-    while i < data.len() {
-        byte(out, data[i])?;
-        i += 1;
+// What reading a number answers.
+pub(crate) fn number_read(
+    out: &mut impl Write,
+    read: Result<(u32, usize), Refusal>,
+) -> io::Result<()> {
+    match read {
+        Ok((value, next)) => write!(out, ": 0 value {value} next {next}"),
+        Err(refusal) => refused(out, refusal),
+    }
+}
+
+// Bytes in hexadecimal, each with a space before it.
+fn bytes(out: &mut impl Write, values: &[u8]) -> io::Result<()> {
+    for byte in values {
+        write!(out, " {byte:02X}")?;
     }
     Ok(())
 }
 
-// What reading a number answers.
-pub(crate) fn number_read(out: &mut impl Write, read: NumberRead) -> io::Result<()> {
-    match read {
-        NumberRead::Number { value, next } => {
-            number(out, b": 0 value ", value as u64)?;
-            number(out, b" next ", next as u64)
-        }
-        NumberRead::Refused(refusal) => number(out, b": ", refusal as u64),
-    }
-}
-
-// What writing answers.
-pub(crate) fn written(out: &mut impl Write, answer: BytesWritten) -> io::Result<()> {
+// What writing answers, and the buffer that was written to.
+pub(crate) fn written(
+    out: &mut impl Write,
+    answer: Result<usize, Refusal>,
+    buffer: &[u8],
+) -> io::Result<()> {
     match answer {
-        BytesWritten::Bytes(count) => number(out, b": 0 wrote ", count as u64),
-        BytesWritten::Unwritten(refusal) => number(out, b": ", refusal as u64),
+        Ok(count) => write!(out, ": 0 wrote {count}")?,
+        Err(refusal) => refused(out, refusal)?,
     }
-}
-
-// The ith of the pairs. They stand within the places (`group_at`), so the remainder changes nothing.
-fn access(places: &[u16; 32], pairs: Span, i: u8) -> Pair {
-    let place = pairs.first as usize + i as usize;
-    unpack_pair(places[place % 32])
+    out.write_all(b" buffer")?;
+    bytes(out, buffer)
 }
 
 // Pairs of one kind, each as offset/port.
 fn accesses(out: &mut impl Write, places: &[u16; 32], pairs: Span) -> io::Result<()> {
-    let mut i: u8 = 0;
-    while i < pairs.count {
-        let pair = access(places, pairs, i);
-        number(out, b" ", pair.offset as u64)?;
-        number(out, b"/", pair.port as u64)?;
-        i += 1;
+    let first = pairs.first as usize;
+    for number in places.iter().skip(first).take(pairs.count as usize) {
+        let pair = unpack_pair(*number);
+        write!(out, " {}/{}", pair.offset, pair.port)?;
     }
     Ok(())
 }
 
-fn one_group(out: &mut impl Write, table: Table, i: usize) -> io::Result<()> {
-    let group = group_at(&table.groups, i);
-    words(out, b" [loads")?;
-    accesses(out, &table.loads, group.loads)?;
-    words(out, b" stores")?;
-    accesses(out, &table.stores, group.stores)?;
-    words(out, b"]")
-}
-
 // A table: its count, and its groups.
-pub(crate) fn groups(out: &mut impl Write, table: Table) -> io::Result<()> {
-    number(out, b" groups ", table.count as u64)?;
-    let mut i: u8 = 0;
-    while i < table.count {
-        one_group(out, table, i as usize)?;
-        i += 1;
+pub(crate) fn groups(out: &mut impl Write, table: &Table) -> io::Result<()> {
+    write!(out, " groups {}", table.count)?;
+    for i in 0..table.count as usize {
+        let group = table.group(i);
+        out.write_all(b" [loads")?;
+        accesses(out, &table.loads, group.loads)?;
+        out.write_all(b" stores")?;
+        accesses(out, &table.stores, group.stores)?;
+        out.write_all(b"]")?;
     }
     Ok(())
 }
 
 // What reading the leading numbers of a trace answers.
-pub(crate) fn header_read(out: &mut impl Write, read: HeaderRead) -> io::Result<()> {
+pub(crate) fn header_read(
+    out: &mut impl Write,
+    read: Result<(Header, usize), Refusal>,
+) -> io::Result<()> {
     match read {
-        HeaderRead::Leading(header, next) => {
-            number(out, b": 0 loads ", header.load_depth as u64)?;
-            number(out, b" stores ", header.store_depth as u64)?;
-            number(out, b" serial ", header.first as u64)?;
-            number(out, b" words ", header.memory_length as u64)?;
-            number(out, b" next ", next as u64)
+        Ok((header, next)) => {
+            write!(
+                out,
+                ": 0 loads {} stores {}",
+                header.load_depth, header.store_depth
+            )?;
+            write!(
+                out,
+                " serial {} words {} next {next}",
+                header.first, header.memory_length
+            )
         }
-        HeaderRead::NoHeader(refusal) => number(out, b": ", refusal as u64),
+        Err(refusal) => refused(out, refusal),
     }
 }
 
-fn two_numbers(out: &mut impl Write, text: &[u8], first: u32, second: u32) -> io::Result<()> {
-    number(out, text, first as u64)?;
-    number(out, b" ", second as u64)
-}
-
-pub(crate) fn one_event(out: &mut impl Write, event: Event) -> io::Result<()> {
+fn event(out: &mut impl Write, event: Event) -> io::Result<()> {
     match event {
-        Event::Activate { group } => number(out, b" activate ", group as u64),
-        Event::LoadAddress { port, address } => two_numbers(out, b" load address ", port, address),
-        Event::StoreAddress { port, address } => two_numbers(
-            out,
-            b" store address ",
-            port,
-            address,
-        ),
-        Event::StoreData { port, word } => two_numbers(out, b" store data ", port, word),
-        Event::Serve { serial } => number(out, b" serve ", serial as u64),
-        Event::Write { serial } => number(out, b" write ", serial as u64),
-        Event::Take { port } => number(out, b" take ", port as u64),
+        Event::Activate { group } => write!(out, " activate {group}"),
+        Event::LoadAddress { port, address } => write!(out, " load address {port} {address}"),
+        Event::StoreAddress { port, address } => write!(out, " store address {port} {address}"),
+        Event::StoreData { port, word } => write!(out, " store data {port} {word}"),
+        Event::Serve { serial } => write!(out, " serve {serial}"),
+        Event::Write { serial } => write!(out, " write {serial}"),
+        Event::Take { port } => write!(out, " take {port}"),
     }
 }
 
 // What reading an event answers.
-pub(crate) fn event_read(out: &mut impl Write, read: EventRead) -> io::Result<()> {
+pub(crate) fn event_read(
+    out: &mut impl Write,
+    read: Result<Option<(Event, usize)>, Refusal>,
+) -> io::Result<()> {
     match read {
-        EventRead::Found(event, next) => {
-            words(out, b": 0")?;
-            one_event(out, event)?;
-            number(out, b" next ", next as u64)
+        Ok(Some((found, next))) => {
+            out.write_all(b": 0")?;
+            event(out, found)?;
+            write!(out, " next {next}")
         }
-        EventRead::End => words(out, b": end"),
-        EventRead::NoEvent(refusal) => number(out, b": ", refusal as u64),
+        Ok(None) => out.write_all(b": end"),
+        Err(refusal) => refused(out, refusal),
     }
 }

@@ -1,9 +1,22 @@
-use native.Mathlib.Numerals.{add-one}
-use Rattle.script.proofs.LineLaws.{byte_steps_next, byte_steps_end}
+use Rattle.std.proofs.Common.{sym, ◌∙◌, add-one, rules}
+use Rattle.script.specs.Hexadecimal.{byte_step}
+use Rattle.script.proofs.LineLaws.{read_next, read_end, read_none}
 use Rattle.script.proofs.bytes_of.Goals as goal
 
-pub loop-i-preserved : goal.loop-i-preserved
-loop-i-preserved c = rw (add-one, c.byte_step-found.ensures, ← byte_steps_next _ _ _ c.loop-i-test.true) c.loop-i.invariant
+pub returns-in_err-read : goal.returns-in_err-read
+returns-in_err-read c =
+    let items = c.behind-byte-items.result.now in
+    let e = read_next byte_step c.loop-byte.read items c.loop-byte.byte-index c.loop-byte-test.true in
+    rw (← c.loop-byte.invariant, e, ← c.in_err-read.ensures, read_none byte_step _) (search rules)
 
-pub returns : goal.returns
-returns c = rw (← c.loop-i.invariant, byte_steps_end _ _ _ c.loop-i-test.false) c.end_bytes.ensures
+pub loop-byte-preserved : goal.loop-byte-preserved
+loop-byte-preserved c =
+    let items = c.behind-byte-items.result.now in
+    let e = read_next byte_step c.loop-byte.read items c.loop-byte.byte-index c.loop-byte-test.true in
+    rw (add-one, c.in_ok-read.ensures) (sym e ∙ c.loop-byte.invariant)
+
+pub returns-in-Space : goal.returns-in-Space
+returns-in-Space c = rw (← c.loop-byte.invariant, read_end byte_step _ _ _ c.loop-byte-test.false, c.in-Space.is) (search rules)
+
+pub returns-in_default : goal.returns-in_default
+returns-in_default c = rw (← c.loop-byte.invariant, read_end byte_step _ _ _ c.loop-byte-test.false) (search rules)

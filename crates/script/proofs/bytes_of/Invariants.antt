@@ -1,11 +1,7 @@
-use mathlib.Core.Path.{◌≡◌}
-use Prim.Native.Nat.{◌-◌}
-use lib.ListN.{length, drop}
-use Rattle.script.specs.Hexadecimal.{byte_steps, no_bytes}
+use Rattle.std.proofs.Common.{◌≡◌, [], drop, Some}
+use Rattle.script.specs.declared.Next.TheVariants.{Space}
+use Rattle.script.specs.Hexadecimal.{byte_steps, read_so_far}
 use Rattle.script.proofs.bytes_of.Given as goal
 
-abbrev pub invariant-loop-i : goal.invariant-loop-i
-invariant-loop-i l = byte_steps l.found (drop l.i l.line) ≡ byte_steps no_bytes (drop l.from l.line)
-
-abbrev pub decreases-loop-i : goal.decreases-loop-i
-decreases-loop-i l = length l.line - l.i
+abbrev pub invariant-loop-byte : goal.invariant-loop-byte
+invariant-loop-byte l = byte_steps (Some l.read) (drop l.byte-index l.byte-items) ≡ byte_steps (Some (read_so_far [] Space)) (drop l.from l.line)

@@ -1,18 +1,17 @@
-use native.Mathlib.Omega.{arith}
-use Rattle.script.proofs.LineLaws.{until_here, until_next, until_end}
+use Rattle.std.proofs.Common.{arith, length-drop, nat_eq, not, drop}
+use Rattle.std.proofs.lemmas.List.Sums.{prefix_len-le-length}
 use Rattle.script.proofs.next_byte.Goals as goal
 
-pub returns-then-text-i : goal.returns-then-text-i
-returns-then-text-i c =
+pub overflow_add-result : goal.overflow_add-result
+overflow_add-result c =
     let a = c.args in
-    omega (arith, until_here a.byte a.text.now c.loop-i.i c.loop-i-test.true c.if-text-i.true, c.loop-i.invariant.0)
-
-pub loop-i-preserved : goal.loop-i-preserved
-loop-i-preserved c =
-    let a = c.args in
-    omega (arith, until_next a.byte a.text.now c.loop-i.i c.loop-i-test.true c.if-text-i.false, c.loop-i.invariant.0)
+    let few = prefix_len-le-length (λ b. not (nat_eq b a.byte)) (drop a.from a.text.now) in
+    let e = rw c.behind.ensures at c.until.ensures in
+    omega (arith, length-drop a.from a.text.now, few, e)
 
 pub returns : goal.returns
 returns c =
     let a = c.args in
-    omega (arith, until_end a.byte a.text.now c.loop-i.i c.loop-i-test.false, c.loop-i.invariant.0)
+    let few = prefix_len-le-length (λ b. not (nat_eq b a.byte)) (drop a.from a.text.now) in
+    let e = rw c.behind.ensures at c.until.ensures in
+    record { is = omega (arith, e); after = omega arith; within = omega (arith, length-drop a.from a.text.now, few, e) }

@@ -1,11 +1,6 @@
-use mathlib.Core.Path.{◌≡◌}
-use Prim.Native.Nat.{◌-◌}
-use lib.ListN.{length, drop}
-use Rattle.script.specs.Decimal.{number_steps, no_numbers}
+use Rattle.std.proofs.Common.{◌≡◌, [], drop, Some, false}
+use Rattle.script.specs.Decimal.{number_steps, read_so_far}
 use Rattle.script.proofs.numbers_of.Given as goal
 
-abbrev pub invariant-loop-i : goal.invariant-loop-i
-invariant-loop-i l = number_steps l.found (drop l.i l.line) ≡ number_steps no_numbers (drop l.from l.line)
-
-abbrev pub decreases-loop-i : goal.decreases-loop-i
-decreases-loop-i l = length l.line - l.i
+abbrev pub invariant-loop-byte : goal.invariant-loop-byte
+invariant-loop-byte l = number_steps (Some l.read) (drop l.byte-index l.byte-items) ≡ number_steps (Some (read_so_far [] false)) (drop l.from l.line)

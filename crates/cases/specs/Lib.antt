@@ -1,0 +1,2 @@
+-- Tables made by hand.
+pub mod Parts

@@ -81,7 +81,7 @@ pub extern "C" fn lsq_memory_length(table: &[u8], trace: &[u8]) -> u32
 
 // Replays the trace on the memory and the counts as they are lent; `counts` holds loads, then forwarded. Where it answers 0,
 // each event's answer, 1 or 0 as it gave a value or none, and the value or 0 stand at the front of the three buffers. Else
-// nothing that was lent is changed: a refused replay hands back the very counts that it was handed.
+// nothing that was lent is changed: a refused replay leaves the very counts that were lent to it.
 #[unsafe(no_mangle)]
 pub extern "C" fn lsq_replay(
     table: &[u8],

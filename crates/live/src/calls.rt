@@ -1,6 +1,6 @@
 // Live calls for C and Rust: a queue is a frame, which goes in and out by value as a C struct, and two runs of 64 numbers, its
 // packed entries, which are lent. It is plain data with no pointer inside. Whatever a host hands in is tested (40), a run of
-// another length first of all. The frame's arrays are lent on to the queue's own calls: a table is copied nowhere.
+// another length first of all. The frame is lent on to the queue's own calls: between them no table is copied.
 ghost use Rattle.std.specs.Prelude.{◌≡◌, ◌&&◌};
 ghost use Rattle.queue.specs.Entry.{bit};
 ghost use Rattle.queue.specs.Contents.{contents_of};

@@ -28,7 +28,7 @@ EmptyGroupsTakeNoPlace =
     (q : Contents) (group : ℕ) → q.loads.next < 2 ^ 32 → q.stores.next < 2 ^ 32 → get_elem? q.groups group ≡ some empty_group →
     activate q group ≡ need (sound q) unsound (accept q)
 
--- The same of a queue's record and of what `Queue::activate` hands back.
+-- The same of a queue's record and of what `Queue::activate` answers and leaves.
 abbrev pub EmptyGroupsAccepted : Type 0
 EmptyGroupsAccepted =
     (q : Queue) (group : ℕ) (r : Outcome) → q.frame.loads.next < 2 ^ 32 → q.frame.stores.next < 2 ^ 32 →

@@ -50,7 +50,7 @@ fresh_frame table load_depth store_depth first words =
 abbrev pub fresh_queue : Frame → Queue
 fresh_queue frame = record { frame = frame; load_entries = replicate 64 0; store_entries = replicate 64 0 }
 
--- the frame and the queue of the table of no groups, which a refused opening hands back
+-- the frame and the queue of the table of no groups, which stand for those that a refused opening does not have
 abbrev pub no_frame : Frame
 no_frame = fresh_frame (pack []) 0 0 0 0
 

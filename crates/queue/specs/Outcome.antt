@@ -1,6 +1,6 @@
--- What a call hands back. "A refusal returns its number and no value; everything handed in or lent keeps its contents": it
--- hands back the very record that it was handed. An accepted call hands back a queue that holds just what the rule gives;
--- "places of a record beyond its counts have no meaning", and nothing is said of them.
+-- What a call hands back, in the papers' terms: what it answers, and the queue that it leaves of the one that is lent to it. "A refusal
+-- returns its number and no value; everything handed in or lent keeps its contents": it leaves the very record. An accepted call leaves
+-- a queue that holds just what the rule gives; "places of a record beyond its counts have no meaning", and nothing is said of them.
 use Rattle.std.specs.Prelude as code
 use Rattle.std.specs.Prelude.{◌≡◌, ℕ, Some, None, Result, List}
 use Rattle.std.proofs.Math.Option.{Option, none, some}
@@ -86,7 +86,7 @@ abbrev pub Serves : Queue → Counts → Reply Served → Counted → Type 0
 Serves q c (refuse n) r = handed_counts r ≡ record { outcome = no_value n q; counts = c }
 Serves q c (accept s) r = ServedWell s c r
 
--- what a serve hands back where the counts are lent by reference, beside the counts that it leaves
+-- what a serve hands back, beside the counts that it leaves of those that are lent to it
 abbrev pub with_counts : Outcome → Counts → Counted
 with_counts r counts = record { answer = r.answer; value = r.value; queue = r.queue; counts = counts }
 

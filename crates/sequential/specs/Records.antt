@@ -1,6 +1,6 @@
--- Demand 3 of the records themselves. A run of calls on queue records: each call is handed the record and the memory that the
--- last one left, and hands back what its contract says. Nothing is said of places beyond the counts, so there may be many such
--- runs; demand 3 holds of every one of them. The proof is proofs/RecordsDemand3.antt.
+-- Demand 3 of the records themselves. A run of calls on queue records: each call is lent the record and the memory that the
+-- last one left, and answers and leaves what its contract says. Nothing is said of places beyond the counts, so there may be many
+-- such runs; demand 3 holds of every one of them. The proof is proofs/RecordsDemand3.antt.
 use Rattle.std.specs.Prelude.{ℕ, ◌<◌, ◌^◌, ◌≡◌, true, List, [], ◌∷◌, length}
 use Rattle.std.proofs.Math.Option.{some}
 use Rattle.std.proofs.Math.ListN.{get_elem?}
@@ -52,8 +52,9 @@ pub data Runs : Queue → List ℕ → List Call → List Answered → Queue →
   run_one : {q q₂ : Queue} {m m₁ m₂ : List ℕ} {c : Call} {cs : List Call} {log : List Answered} (r : Outcome)
       → Hands q m c r m₁ → Runs r.queue m₁ cs log q₂ m₂ → Runs q m (c ∷ cs) (answered_with c r ∷ log) q₂ m₂
 
--- Two calls serve, and two tell what is ready; both contracts give the same premise. The contracts' own words stand before the
--- last arrow: of `serve_counted`, of `serve`, of `ready_into` and of `ready`. The proofs are in proofs/RecordsDemand3.antt.
+-- What a serve hands over is said with the counts in one record or beside it, and two calls tell what is ready; all give the same
+-- premise. Before the last arrow stand what `Serves` says of one record, the own words of the contracts of `serve` and of `ready_into`,
+-- and what `ready` hands back in the paper's terms. The proofs are in proofs/RecordsDemand3.antt.
 abbrev pub ServeCountedHands : Type 0
 ServeCountedHands =
     (q : Queue) (m : List ℕ) (lent : Counts) (serial : ℕ) (r : Counted) →
@@ -122,7 +123,7 @@ AlikeRecords =
     Runs o₁.queue memory calls₁ log₁ q₁ left₁ → Runs o₂.queue memory calls₂ log₂ q₂ left₂ → Alike (told log₁) (told log₂) →
     (port n v w : ℕ) → get_elem? (taken_at port log₁) n ≡ some v → get_elem? (taken_at port log₂) n ≡ some w → v ≡ w
 
--- No record that is handed back is refused for what it holds.
+-- No record that such a run leaves is refused for what it holds.
 abbrev pub RecordsSound : Type 0
 RecordsSound =
     (table : Table) (memory : List ℕ) (o : Opened) → OpenedRecord table memory o →

@@ -1,6 +1,6 @@
--- Lists of calls on a queue's parts: the same two runs of entries are lent to every call, and each call is handed the frame and
--- finds the entries that the last one left. Two runs of 64 numbers make such a list a run of the records that frame and entries
--- make, so demand 3 is said of it. The proofs are in proofs/RunsOnParts.antt.
+-- Lists of calls on a queue's parts: the same frame and the same two runs of entries are lent to every call, and each call finds
+-- them as the last one left them. Two runs of 64 numbers make such a list a run of the records that frame and entries make, so
+-- demand 3 is said of it. The proofs are in proofs/RunsOnParts.antt.
 use Rattle.std.specs.Prelude.{ℕ, ◌<◌, ◌^◌, ◌≡◌, true, List, [], ◌∷◌, length}
 use Rattle.table.specs.declared.Table.{Table}
 use Rattle.number.specs.Basics.{all_of}

@@ -97,7 +97,7 @@ PagesShow =
     (calls : List Call) (fill : Filling) → ((k : ℕ) → fill.address k < length memory) →
     Shows groups memory (answers m calls) fill (record_after no_takes (answers m calls))
 
--- ---- the same of the records that the calls hand back
+-- ---- the same of the records that the calls leave
 
 -- What each call hands over where a record is kept: a take by its contract, and every other call leaves the record.
 abbrev pub HandsRecord : Queue → List ℕ → ShiftRecord → Call → Outcome → List ℕ → ShiftRecord → Type 0

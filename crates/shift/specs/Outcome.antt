@@ -22,7 +22,7 @@ without_record r = record { answer = r.answer; value = r.value; queue = r.queue 
 abbrev pub with_record : Outcome → ShiftRecord → Recorded
 with_record r kept = record { answer = r.answer; value = r.value; queue = r.queue; kept = kept }
 
--- A refused take hands back the very queue and the very record that it was handed.
+-- A refused take leaves the very queue and the very record that were lent to it.
 pub record Unrecorded (q : Queue) (kept : ShiftRecord) (n : ℕ) (r : Recorded) : Type 0 where
   pub outcome : without_record r ≡ no_value n q
   pub kept_is : r.kept ≡ kept

@@ -98,8 +98,7 @@ check_groups seen (g ∷ gs) = both (check_group seen g) (check_groups (seen_aft
 unfoldable pub check_table : List GroupPairs → Reply (Unit {0})
 check_table gs = need (within 1 16 (length gs)) bad_group_count (check_groups none_seen gs)
 
--- A call that answers by the number of the check answers 0 just where the table is right: no refusal is 0. The proof is
--- proofs/Among.antt.
+-- The number of the check is 0 just where the table is right: no refusal is 0. The proof is proofs/Among.antt.
 abbrev pub ZeroMeansRight : Type 0
 ZeroMeansRight = (gs : List GroupPairs) → (number (check_table gs) ≡ 0) ↔ (check_table gs ≡ passed)
 

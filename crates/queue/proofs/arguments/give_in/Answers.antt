@@ -7,8 +7,8 @@ use Rattle.queue.specs.Contents.{contents_of}
 use Rattle.queue.specs.Arguments.{kind_of, names_port, give}
 use Rattle.queue.specs.Parts.{queue_of_kind}
 use Rattle.queue.specs.Internal.{Checked}
-use Rattle.queue.proofs.SoundLaws.{table-right, words-most}
-use Rattle.queue.proofs.ArgumentLaws.{give_record, side_for, own_room, in_range_most, gives}
+use Rattle.queue.proofs.SoundLaws.{table-right}
+use Rattle.queue.proofs.ArgumentLaws.{give_record, side_for, own_room, gives}
 use Rattle.queue.proofs.PartsLaws.{full, unfit}
 use Rattle.queue.proofs.GroupLaws.{groups-few}
 use Rattle.queue.proofs.arguments.give_in.Goals as goal
@@ -75,12 +75,6 @@ slice_bounds-give_oldest-end c = room (goal.at.slice_bounds-give_oldest-end c).A
 
 pub slice_bounds-give_oldest-end-2 : goal.slice_bounds-give_oldest-end-2
 slice_bounds-give_oldest-end-2 c = sym (length-take-le _ _ (room (goal.at.slice_bounds-give_oldest-end-2 c).After-side-held))
-
-pub give_oldest-requires : goal.give_oldest-requires
-give_oldest-requires c =
-    let fit = good (goal.at.give_oldest-requires c).In_ok-check_parts_of in
-    let q = queue (goal.at.give_oldest-requires c).After-check_parts_of in
-    in_range_most c.args.argument c.args.frame.now.memory_length c.args.number (words-most q fit.right) (sym c.in_range.ensures ∙ c.if-not-in_range.false)
 
 pub returns : goal.returns
 returns c =

@@ -18,9 +18,6 @@ returns-in_err-check_parts c =
     rw (unfit q (ready c.args.kind (contents_of q) c.args.out.now) _ c.in_err-check_parts.ensures (ready-unsound c.args.kind (contents_of q) c.args.out.now))
     (record { outcome = search rules; run_is = refl })
 
-pub ready_serials-found-requires : goal.ready_serials-found-requires
-ready_serials-found-requires c = c.in_ok-check_parts.ensures
-
 pub returns : goal.returns
 returns c =
     let fit = c.in_ok-check_parts.ensures in

@@ -24,9 +24,6 @@ returns-then-memory-frame c =
     let q = queue (goal.at.returns-then-memory-frame c).After-check_parts in
     rw (full fit, serve-memory q c.args.memory.now c.args.serial fit.right c.if-memory-frame.true)
 
-pub serve_at-requires : goal.serve_at-requires
-serve_at-requires c = (c.in_ok-check_parts.ensures, c.if-memory-frame.false)
-
 pub returns : goal.returns
 returns c =
     let fit = c.in_ok-check_parts.ensures in

@@ -24,9 +24,6 @@ returns-then-memory-frame-clause-writes c =
     let q = queue (goal.at.returns-then-memory-frame-clause-writes c).After-check_parts in
     rw (full fit, write-memory q c.args.memory.now c.args.serial fit.right c.if-memory-frame.true) (record { outcome = refl; memory_is = refl })
 
-pub write_at-requires : goal.write_at-requires
-write_at-requires c = (c.in_ok-check_parts.ensures, c.if-memory-frame.false)
-
 pub returns-clause-writes : goal.returns-clause-writes
 returns-clause-writes c =
     let fit = c.in_ok-check_parts.ensures in

@@ -49,7 +49,8 @@ fn write_out(rt: &(impl Print + Eprint), program: &str, text: &[u8]) -> io::Resu
     written
 }
 
-// Runs a program that prints something of the files table.bin and trace.bin of the current folder. It prints into a buffer that is lent.
+// Runs a program that prints something of the files table.bin and trace.bin of the current folder. What prints is a function: it is
+// lent this buffer, and says how many bytes of it are the text; where it refuses, nothing is written.
 pub fn run<F: FnOnce(&[u8], &[u8], &mut [u8]) -> Result<usize, Refusal>>(
     rt: &(impl Files + Print + Eprint),
     program: &str,
@@ -57,7 +58,8 @@ pub fn run<F: FnOnce(&[u8], &[u8], &mut [u8]) -> Result<usize, Refusal>>(
     out: &mut [u8],
 ) -> io::Result<()>
     requires callable { F.IsAlwaysCallable print }
-    requires inside { (table : _) (trace : _) (lent : _) (n : ℕ) (left : _) → F.post print table trace lent (Ok n) left → n ≤ length left.now }
+    requires inside { (table : _) (trace : _) (lent : _) (n : ℕ) (left : _) →
+        F.post print table trace lent (Ok n) left → n ≤ length left.now }
 {
     let mut table = file_buffer();
     let mut trace = file_buffer();

@@ -1,5 +1,5 @@
 -- Activation by the record: room by the counts, and the new entries by their offsets.
-use Rattle.std.proofs.Common.{◌≡◌, ℕ, suc, ◌+◌, ◌<◌, ◌≤◌, true, false, ◌&&◌, leb, List, [], ◌∷◌, map, length, get_or, sym, refl, ap, ◌∙◌, le_trans, add-zero, add-suc, arith, leb-true}
+use Rattle.std.proofs.Common.{◌≡◌, ℕ, suc, ◌+◌, ◌<◌, ◌≤◌, Bool, true, false, ◌&&◌, leb, List, [], ◌∷◌, map, length, get_or, sym, refl, ap, ◌∙◌, le_trans, add-zero, add-suc, arith, leb-true}
 use lib.ListN.{length-map}
 use Rattle.table.specs.declared.Pair.{Pair}
 use Rattle.table.specs.declared.Group.{Group}
@@ -100,14 +100,23 @@ pairs-fit ps offset port held depth r d =
     }
 
 module _ (q : Queue) (g : Group) (s : sound (contents_of q) ≡ true) (right : GroupRight (chosen q g)) (r : room (contents_of q) (chosen q g) ≡ true) where
-  both : leb (q.frame.loads.count + length (chosen q g).loads) q.frame.loads.depth && leb (q.frame.stores.count + length (chosen q g).stores) q.frame.stores.depth ≡ true
+  abbrev loads_room : Bool
+  loads_room = leb (q.frame.loads.count + length (chosen q g).loads) q.frame.loads.depth
+
+  abbrev stores_room : Bool
+  stores_room = leb (q.frame.stores.count + length (chosen q g).stores) q.frame.stores.depth
+
+  both : loads_room && stores_room ≡ true
   both = rw (loads-size q g, stores-size q g) (sym (room-record q g) ∙ r)
 
   pub loads-fit : PairsFit q.frame.loads.count (chosen q g).loads
-  loads-fit = pairs-fit _ right.load_offset right.load_port q.frame.loads.count q.frame.loads.depth (and_left (leb (q.frame.loads.count + length (chosen q g).loads) q.frame.loads.depth) _ both) (depth-most q s load)
+  loads-fit =
+      pairs-fit _ right.load_offset right.load_port q.frame.loads.count q.frame.loads.depth (and_left loads_room stores_room both) (depth-most q s load)
 
   pub stores-fit : PairsFit q.frame.stores.count (chosen q g).stores
-  stores-fit = pairs-fit _ right.store_offset right.store_port q.frame.stores.count q.frame.stores.depth (and_right (leb (q.frame.loads.count + length (chosen q g).loads) q.frame.loads.depth) _ both) (depth-most q s store)
+  stores-fit =
+      pairs-fit _ right.store_offset right.store_port q.frame.stores.count q.frame.stores.depth (and_right loads_room stores_room both)
+      (depth-most q s store)
 
 -- ---- the call
 pub activate-unsound : (q : Contents) (group : ℕ) → sound q ≡ false → activate q group ≡ refuse unsound

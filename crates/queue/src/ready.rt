@@ -58,7 +58,8 @@ fn ready_at(kind: Kind, load_entries: &[u64], store_entries: &[u64], i: usize) -
     }
 }
 
-// The serials of the loads that would be served now, or of the stores that would be written.
+// The serials of the loads that would be served now, or of the stores that would be written. By places, since a store's test reads
+// the run up to it, too.
 fn ready_serials(frame: &Frame, kind: Kind, load_entries: &[u64], store_entries: &[u64]) -> Serials
     requires { Checked frame.now load_entries.now store_entries.now }
     ensures { Lists (ready_serials kind (contents_of (queue_of frame.now load_entries.now store_entries.now))) result }

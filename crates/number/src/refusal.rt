@@ -104,6 +104,10 @@ pub fn number_of<T>(answer: &Result<T, Refusal>) -> u8
 }
 
 impl fmt::Display for Refusal {
+    ghost use Rattle.std.specs.Prelude.{Some, ◌++◌, codes, decimal};
+
+    ghost output = { λ e. Some (codes "refused with " ++ decimal (refusal_number e)) };
+
     fn fmt<W: fmt::Write>(&self, f: &mut fmt::Formatter<W>) -> fmt::Result {
         write!(f, "refused with {}", self.number())
     }

@@ -1,12 +1,17 @@
 -- Laws of the record that a replay into lent memory, counts and buffers leaves.
 use Prim.Native.Nat.{ℕ}
+use native.Mathlib.Omega.{arith}
 use mathlib.Core.Path.{◌≡◌, refl, sym, ap, ◌∙◌}
 use mathlib.Core.Bool.{true}
 use mathlib.Core.List.{List}
 use lib.Dec.{leb}
 use lib.ListN.{length}
 use Rattle.number.specs.Refusal.{too_short}
-use Rattle.number.specs.Reply.{Reply, refuse, accept}
+use Rattle.number.specs.Reply.{Reply, refuse, accept, number, reply}
+use Rattle.number.specs.declared.refusal.Refusal.{Refusal}
+use Rattle.number.proofs.AnswerLaws.{refusals_positive}
+use Rattle.std.specs.Prelude.{Result, Ok, Err, is_ok, false}
+use Rattle.queue.proofs.Lists.{false-true}
 use Rattle.table.specs.TableBytes.{read_table}
 use Rattle.replay.specs.Replay.{Replay}
 use Rattle.replay.proofs.ReplayLaws.{replay_proper}
@@ -16,6 +21,15 @@ use Rattle.shift.specs.declared.ShiftRecord.{ShiftRecord}
 use Rattle.paged.specs.Recorded.{record_buffered, trace_events, kept_after}
 use Rattle.paged.proofs.BufferLaws.{buffered_log, replay-events}
 use Rattle.exports.specs.Replay.{Lent, counts_of, replay_lent, LentAfter, lent_after}
+
+-- an answer's number is 0 just where it is no refusal
+pub ok-nought : {A : Type 0} (r : Result A Refusal) → true ≡ is_ok r → number (reply r) ≡ 0
+ok-nought (Ok a) e = refl
+ok-nought (Err n) e = false-true (sym e)
+
+pub err-apart : {A : Type 0} (r : Result A Refusal) → false ≡ is_ok r → number (reply r) ≡ 0 → ⊥
+err-apart (Ok a) e nought = false-true e
+err-apart (Err n) e nought = absurd (omega (arith, refusals_positive n, nought))
 
 module _ (table trace : List ℕ) (l : Lent) where
   -- no refusal is 0

@@ -1,5 +1,6 @@
 // Functions for C and Rust to link: tables and traces as bytes, replays as numbers in lent runs. A name is the whole
-// program's, as in C, so each begins with `lsq_`. Whatever is handed in, each answers as its contract says.
+// program's, as in C, so each begins with `lsq_`. Whatever is handed in, each answers as its contract says: a number, with 0 for none
+// or for accepted, where a function for Rattle alone answers a `Result`.
 
 #![tactic(auto)]
 
@@ -24,7 +25,7 @@ use replay::replaying::replay;
 use shift::ShiftRecord;
 use table::read::read_table;
 
-// What a replay that keeps the record hands back.
+// What a replay that keeps the record hands back: 0 or the refusal's number, and no `Result`, since C gets it.
 #[repr(C)]
 #[derive(Clone, Copy)]
 pub struct LentRecorded {
@@ -79,6 +80,38 @@ pub extern "C" fn lsq_memory_length(table: &[u8], trace: &[u8]) -> u32
     }
 }
 
+// Replays the trace on what is lent, as `lsq_replay` says it, and says how many events were played.
+fn replay_bytes(
+    table: &[u8],
+    trace: &[u8],
+    memory: &mut [u32],
+    counts: &mut [u32],
+    answers: &mut [u8],
+    given: &mut [u8],
+    values: &mut [u32],
+) -> Result<usize, Refusal>
+    ensures { record {
+      answer = number (reply result);
+      left = lent memory.new counts.new answers.new given.new values.new;
+    }
+        ≡ lent_after (lent memory.old counts.old answers.old given.old values.old)
+        (replay_lent table.now trace.now
+        (lent memory.old counts.old answers.old given.old values.old)) }
+{
+    let groups = read_table(table)?;
+    if counts.len() < 2 {
+        return Err(Refusal::TooShort);
+    }
+    let mut held = Counts {
+        loads: counts[0],
+        forwarded: counts[1],
+    };
+    let done = replay(groups, trace, memory, &mut held, answers, given, values);
+    counts[0] = held.loads;
+    counts[1] = held.forwarded;
+    done
+}
+
 // Replays the trace on the memory and the counts as they are lent; `counts` holds loads, then forwarded. Where it answers 0,
 // each event's answer, 1 or 0 as it gave a value or none, and the value or 0 stand at the front of the three buffers. Else
 // nothing that was lent is changed: a refused replay leaves the very counts that were lent to it.
@@ -100,20 +133,7 @@ pub extern "C" fn lsq_replay(
         (replay_lent table.now trace.now
         (lent memory.old counts.old answers.old given.old values.old)) }
 {
-    let groups = match read_table(table) {
-        Ok(groups) => groups,
-        Err(refusal) => return refusal.number() as u32,
-    };
-    if counts.len() < 2 {
-        return Refusal::TooShort.number() as u32;
-    }
-    let mut held = Counts {
-        loads: counts[0],
-        forwarded: counts[1],
-    };
-    let done = replay(groups, trace, memory, &mut held, answers, given, values);
-    counts[0] = held.loads;
-    counts[1] = held.forwarded;
+    let done = replay_bytes(table, trace, memory, counts, answers, given, values);
     number_of(&done) as u32
 }
 
@@ -140,11 +160,14 @@ pub extern "C" fn lsq_replay_recorded(
     ensures records { result.kept ≡ kept_after kept trace.now (replay_lent table.now trace.now
         (lent memory.old counts.old answers.old given.old values.old)) }
 {
-    let answer = lsq_replay(table, trace, memory, counts, answers, given, values);
-    if answer == 0 {
+    let done = replay_bytes(table, trace, memory, counts, answers, given, values);
+    if done.is_ok() {
         record_replay(trace, given, values, &mut kept);
     }
-    LentRecorded { answer, kept }
+    LentRecorded {
+        answer: number_of(&done) as u32,
+        kept,
+    }
 }
 
 // Writes the text that `play` prints of two files with these bytes at the front of a buffer, and answers how many bytes that

@@ -99,6 +99,29 @@ module _ (scale : ℕ) where
   not-fifth zero r h = absurd (omega arith)
   not-fifth (suc more) r h = omega arith
 
+-- what each of the first four bytes of a number counts, and what one after these many does
+abbrev pub scales : List ℕ
+scales = 1 ∷ 128 ∷ 16384 ∷ 2097152 ∷ []
+
+abbrev pub scale_of : ℕ → ℕ
+scale_of i = get_or (1 ∷ 128 ∷ 16384 ∷ 2097152 ∷ 268435456 ∷ []) i 0
+
+scale_in : (i : ℕ) → i < 4 → (get_or scales i 0 ≡ scale_of i) × (get_or scales i 0 < 2 ^ 28) × (get_or scales i 0 * 128 ≡ scale_of (i + 1))
+scale_in zero h = (refl, omega arith, refl)
+scale_in (suc zero) h = (refl, omega arith, refl)
+scale_in (suc (suc zero)) h = (refl, omega arith, refl)
+scale_in (suc (suc (suc zero))) h = (refl, omega arith, refl)
+scale_in (suc (suc (suc (suc i)))) h = absurd (omega arith)
+
+-- the fifth counts this
+four : (i : ℕ) → i ≤ 4 → 4 ≤ i → scale_of i ≡ 2 ^ 28
+four i h k =
+    let e : i ≡ 4 = omega arith in
+    rw e
+
+pub scale-small : {i : ℕ} → i < 4 → get_or scales i 0 < 2 ^ 28
+scale-small {i} h = (scale_in i h).1
+
 last_at : (l : List ℕ) → last_of l ≡ get_or l (length l - 1) 0
 last_at [] = refl
 last_at (b ∷ []) = refl
@@ -184,3 +207,17 @@ module _ {s : List ℕ} {at value scale place : ℕ} (w : NumberSoFar s at value
       pub number-too-large : 15 < get_or s place 0 → refuse too_large ≡ read_in s (read_number (drop at s))
       unfolding read_number
       number-too-large k = rw (w.is, none, up-too-large s place h k)
+
+-- the same, by the places of the scales
+module _ {s : List ℕ} {at value place i : ℕ} where
+  pub number_going : NumberSoFar s at value (scale_of i) place → i < 4 → NumberSoFar s at value (get_or scales i 0) place
+  number_going w h = rw ((scale_in i h).0) w
+
+  pub number_gone : NumberSoFar s at value (get_or scales i 0 * 128) place → i < 4 → NumberSoFar s at value (scale_of (i + 1)) place
+  number_gone w h = rw (sym ((scale_in i h).2)) w
+
+  -- behind the four
+  pub number_over : NumberSoFar s at value (scale_of i) place → i ≤ 4 → 4 ≤ i → NumberSoFar s at value (2 ^ 28) place
+  number_over w h k =
+      let e : scale_of i ≡ 2 ^ 28 = four i h k in
+      rw (sym e) w

@@ -26,9 +26,8 @@ pub fn read_number(bytes: &[u8], at: usize) -> Result<(u32, usize), Refusal>
     ensures { number_reply result ≡ read_in bytes.now (read_number (drop at bytes.now)) }
 {
     let mut value: u32 = 0;
-    let mut scale: u32 = 1;
     let mut place = at;
-    while scale < FIFTH {
+    for scale in [1, 128, 16384, 2097152] {
         if bytes.len() <= place {
             return Err(Refusal::Ended);
         }
@@ -38,14 +37,13 @@ pub fn read_number(bytes: &[u8], at: usize) -> Result<(u32, usize), Refusal>
             return ended_by(at, place, low, value + low * scale);
         }
         value += (low - 128) * scale;
-        scale *= 128;
     }
     if bytes.len() <= place {
         return Err(Refusal::Ended);
     }
     let low = bytes[place] as u32;
     if low <= 15 {
-        return ended_by(at, place + 1, low, value + low * scale);
+        return ended_by(at, place + 1, low, value + low * FIFTH);
     }
     Err(Refusal::TooLarge)
 }

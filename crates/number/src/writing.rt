@@ -17,7 +17,8 @@ pub fn number_length(value: u32) -> usize
     count as usize
 }
 
-// Puts a number's bytes at a place where they fit, and says where they end.
+// Puts a number's bytes at a place where they fit, and says where they end. A `while`, and no `for`: what is left of the number ends it,
+// and a `for` over the places would first need their number.
 fn put_fitting(out: &mut [u8], at: usize, value: u32) -> usize
     requires { at + length (number_bytes value) ≤ length out.old }
     ensures { Puts out.old at (number_bytes value) result out.new }
@@ -33,7 +34,8 @@ fn put_fitting(out: &mut [u8], at: usize, value: u32) -> usize
     place + 1
 }
 
-// Puts a number's bytes at a place, and says where they end. Where they do not fit, it puts nothing and says the place itself.
+// Puts a number's bytes at a place, and says where they end. Where they do not fit, it puts nothing and says the place itself: no
+// `Option`, since `PutIfFits` promises a place to every caller.
 pub fn put_number(out: &mut [u8], at: usize, value: u32) -> usize
     ensures { PutIfFits out.old at (number_bytes value) result out.new }
 {

@@ -18,6 +18,10 @@ use Rattle.table.specs.declared.Group.{Group}
 use Rattle.table.specs.declared.Span.{Span}
 use Rattle.table.specs.declared.Table.{Table}
 use Rattle.table.specs.declared.check.Rule.{Rule}
+use Rattle.table.specs.declared.check.Ports.{Ports}
+use Rattle.std.specs.Array.{AllOfLen}
+use Rattle.std.specs.Prelude.{replicate}
+use Rattle.std.proofs.lemmas.List.{ext_get_or, get_or-replicate, length-replicate}
 use Rattle.number.specs.Refusal.{bad_group_count, bad_counts, bad_offset, bad_port, port_seen}
 use Rattle.number.specs.Reply.{Reply, refuse, passed}
 use Rattle.number.specs.Basics.{pick, held, count_where, within}
@@ -25,7 +29,7 @@ use Rattle.table.specs.Packed.{pair_in, group_in}
 use Rattle.table.specs.Group.{GroupPairs, blank_pair, list_of, Inside, pairs_of, before_store}
 use Rattle.table.specs.Table.{span_meant, group_at, meant_in, groups_of, load_rule, store_rule, check_pair, check_pairs, seeing, counts_right, Seen, none_seen}
 use Rattle.table.specs.Table.{seen_after, check_group, check_groups, check_table}
-use Rattle.table.specs.Internal.{Checks, rule_of, Rising, RuleRight, GroupInside}
+use Rattle.table.specs.Internal.{Checks, rule_of, Rising, RuleRight, GroupInside, seen_of}
 use Rattle.number.proofs.Both.{and_left, and_right}
 use Rattle.number.proofs.HeldLaws.{held-here, held-length}
 use Rattle.number.proofs.ReplyLaws.{need-accepts, both-passed}
@@ -249,6 +253,16 @@ checks-last (Ok t) e f (h, k) = (e ∙ h, f k)
 checks-last (Err n) e f h = e ∙ h
 
 -- ---- checking groups one by one
+
+pub all_alike : {A : Type 0} {xs : List A} {n : ℕ} {a : A} → AllOfLen (λ x. x ≡ a) xs n → xs ≡ replicate n a
+all_alike {A} {xs} {n} {a} all =
+    ext_get_or a xs (replicate n a) (all.long ∙ sym (length-replicate n a)) λ k low.
+    all.at k a (omega (arith, all.long)) ∙ sym (get_or-replicate n k a a (omega (arith, all.long)))
+
+-- marks that none was made of
+pub none_marked : {ports : Ports} → AllOfLen (λ b. b ≡ false) ports.loads 32 × AllOfLen (λ b. b ≡ false) ports.stores 32 → seen_of ports ≡ none_seen
+none_marked (loads, stores) = rw (all_alike loads, all_alike stores)
+
 pub record Passing (seen : Seen) (gs : List GroupPairs) (i : ℕ) (now : Seen) : Type 0 where
   pub is : check_groups seen gs ≡ check_groups now (drop i gs)
 

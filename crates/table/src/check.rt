@@ -11,23 +11,11 @@ use crate::parts::unpack_pair;
 use crate::{Group, Table};
 use number::refusal::Refusal;
 
-// The ports seen so far in a table, a mark for each.
-#[derive(Clone, Copy)]
+// The ports seen so far in a table, a mark for each: none, before the first.
+#[derive(Clone, Copy, Default)]
 pub(crate) struct Ports {
     pub loads: [bool; 32],
     pub stores: [bool; 32],
-}
-
-impl Ports {
-    // No port was seen.
-    pub(crate) fn none() -> Ports
-        ensures { seen_of result ≡ none_seen }
-    {
-        Ports {
-            loads: [false; 32],
-            stores: [false; 32],
-        }
-    }
 }
 
 // The rule for the offsets of a group's pairs of one kind.
@@ -127,7 +115,7 @@ impl Table {
         if self.count < 1 || 16 < self.count {
             return Err(Refusal::BadGroupCount);
         }
-        let mut seen = Ports::none();
+        let mut seen = Ports::default();
         for i in 0..self.count as usize {
             check_group(self, self.group(i), &mut seen)?;
         }

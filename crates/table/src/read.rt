@@ -16,7 +16,7 @@ use number::refusal::Refusal;
 
 // A group's pairs of one kind that were read, each packed into a number: `count` of them, from the first place on. They stand in
 // fixed memory: this library has no heap.
-#[derive(Clone, Copy)]
+#[derive(Clone, Copy, Default)]
 pub(crate) struct Pairs {
     pub count: u8,
     pub places: [u16; 32],
@@ -47,16 +47,6 @@ fn read_two(bytes: &[u8], at: usize) -> Result<(u32, u32, usize), Refusal>
 }
 
 impl Pairs {
-    // No pairs.
-    fn none() -> Pairs
-        ensures { result ≡ pack_pairs [] }
-    {
-        Pairs {
-            count: 0,
-            places: [0; 32],
-        }
-    }
-
     // The numbers that hold them.
     fn numbers(&self) -> &[u16]
         requires { self.now.count ≤ 32 }
@@ -87,7 +77,7 @@ fn read_pairs<'a>(
     requires { (count ≤ 16) × (at ≤ length bytes.now) × RuleRight rule }
     ensures { PairsResult bytes.now seen.old (read_pairs (rule_of rule.entry) count 0 0 seen.old (drop at bytes.now)) seen.new result }
 {
-    let mut pairs = Pairs::none();
+    let mut pairs = Pairs::default();
     let mut low: u32 = 0;
     let mut place = at;
     for i in 0..count {
@@ -125,7 +115,7 @@ fn read_group(bytes: &[u8], at: usize, seen: &mut Ports) -> Result<(NewGroup, us
 }
 
 impl Table {
-    // The table of no groups.
+    // The table of no groups. A name of its own: `Default` would not say that it has none.
     pub fn none() -> Table
         ensures { result ≡ pack [] }
     {
@@ -175,7 +165,7 @@ fn read_groups(bytes: &[u8], at: usize, count: u32) -> Result<(Table, usize), Re
         loads: 0,
         stores: 0,
     };
-    let mut seen = Ports::none();
+    let mut seen = Ports::default();
     let mut place = at;
     for _ in 0..count {
         let (group, next) = read_group(bytes, place, &mut seen)?;

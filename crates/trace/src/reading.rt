@@ -24,7 +24,7 @@ pub fn read_header(bytes: &[u8]) -> Result<(Header, usize), Refusal>
     Ok((header, place))
 }
 
-// The event of a kind and its numbers.
+// The event of a kind and its numbers. No `TryFrom`: a kind above 6 is refused before its numbers are read, so none is left to refuse here.
 pub(crate) fn event_of(kind: u32, first: u32, second: u32) -> Event
     ensures { result ≡ event_of kind first second }
 {
@@ -48,7 +48,7 @@ pub(crate) fn event_of(kind: u32, first: u32, second: u32) -> Event
     }
 }
 
-// Reads what follows an event's kind, and says where it ends.
+// Reads what follows an event's kind, and says where it ends. The kind is a number still: it says how many numbers follow.
 fn read_kind(bytes: &[u8], kind: u32, at: usize) -> Result<(Event, usize), Refusal>
     ensures { kind_reply result ≡ event_read_in bytes.now (read_kind kind (drop at bytes.now)) }
 {

@@ -62,7 +62,7 @@ pub fn write_event(event: Event, out: &mut [u8]) -> Result<usize, Refusal>
 }
 
 // Writes an event, by its kind and its numbers, at the front of a buffer: 35, then 10. A kind with one number leaves the second
-// alone.
+// alone. The kind is a number, and no `Event`, since C hands it so.
 pub fn write_event_of(kind: u32, first: u32, second: u32, out: &mut [u8]) -> Result<usize, Refusal>
     ensures { HasWritten (wrote_event_of kind first second out.old) result out.new }
 {

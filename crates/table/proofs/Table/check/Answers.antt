@@ -1,5 +1,5 @@
 -- The groups before the ith are passed; what is left to check is the rest, with the ports seen so far.
-use mathlib.Core.Path.{◌≡◌, sym, ◌∙◌}
+use mathlib.Core.Path.{◌≡◌, refl, sym, ◌∙◌}
 use mathlib.Core.Bool.{true}
 use native.Mathlib.Omega.{arith}
 use borrow.Author.Rules.{rules}
@@ -10,6 +10,7 @@ use Rattle.table.specs.Group.{GroupPairs, pairs_of}
 use Rattle.table.specs.Table.{groups_of}
 use Rattle.table.proofs.CheckLaws.{passing-stop, passing-more, passing-end, groups-size}
 use Rattle.table.proofs.CheckLaws.{group-inside, group_at_lem, table-count, table-groups}
+use Rattle.table.proofs.CheckLaws.{none_marked}
 use Rattle.table.proofs.Table.check.Goals as goal
 use Rattle.table.proofs.Table.check.Goals.{After-group, then-self-lt1-via-then-self-lt1, then-self-lt1-via-else-self-lt1+then-self-gt16}
 
@@ -21,6 +22,9 @@ this c = group_at_lem c.args.self.now (omega arith) c.loop-i.i c.loop-i-test.tru
 
 few : (c : After-group) → within 1 16 c.args.self.now.count ≡ true
 few c = rw (le-leb 1 c.args.self.now.count (omega arith), le-leb c.args.self.now.count 16 (omega arith))
+
+pub loop-i-init : goal.loop-i-init
+loop-i-init c = rw (none_marked c.default-seen.ensures) record { is = refl }
 
 pub returns-then-self-lt1 : goal.returns-then-self-lt1
 returns-then-self-lt1 c =

@@ -3,6 +3,7 @@ use mathlib.Core.Path.{◌≡◌}
 use borrow.Author.Rules.{rules}
 use Rattle.std.specs.Prelude.{Err}
 use Rattle.table.specs.Internal.{Growing}
+use Rattle.table.proofs.CheckLaws.{none_marked}
 use Rattle.table.proofs.ReadLaws.{gathering_none, gathering-refused, gathering-room, gathering-more, gathering-end}
 use Rattle.table.proofs.RoundTrip.{group-written}
 use Rattle.table.proofs.read.read_groups.Goals as goal
@@ -15,7 +16,7 @@ room c =
     gathering-room c.loop.invariant c.loop-test.true c.requires.0 group (group-written _ _ group.is).right
 
 pub loop-init : goal.loop-init
-loop-init c = rw c.none-seen.ensures (gathering_none c.requires.1 c.none.ensures)
+loop-init c = rw (none_marked c.default-seen.ensures) (gathering_none c.requires.1 c.none.ensures)
 
 pub returns-in_err-group : goal.returns-in_err-group
 returns-in_err-group c =

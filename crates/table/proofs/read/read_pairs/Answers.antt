@@ -1,17 +1,16 @@
 -- i pairs have been read into the array; what is left to read is the rest, with the marks and the last offset so far.
-use mathlib.Core.Path.{◌≡◌, sym, ap}
+use mathlib.Core.Path.{◌≡◌, sym}
 use mathlib.Core.List.{map}
 use native.Mathlib.Omega.{arith}
 use borrow.Author.Rules.{rules}
 use lib.ListN.{take, drop}
 use Rattle.std.specs.Prelude.{Err}
 use Rattle.number.specs.Reply.{passed}
-use Rattle.table.specs.declared.read.Pairs.{Pairs}
 use Rattle.table.specs.Packed.{pair, SmallPair, pair_in}
 use Rattle.table.specs.Table.{check_pair}
 use Rattle.table.specs.Internal.{rule_of, read_two}
 use Rattle.number.proofs.RoundTrip.{read_refused}
-use Rattle.table.proofs.CheckLaws.{pair-passed, rule_small}
+use Rattle.table.proofs.CheckLaws.{all_alike, pair-passed, rule_small}
 use Rattle.table.proofs.ReadLaws.{two-answer, reading_none, reading-refused, reading-fault, reading-more, reading-end, packed, held-pairs}
 use Rattle.table.proofs.read.read_pairs.Goals as goal
 use Rattle.table.proofs.read.read_pairs.Goals.{In_ok-check_pair}
@@ -26,7 +25,7 @@ small c =
     record { offset = omega (arith, offset); port = omega (arith, port) }
 
 pub loop-i-init : goal.loop-i-init
-loop-i-init c = reading_none c.requires.1 (ap (λ (p : Pairs). p.places) c.none-pairs.ensures)
+loop-i-init c = reading_none c.requires.1 (all_alike c.default-pairs.ensures.1)
 
 pub returns-in_err-offset : goal.returns-in_err-offset
 returns-in_err-offset c =

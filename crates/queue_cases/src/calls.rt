@@ -21,7 +21,7 @@ fn shown(
     answer: Result<Option<u32>, Refusal>,
 ) -> io::Result<()> {
     show::answer(out, answer)?;
-    show::same(out, b"", *before == *after)
+    show::same(out, "", *before == *after)
 }
 
 fn take(out: &mut impl Write, run: &mut Run, port: u32) -> io::Result<()> {
@@ -35,7 +35,7 @@ fn serve(out: &mut impl Write, run: &mut Run, serial: u32) -> io::Result<()> {
     let counts = run.counts;
     let answer = run.queue.serve(&run.memory, &mut run.counts, serial);
     shown(out, &before, &run.queue, answer.map(Some))?;
-    show::same(out, b" counts", counts == run.counts)
+    show::same(out, " counts", counts == run.counts)
 }
 
 fn write(out: &mut impl Write, run: &mut Run, serial: u32) -> io::Result<()> {
@@ -43,7 +43,7 @@ fn write(out: &mut impl Write, run: &mut Run, serial: u32) -> io::Result<()> {
     let memory = copied(&run.memory);
     let answer = run.queue.write(&mut run.memory, serial);
     shown(out, &before, &run.queue, no_value(answer))?;
-    show::same(out, b" memory", memory == run.memory)
+    show::same(out, " memory", memory == run.memory)
 }
 
 // A call that is lent nothing and gives no value.

@@ -8,9 +8,9 @@ use std::io::Write;
 fn show_fields(out: &mut impl Write, entry: Entry) -> io::Result<()> {
     write!(out, ": port {} before {}", entry.port, entry.before)?;
     write!(out, " address {} word {}", entry.address, entry.word)?;
-    show::mark(out, b" addressed", entry.addressed)?;
-    show::mark(out, b" filled", entry.filled)?;
-    show::mark(out, b" finished", entry.finished)
+    show::mark(out, " addressed", entry.addressed)?;
+    show::mark(out, " filled", entry.filled)?;
+    show::mark(out, " finished", entry.finished)
 }
 
 // The entry that a number holds, and whether packing it gives the number again.
@@ -18,7 +18,7 @@ pub(crate) fn unpack(out: &mut impl Write, high: u32, low: u32) -> io::Result<()
     let number = high as u64 * 4294967296 + low as u64;
     let entry = entries::unpack(number);
     show_fields(out, entry)?;
-    show::same(out, b"", entries::pack(entry) == number)
+    show::same(out, "", entries::pack(entry) == number)
 }
 
 // The number that holds an entry, and whether unpacking it gives the entry again.
@@ -26,5 +26,5 @@ pub(crate) fn pack(out: &mut impl Write, numbers: &[u64]) -> io::Result<()> {
     let entry = records::entry_of(numbers);
     let number = entries::pack(entry);
     write!(out, ": {number}")?;
-    show::same(out, b"", entries::unpack(number) == entry)
+    show::same(out, "", entries::unpack(number) == entry)
 }

@@ -16,15 +16,15 @@ pub(crate) fn take(out: &mut impl Write, run: &mut Run, port: u32) -> io::Result
     let kept = run.kept;
     let taken = take_recorded(&mut run.queue, &mut run.kept, port);
     show::answer(out, taken.map(Some))?;
-    show::same(out, b"", queue == run.queue)?;
-    show::same(out, b" record", kept == run.kept)
+    show::same(out, "", queue == run.queue)?;
+    show::same(out, " record", kept == run.kept)
 }
 
 // The rule with no queue: only so can a case hand it a port that no table has.
 pub(crate) fn record(out: &mut impl Write, run: &mut Run, port: u32, value: u32) -> io::Result<()> {
     let kept = run.kept;
     run.kept.record(port, value);
-    show::same(out, b":", kept == run.kept)
+    show::same(out, ":", kept == run.kept)
 }
 
 // Of the numbers: port, and its two numbers.

@@ -19,47 +19,43 @@ pub(crate) fn answer(out: &mut impl Write, answer: Result<Option<u32>, Refusal>)
 }
 
 // Words, and whether what they name came back as it was handed in.
-pub(crate) fn same(out: &mut impl Write, text: &[u8], is_same: bool) -> io::Result<()> {
-    out.write_all(text)?;
-    if is_same {
-        return out.write_all(b" same");
-    }
-    out.write_all(b" moved")
+pub(crate) fn same(out: &mut impl Write, text: &str, is_same: bool) -> io::Result<()> {
+    let said = if is_same { "same" } else { "moved" };
+    write!(out, "{text} {said}")
 }
 
 // Words, and a number that is there or not.
-fn optional(out: &mut impl Write, text: &[u8], there: bool, value: u32) -> io::Result<()> {
-    out.write_all(text)?;
+fn optional(out: &mut impl Write, text: &str, there: bool, value: u32) -> io::Result<()> {
     if there {
-        return write!(out, " {value}");
+        return write!(out, "{text} {value}");
     }
-    out.write_all(b" -")
+    write!(out, "{text} -")
 }
 
 // A word that is said where it holds.
-pub(crate) fn mark(out: &mut impl Write, text: &[u8], holds: bool) -> io::Result<()> {
+pub(crate) fn mark(out: &mut impl Write, text: &str, holds: bool) -> io::Result<()> {
     if holds {
-        return out.write_all(text);
+        return write!(out, "{text}");
     }
     Ok(())
 }
 
 // The two kinds are shown alike but for these words.
-fn words(out: &mut impl Write, kind: Kind, load: &[u8], store: &[u8]) -> io::Result<()> {
+fn words(out: &mut impl Write, kind: Kind, load: &str, store: &str) -> io::Result<()> {
     match kind {
-        Kind::Load => out.write_all(load),
-        Kind::Store => out.write_all(store),
+        Kind::Load => write!(out, "{load}"),
+        Kind::Store => write!(out, "{store}"),
     }
 }
 
 fn entry(out: &mut impl Write, kind: Kind, serial: u32, entry: Entry) -> io::Result<()> {
-    words(out, kind, b"\n  load ", b"\n  store ")?;
+    words(out, kind, "\n  load ", "\n  store ")?;
     write!(out, "{serial} port {} before {}", entry.port, entry.before)?;
-    optional(out, b" address", entry.addressed, entry.address as u32)?;
-    words(out, kind, b" value", b" data")?;
-    optional(out, b"", entry.filled, entry.word)?;
+    optional(out, " address", entry.addressed, entry.address as u32)?;
+    words(out, kind, " value", " data")?;
+    optional(out, "", entry.filled, entry.word)?;
     if entry.finished {
-        words(out, kind, b" taken", b" written")?;
+        words(out, kind, " taken", " written")?;
     }
     Ok(())
 }
@@ -71,7 +67,7 @@ pub(crate) fn side(
     held: Side,
     entries: &[u64; 64],
 ) -> io::Result<()> {
-    words(out, kind, b"\n  loads ", b"\n  stores ")?;
+    words(out, kind, "\n  loads ", "\n  stores ")?;
     write!(out, "{} of {} next {}", held.count, held.depth, held.next)?;
     let mut serial = held.next.wrapping_sub(held.count as u32);
     for number in entries.iter().take(held.count as usize) {
@@ -94,7 +90,7 @@ pub(crate) fn page(
         }
         Err(refusal) => {
             refused(out, refusal)?;
-            same(out, b"", buffer.iter().all(|byte| *byte == b'.'))
+            same(out, "", buffer.iter().all(|byte| *byte == b'.'))
         }
     }
 }

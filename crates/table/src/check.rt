@@ -4,21 +4,23 @@ ghost use Rattle.number.specs.Basics.{count_where};
 ghost use Rattle.number.specs.Reply.{reply};
 ghost use Rattle.table.specs.Packed.{pair_in};
 ghost use Rattle.table.specs.Group.{pairs_of, before_store};
-ghost use Rattle.table.specs.Table.{counts_right, check_pair, check_table, groups_of, none_seen};
-ghost use Rattle.table.specs.Internal.{rule_of, Rising, RuleRight, PairsChecked, seen_of, GroupChecked, GroupInside};
+ghost use Rattle.table.specs.Table.{group_at, counts_right, check_pair, check_table, groups_of, none_seen};
+ghost use Rattle.table.specs.Internal.{rule_of, Rising, RuleRight, PairsChecked, seen_of, GroupChecked};
 
+use crate::Table;
 use crate::parts::unpack_pair;
-use crate::{Group, Table};
 use number::refusal::Refusal;
 
-// The ports seen so far in a table, a mark for each: none, before the first.
+// The ports seen so far in a table, a mark for each: a set of the library takes a heap. `Group`, `NewGroup` and this have loads and stores,
+// but are no one type with a parameter: nothing is done with all three alike, and C has `Group`.
 #[derive(Clone, Copy, Default)]
 pub(crate) struct Ports {
     pub loads: [bool; 32],
     pub stores: [bool; 32],
 }
 
-// The rule for the offsets of a group's pairs of one kind.
+// The rule for the offsets of a group's pairs of one kind. That it is right (`RuleRight`) is asked by three functions: a variant has no
+// ghost field, so the fact would take a struct around this enum.
 #[derive(Clone, Copy)]
 pub(crate) enum Rule<'a> {
     // a load's goes by the group's store count
@@ -92,11 +94,11 @@ pub(crate) fn counts_right(loads: u32, stores: u32) -> bool
     loads <= 16 && stores <= 16
 }
 
-// A group's first fault: 5 counts, then its loads, then its stores. The marks of the ports seen are lent.
-fn check_group(table: &Table, group: Group, seen: &mut Ports) -> Result<(), Refusal>
-    requires { GroupInside group }
-    ensures { GroupChecked (seen_of seen.old) (pairs_of table.now.loads table.now.stores group) (seen_of seen.new) result }
+// The first fault of the group at a place: 5 counts, then its loads, then its stores. The marks of the ports seen are lent.
+fn check_group(table: &Table, i: usize, seen: &mut Ports) -> Result<(), Refusal>
+    ensures { GroupChecked (seen_of seen.old) (pairs_of table.now.loads table.now.stores (group_at table.now.groups i)) (seen_of seen.new) result }
 {
+    let group = table.group(i);
     let few = group.stores.count as u32;
     if !counts_right(group.loads.count as u32, few) {
         return Err(Refusal::BadCounts);
@@ -117,7 +119,7 @@ impl Table {
         }
         let mut seen = Ports::default();
         for i in 0..self.count as usize {
-            check_group(self, self.group(i), &mut seen)?;
+            check_group(self, i, &mut seen)?;
         }
         Ok(())
     }

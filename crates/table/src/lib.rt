@@ -17,7 +17,8 @@ pub struct Pair {
     pub port: u8,
 }
 
-// Where the accesses of one kind in a group stand, in program order: `count` of them, from the place `first` on.
+// Where the accesses of one kind in a group stand, in program order: `count` of them, from the place `first` on. A place and a count,
+// and no slice: a table that C lends has no pointer in it.
 #[repr(C)]
 #[derive(Clone, Copy, Debug, PartialEq, Eq)]
 pub struct Span {

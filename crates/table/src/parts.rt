@@ -24,7 +24,8 @@ pub fn pack_pair(pair: Pair) -> u16
     pair.offset as u16 + 256 * pair.port as u16
 }
 
-// The span that the lowest sixteen bits of a number hold: the first place, then the count.
+// The span that the lowest sixteen bits of a number hold: the first place, then the count. The same two lines as for a pair: a function
+// for both would hand back two bytes without a name.
 fn unpack_span(number: u32) -> Span
     ensures { result ≡ span_in number }
 {

@@ -1,4 +1,5 @@
-// Reading tables, number by number.
+// Reading tables, number by number. A place goes with the bytes, as in `read_number`, which is public: where a number ends is counted from
+// the first byte of them all, and a slice from a place on would lose that.
 ghost use Rattle.std.specs.Prelude.{◌≡◌, ◌+◌, ◌≤◌, length, take, drop, map, []};
 ghost use Rattle.table.specs.Packed.{pair_in};
 ghost use Rattle.table.specs.TableBytes.{read_pairs, read_group, read_groups, read_table, table_reply, pack};
@@ -15,7 +16,7 @@ use number::reading::read_number;
 use number::refusal::Refusal;
 
 // A group's pairs of one kind that were read, each packed into a number: `count` of them, from the first place on. They stand in
-// fixed memory: this library has no heap.
+// fixed memory: this library has no heap. An array with a count, and no `ArrayVec`: firms take this crate with `number` and no other.
 #[derive(Clone, Copy, Default)]
 pub(crate) struct Pairs {
     pub count: u8,

@@ -1,15 +1,18 @@
-// Writing tables. The length is known before the first byte is written, so a refusal leaves the buffer as it was.
+// Writing tables. The length is known before the first byte is written, so a refusal leaves the buffer as it was. Lengths are counted along
+// the same way that the bytes then go: one function for both would hand each number to a closure, and say what that has done so far.
+// The functions that put take a place and say where they end, as `put_number` does, which is public: one clause, `Puts`, says what each
+// put, where a writer that keeps the place would have two states to speak of. That a table has at most 16 groups is asked twice, right
+// behind the check: a type for it would have no other use.
 ghost use Rattle.std.specs.Prelude.{◌≡◌, ◌+◌, ◌*◌, ◌≤◌, length, map};
 ghost use Rattle.number.specs.Basics.{flat_map, splice};
 ghost use Rattle.number.specs.Number.{bytes_of, HasWritten, Puts};
 ghost use Rattle.table.specs.Packed.{pair_in};
 ghost use Rattle.table.specs.Group.{pairs_of};
-ghost use Rattle.table.specs.Table.{groups_of};
+ghost use Rattle.table.specs.Table.{group_at, groups_of};
 ghost use Rattle.table.specs.TableBytes.{pair_numbers, group_numbers, table_numbers, wrote_table};
-ghost use Rattle.table.specs.Internal.{GroupInside};
 
+use crate::Table;
 use crate::parts::unpack_pair;
-use crate::{Group, Table};
 use number::refusal::Refusal;
 use number::writing::{number_length, put_number};
 
@@ -26,11 +29,12 @@ fn pairs_length(pairs: &[u16]) -> usize
     total
 }
 
-// How many bytes a group takes.
-fn group_length(table: &Table, group: Group) -> usize
-    requires { GroupInside group }
-    ensures { (result ≡ length (bytes_of (group_numbers (pairs_of table.now.loads table.now.stores group)))) × (result ≤ 650) }
+// How many bytes the group at a place takes.
+fn group_length(table: &Table, i: usize) -> usize
+    ensures { (result ≡ length (bytes_of (group_numbers (pairs_of table.now.loads table.now.stores (group_at table.now.groups i)))))
+        × (result ≤ 650) }
 {
+    let group = table.group(i);
     let counts = number_length(group.loads.count as u32) + number_length(group.stores.count as u32);
     let loads = pairs_length(group.loads.among(&table.loads));
     let stores = pairs_length(group.stores.among(&table.stores));
@@ -44,7 +48,7 @@ fn table_length(table: &Table) -> usize
 {
     let mut total: usize = 0;
     for i in 0..table.count as usize {
-        total += group_length(table, table.group(i));
+        total += group_length(table, i);
     }
     number_length(2) + number_length(table.count as u32) + total
 }
@@ -63,11 +67,14 @@ fn put_pairs(pairs: &[u16], out: &mut [u8], at: usize) -> usize
     place
 }
 
-// Puts a group at a place where it fits, and says where it ends.
-fn put_group(table: &Table, group: Group, out: &mut [u8], at: usize) -> usize
-    requires { GroupInside group × (at + length (bytes_of (group_numbers (pairs_of table.now.loads table.now.stores group))) ≤ length out.old) }
-    ensures { Puts out.old at (bytes_of (group_numbers (pairs_of table.now.loads table.now.stores group))) result out.new }
+// Puts the ith group at a place where it fits, and says where it ends.
+fn put_group(table: &Table, i: usize, out: &mut [u8], at: usize) -> usize
+    requires { at + length (bytes_of (group_numbers (pairs_of table.now.loads table.now.stores (group_at table.now.groups i))))
+        ≤ length out.old }
+    ensures { Puts out.old at (bytes_of (group_numbers (pairs_of table.now.loads table.now.stores (group_at table.now.groups i))))
+        result out.new }
 {
+    let group = table.group(i);
     let after_loads = put_number(out, at, group.loads.count as u32);
     let after_counts = put_number(out, after_loads, group.stores.count as u32);
     let after_pairs = put_pairs(group.loads.among(&table.loads), out, after_counts);
@@ -82,7 +89,7 @@ fn put_table(table: &Table, out: &mut [u8])
     let after_fields = put_number(out, 0, 2);
     let mut place = put_number(out, after_fields, table.count as u32);
     for i in 0..table.count as usize {
-        place = put_group(table, table.group(i), out, place);
+        place = put_group(table, i, out, place);
     }
 }
 

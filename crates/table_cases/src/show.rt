@@ -2,8 +2,8 @@
 use number::refusal::Refusal;
 use std::io;
 use std::io::Write;
+use table::Table;
 use table::parts::unpack_pair;
-use table::{Span, Table};
 use trace::{Event, Header};
 
 pub(crate) fn refused(out: &mut impl Write, refusal: Refusal) -> io::Result<()> {
@@ -52,9 +52,8 @@ pub(crate) fn written(
 }
 
 // Pairs of one kind, each as offset/port.
-fn accesses(out: &mut impl Write, places: &[u16; 32], pairs: Span) -> io::Result<()> {
-    let first = pairs.first as usize;
-    for number in places.iter().skip(first).take(pairs.count as usize) {
+fn accesses(out: &mut impl Write, pairs: &[u16]) -> io::Result<()> {
+    for number in pairs {
         let pair = unpack_pair(*number);
         write!(out, " {}/{}", pair.offset, pair.port)?;
     }
@@ -67,9 +66,9 @@ pub(crate) fn groups(out: &mut impl Write, table: &Table) -> io::Result<()> {
     for i in 0..table.count as usize {
         let group = table.group(i);
         out.write_all(b" [loads")?;
-        accesses(out, &table.loads, group.loads)?;
+        accesses(out, group.loads.among(&table.loads))?;
         out.write_all(b" stores")?;
-        accesses(out, &table.stores, group.stores)?;
+        accesses(out, group.stores.among(&table.stores))?;
         out.write_all(b"]")?;
     }
     Ok(())

@@ -1,5 +1,5 @@
 use Prim.Native.Nat.{◌≤◌, ◌<◌, ◌+◌}
-use mathlib.Core.Path.{◌≡◌}
+use mathlib.Core.Path.{◌≡◌, refl}
 use mathlib.Core.List.{◌∷◌, []}
 use native.Mathlib.Omega.{arith}
 use lib.ListN.{length, get_or, take}
@@ -7,9 +7,9 @@ use lib.Seq.{take_all}
 use Rattle.number.specs.Basics.{flat_map}
 use Rattle.number.specs.Number.{number_bytes, bytes_of, Puts}
 use Rattle.table.specs.Group.{GroupPairs, pairs_of}
-use Rattle.table.specs.Table.{groups_of}
+use Rattle.table.specs.Table.{groups_of, group_at}
 use Rattle.table.specs.TableBytes.{group_numbers}
-use Rattle.table.proofs.CheckLaws.{groups-size, group-inside, group_at_lem}
+use Rattle.table.proofs.CheckLaws.{groups-size, group_at_lem}
 use Rattle.number.proofs.SpliceLaws.{put-at, NumbersPut, put_none, put_two, put-more, put-length}
 use Rattle.table.proofs.WriteLaws.{flat_next, flat_room, table-size, put-table}
 use Rattle.table.proofs.write.put_table.Goals as goal
@@ -47,9 +47,9 @@ pub put_group-place-requires : goal.put_group-place-requires
 put_group-place-requires c =
     let p = (goal.at.put_group-place-requires c).After-put_number-place in
     let group_of : GroupPairs = let t = c.args.table.now in
-    pairs_of t.loads t.stores c.group.result in
+    pairs_of t.loads t.stores (group_at t.groups c.loop-i.i) in
     let this : get_or (groups_of c.args.table.now) c.loop-i.i group_of ≡ group_of =
-    group_at_lem c.args.table.now c.requires.0 c.loop-i.i c.loop-i-test.true group_of c.group.ensures in
+    group_at_lem c.args.table.now c.requires.0 c.loop-i.i c.loop-i-test.true group_of refl in
     let inside : c.loop-i.i < length (groups_of c.args.table.now) = omega (arith, groups-size c.args.table.now, c.loop-i-test.true) in
     let room : c.put_number-place.result +
     (length (bytes_of (flat_map group_numbers (take c.loop-i.i (groups_of c.args.table.now)))) + length
@@ -57,15 +57,15 @@ put_group-place-requires c =
     (flat_room group_numbers (groups_of c.args.table.now) c.loop-i.i group_of inside) in
     omega (arith, f, (space p), (head_end p).0, (head_end p).1) in
     let w = c.loop-i.invariant in
-    (group-inside _ _ c.group.ensures, omega (arith, room, w.ends, put-length w (omega (arith, room))))
+    omega (arith, room, w.ends, put-length w (omega (arith, room)))
 
 pub loop-i-preserved : goal.loop-i-preserved
 loop-i-preserved c =
     let p = (goal.at.loop-i-preserved c).After-put_number-place in
     let group_of : GroupPairs = let t = c.args.table.now in
-    pairs_of t.loads t.stores c.group.result in
+    pairs_of t.loads t.stores (group_at t.groups c.loop-i.i) in
     let this : get_or (groups_of c.args.table.now) c.loop-i.i group_of ≡ group_of =
-    group_at_lem c.args.table.now c.requires.0 c.loop-i.i c.loop-i-test.true group_of c.group.ensures in
+    group_at_lem c.args.table.now c.requires.0 c.loop-i.i c.loop-i-test.true group_of refl in
     let inside : c.loop-i.i < length (groups_of c.args.table.now) = omega (arith, groups-size c.args.table.now, c.loop-i-test.true) in
     let room : c.put_number-place.result +
     (length (bytes_of (flat_map group_numbers (take c.loop-i.i (groups_of c.args.table.now)))) + length

@@ -1,17 +1,16 @@
 -- Laws of going through events beside what a replay put into its buffers.
-use Prim.Native.Nat.{ℕ, ◌+◌, ◌≤◌, ◌<◌}
+use Prim.Native.Nat.{ℕ}
 use mathlib.Core.Path.{◌≡◌, refl, sym, ap, ◌∙◌}
 use mathlib.Core.List.{List, [], ◌∷◌, ◌++◌, map}
 use mathlib.Core.Option.{Option, none, some}
 use native.Mathlib.Omega.{arith}
-use native.Mathlib.Numerals.{add-one}
-use lib.ListN.{length, get_or, drop, drop_of_length-le}
-use lib.Seq.{drop-cons}
+use lib.ListN.{length, drop}
 use lib.Dec.{eqb}
 use Rattle.number.specs.Reply.{Reply, refuse, accept}
 use Rattle.number.proofs.ReplyLaws.{refused-accepted, need-accepts, and_then_accepts, then_read_accepts, refused_some}
 use Rattle.number.proofs.RoundTrip.{read_refused}
 use Rattle.number.specs.Number.{Got, place_of, reading, read_in}
+use Rattle.std.specs.Prelude.{Ok}
 use Rattle.number.specs.Refusal.{too_short, wrong_memory}
 use Rattle.table.specs.Group.{GroupPairs}
 use Rattle.trace.specs.declared.Event.{Event}
@@ -21,9 +20,8 @@ use Rattle.trace.specs.Trace.{read_events}
 use Rattle.trace.proofs.TraceSteps.{EventGot, header_place}
 use Rattle.counts.specs.declared.Counts.{Counts}
 use Rattle.replay.specs.Events.{events_from}
-use Rattle.replay.specs.declared.Replayed.{Replayed}
 use Rattle.replay.specs.Replay.{Start, open_trace, events_behind, prepare, Replay, replayed, Buffers, fits, replay_start, replay}
-use Rattle.replay.specs.Outcome.{Replays}
+use Rattle.replay.specs.Outcome.{Replayed, replayed_as, Replays}
 use Rattle.replay.proofs.ReplayLaws.{next_left, log-many, replay_proper}
 use Rattle.replay.specs.Playing.{Logged, given_in, word_in, given_of, word_of}
 use Rattle.shift.specs.declared.ShiftRecord.{ShiftRecord}
@@ -31,14 +29,16 @@ use Rattle.paged.specs.Recorded.{after_event, record_from, value_given, record_b
 use Rattle.paged.specs.Internal.{AllReadable}
 
 -- ---- event by event
--- The events up to a place are gone through: these are left, and what they and the rest of the buffers make of the record is what is promised.
-pub record Along (trace : List ℕ) (from : ℕ) (given values : List ℕ) (kept₀ : ShiftRecord) (place i : ℕ) (kept : ShiftRecord) : Type 0 where
+-- The events up to a place are gone through: these are left, and what they and the rest of both buffers make of the record is what is
+-- promised.
+pub record Along (trace : List ℕ) (from : ℕ) (given₀ values₀ : List ℕ) (kept₀ : ShiftRecord) (place : ℕ) (given values : List ℕ)
+    (kept : ShiftRecord) : Type 0 where
   pub left : List Event
   pub reads : events_from trace place ≡ accept left
-  pub is : record_buffered kept left (drop i given) (drop i values) ≡ record_buffered kept₀ (events_read (events_from trace from)) given values
+  pub is : record_buffered kept left given values ≡ record_buffered kept₀ (events_read (events_from trace from)) given₀ values₀
 
 pub along_none : {trace : List ℕ} {from : ℕ} {given values : List ℕ} {kept : ShiftRecord} → AllReadable trace from
-    → Along trace from given values kept from 0 kept
+    → Along trace from given values kept from given values kept
 along_none {given = given} {values} {kept} w = record {
   left = w.events;
   reads = w.is;
@@ -46,9 +46,6 @@ along_none {given = given} {values} {kept} w = record {
 }
 
 -- where a buffer ends, or the events do, nothing more is recorded
-buffered_no_event : (r : ShiftRecord) (given values : List ℕ) → record_buffered r [] given values ≡ r
-buffered_no_event r given values = refl
-
 buffered_no_given : (r : ShiftRecord) (es : List Event) (values : List ℕ) → record_buffered r es [] values ≡ r
 buffered_no_given r [] values = refl
 buffered_no_given r (e ∷ es) values = refl
@@ -58,40 +55,34 @@ buffered_no_value r [] given = refl
 buffered_no_value r (e ∷ es) [] = refl
 buffered_no_value r (e ∷ es) (g ∷ given) = refl
 
-module _ {trace : List ℕ} {from : ℕ} {given values : List ℕ} {kept₀ : ShiftRecord} {place i : ℕ} {kept : ShiftRecord}
-    (w : Along trace from given values kept₀ place i kept) where
+module _ {trace : List ℕ} {from : ℕ} {given₀ values₀ : List ℕ} {kept₀ : ShiftRecord} {place : ℕ} {given values : List ℕ} {kept : ShiftRecord}
+    (w : Along trace from given₀ values₀ kept₀ place given values kept) where
   abbrev Promised : Type 0
-  Promised = kept ≡ record_buffered kept₀ (events_read (events_from trace from)) given values
+  Promised = kept ≡ record_buffered kept₀ (events_read (events_from trace from)) given₀ values₀
 
-  pub along-given-end : length given ≤ i → Promised
-  along-given-end h =
-      sym (buffered_no_given kept w.left (drop i values))
-      ∙ ap (λ (l : List ℕ). record_buffered kept w.left l (drop i values)) (sym (drop_of_length-le given h))
-      ∙ w.is
+  pub along-given-end : given ≡ [] → Promised
+  along-given-end h = sym (buffered_no_given kept w.left values) ∙ ap (λ (l : List ℕ). record_buffered kept w.left l values) (sym h) ∙ w.is
 
-  pub along-values-end : length values ≤ i → Promised
-  along-values-end h =
-      sym (buffered_no_value kept w.left (drop i given)) ∙ ap (record_buffered kept w.left (drop i given)) (sym (drop_of_length-le values h)) ∙ w.is
+  pub along-values-end : values ≡ [] → Promised
+  along-values-end h = sym (buffered_no_value kept w.left given) ∙ ap (record_buffered kept w.left given) (sym h) ∙ w.is
 
   pub along-end : events_from trace place ≡ accept [] → Promised
   along-end h =
       let z : accept w.left ≡ accept [] = sym w.reads ∙ h in
       let none : w.left ≡ [] = cc in
-      ap (λ (es : List Event). record_buffered kept es (drop i given) (drop i values)) (sym none) ∙ w.is
+      ap (λ (es : List Event). record_buffered kept es given values) (sym none) ∙ w.is
 
   pub along-no-fault : {k : ℕ} → events_from trace place ≡ refuse k → ⊥
   along-no-fault h = refused-accepted (sym h ∙ w.reads)
 
-  pub along-more : {e : Event} {next : ℕ} → EventGot trace place e next → i < length given → i < length values
-      → Along trace from given values kept₀ next (i + 1) (after_event kept e (value_given (get_or given i 0) (get_or values i 0)))
+  pub along-more : {e : Event} {next g v : ℕ} {given₂ values₂ : List ℕ} → EventGot trace place e next → given ≡ g ∷ given₂ → values ≡ v ∷ values₂
+      → Along trace from given₀ values₀ kept₀ next given₂ values₂ (after_event kept e (value_given g v))
   along-more {e} {next} ev h k =
       let n = next_left w.left w.reads ev in
-      let g : drop i given ≡ get_or given i 0 ∷ drop (i + 1) given = rw add-one (drop-cons given i 0 h) in
-      let v : drop i values ≡ get_or values i 0 ∷ drop (i + 1) values = rw add-one (drop-cons values i 0 k) in
       record {
         left = n.rest;
         reads = n.reads;
-        is = rw (n.is, g, v) at w.is;
+        is = rw (n.is, h, k) at w.is;
       }
 
 -- ---- the buffers that a replay fills
@@ -140,21 +131,15 @@ module _ (gs : List GroupPairs) (trace memory : List ℕ) (c : Counts) (b : Buff
       ap (λ (x : Replay). length x.log) same ∙ log-many _ s.events ∙ ap length (sym (start-events gs trace d))
 
   -- what is kept of the record
-  module _ (kept : ShiftRecord) (r : Replayed) (memory₂ : List ℕ) (b₂ : Buffers)
-      (w : Replays memory c b (replay gs trace memory c b) r memory₂ b₂) where
-    pub kept-refused : (r.answer ≡ 0 → ⊥) → kept ≡ kept_after kept trace (replay gs trace memory c b)
-    kept-refused apart = go (replay gs trace memory c b) w
-      where
-        go : (rule : Reply Replay) → Replays memory c b rule r memory₂ b₂ → kept ≡ kept_after kept trace rule
-        go (refuse n) v = refl
-        go (accept p) v = absurd (apart (ap (λ (x : Replayed). x.answer) v.outcome))
-
-    pub kept-accepted : r.answer ≡ 0 → {next : ShiftRecord} → next ≡ record_buffered kept (trace_events trace) b₂.given b₂.values
+  module _ (kept : ShiftRecord) (events : ℕ) (counts : Counts) (memory₂ : List ℕ) (b₂ : Buffers)
+      (w : Replays memory c b (replay gs trace memory c b) (replayed_as (Ok events) counts) memory₂ b₂) where
+    pub kept-accepted : {next : ShiftRecord} → next ≡ record_buffered kept (trace_events trace) b₂.given b₂.values
         → next ≡ kept_after kept trace (replay gs trace memory c b)
-    kept-accepted nought {next} e = go (replay gs trace memory c b) refl w
+    kept-accepted {next} e = go (replay gs trace memory c b) refl w
       where
-        go : (rule : Reply Replay) → replay gs trace memory c b ≡ rule → Replays memory c b rule r memory₂ b₂ → next ≡ kept_after kept trace rule
-        go (refuse n) d v = absurd (refused_some _ (replay_proper gs trace memory c b) d (sym (ap (λ (x : Replayed). x.answer) v.outcome) ∙ nought))
+        go : (rule : Reply Replay) → replay gs trace memory c b ≡ rule → Replays memory c b rule (replayed_as (Ok events) counts) memory₂ b₂
+            → next ≡ kept_after kept trace rule
+        go (refuse n) d v = absurd (refused_some _ (replay_proper gs trace memory c b) d (sym (ap (λ (x : Replayed). x.answer) v.outcome)))
         go (accept p) d v =
             e ∙ ap (λ (x : Buffers). record_buffered kept (trace_events trace) x.given x.values) v.buffers_are
             ∙ buffered_log kept (trace_events trace) p.log _ _ (replay-events p d)

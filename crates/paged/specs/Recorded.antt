@@ -1,7 +1,8 @@
 -- The record of a replay: "each accepted take updates a record".
-use Rattle.std.specs.Prelude.{ℕ, ◌<◌, ◌≡◌, List, [], ◌∷◌, map, eqb, length}
+use Rattle.std.specs.Prelude.{ℕ, ◌<◌, ◌≡◌, Result, List, [], ◌∷◌, map, eqb, length}
 use Rattle.std.proofs.Math.Option.{Option, none, some}
 use Rattle.number.specs.Basics.{pick}
+use Rattle.number.specs.declared.refusal.Refusal.{Refusal}
 use Rattle.number.specs.Reply.{Reply, refuse, accept}
 use Rattle.number.specs.Number.{AreBytes}
 use Rattle.table.specs.Group.{GroupPairs}
@@ -11,15 +12,13 @@ use Rattle.counts.specs.declared.Counts.{Counts}
 use Rattle.sequential.specs.Calls.{Call}
 use Rattle.sequential.specs.Answers.{Answered, machine, answers}
 use Rattle.sequential.specs.Plain.{Filling}
-use Rattle.replay.specs.declared.Replayed.{Replayed}
 use Rattle.replay.specs.Playing.{call_of, Playing, playing, played, Logged, log}
 use Rattle.replay.specs.Replay.{Start, events_behind, prepare, Replay, Buffers, replay}
-use Rattle.replay.specs.Outcome.{Replays}
+use Rattle.replay.specs.Outcome.{Replayed, replayed_as, Replays}
 use Rattle.shift.specs.declared.ShiftRecord.{ShiftRecord}
 use Rattle.printed.specs.Files.{no_counts}
 use Rattle.shift.specs.Record.{no_takes}
 use Rattle.shift.specs.Lists.{after_accepted, record_after, Shows}
-use Rattle.paged.specs.declared.ReplayRecorded.{ReplayRecorded}
 
 -- what an event that gave this value, or none, leaves of a record: what the call leaves that it stands for. What a serve is lent does not
 -- matter here.
@@ -50,6 +49,16 @@ events_read (refuse n) = []
 
 abbrev pub trace_events : List ℕ → List Event
 trace_events trace = events_read (events_behind (read_header trace))
+
+-- what a replay that keeps the record hands back: its answer, how many events were played, and the counts and the record that they leave
+pub record ReplayRecorded : Type 0 where
+  pub answer : ℕ
+  pub events : ℕ
+  pub counts : Counts
+  pub kept : ShiftRecord
+
+abbrev pub recorded_as : Result ℕ Refusal → Counts → ShiftRecord → ReplayRecorded
+recorded_as r c kept = let p = replayed_as r c in record { answer = p.answer; events = p.events; counts = p.counts; kept = kept }
 
 -- what a replay hands back but the record
 abbrev pub without_record : ReplayRecorded → Replayed

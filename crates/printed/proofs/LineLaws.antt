@@ -20,6 +20,10 @@ use Rattle.replay.specs.Playing.{Logged, answer_of, given_of, word_of, given_in,
 use Rattle.printed.specs.Words.{line}
 use Rattle.printed.specs.Text.{shown, event_line, event_lines, word_line, word_lines, counts_line}
 use Rattle.printed.specs.Files.{table_fault_text, trace_fault_text, fault_text}
+use Rattle.number.specs.Refusal.{refusal_number}
+use Rattle.printed.specs.declared.files.FilesFault.{FilesFault}
+use Rattle.printed.specs.declared.files.FilesFault.TheVariants.{Table, Trace, NoRoom}
+use Rattle.printed.specs.Played.{fault_line}
 use Rattle.printed.specs.Internal.{item, logged_as, rows}
 use Rattle.number.proofs.PutLaws.{decimal-few, digits_under}
 
@@ -198,6 +202,12 @@ module _ (t : Bool) (n : ℕ) where
       go : (t : Bool) → length (fault_text t n) ≤ 10
       go true = omega (arith, length-append (decimal n) (10 ∷ []), digits)
       go false = omega (arith, length-append (decimal n) (10 ∷ []), digits)
+
+-- the line of a fault that was told
+pub fault-line-few : (e : FilesFault) → length (fault_line e) ≤ 27
+fault-line-few (Table e) = omega (arith, length-append (decimal (refusal_number e)) (10 ∷ []), decimal-few (refusal_number e))
+fault-line-few (Trace e) = omega (arith, length-append (decimal (refusal_number e)) (10 ∷ []), decimal-few (refusal_number e))
+fault-line-few (NoRoom e) = omega arith
 
 -- the same bytes, written otherwise
 pub fits_as : {d : List ℕ} {p : ℕ} {xs ys : List ℕ} {e : ℕ} {out : List ℕ} → xs ≡ ys → PutIfFits d p xs e out → PutIfFits d p ys e out

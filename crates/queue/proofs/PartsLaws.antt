@@ -29,6 +29,10 @@ module _ (l s : List ℕ) where
   unfolding whole
   stores-not-whole a n = rw (eq-eqb _ _ a, ne_eqb _ _ n)
 
+-- a queue's own runs
+pub own-whole : (q : Queue) → length q.load_entries ≡ 64 → length q.store_entries ≡ 64 → whole q.load_entries q.store_entries ≡ true
+own-whole q = both-whole q.load_entries q.store_entries
+
 pub on_whole_runs : OnWholeRuns
 on_whole_runs A l s rule a b = rw (both-whole l s a b)
 

@@ -15,7 +15,7 @@ use Rattle.counts.specs.declared.Counts.{Counts}
 use Rattle.queue.specs.declared.Queue.{Queue}
 use Rattle.queue.specs.Outcome.{Outcome}
 use Rattle.queue.specs.Outcome.{Opened}
-use Rattle.queue.specs.Ready.{Readied}
+use Rattle.queue.specs.Ready.{front_of, Readied}
 use Rattle.queue.specs.declared.Frame.{Frame}
 use Rattle.queue.specs.Parts.{OpenedFrame}
 use Rattle.number.specs.Reply.{Reply, refuse, accept, number}
@@ -36,7 +36,7 @@ use Rattle.sequential.specs.Calls.{Call, Activate, Give, Serve, Write, Take, Rea
 use Rattle.sequential.specs.Answers.{Machine, Response, move_response, serve_response, write_response, take_response, step, Answered, answers}
 use Rattle.sequential.specs.Answers.{machine_after, machine}
 use Rattle.sequential.specs.Records.{answered_with, Hands, Runs, run_none, run_one, machine_of, OpenedRecord, ServeCountedHands, ServeHands}
-use Rattle.sequential.specs.Records.{ReadyIntoHands, ReadyHands, RecordsDemand3, FramesDemand3, AlikeRecords, RecordsSound}
+use Rattle.sequential.specs.Records.{ReadyIntoHands, ReadyHands, ReadyFronts, RecordsDemand3, FramesDemand3, AlikeRecords, RecordsSound}
 use Rattle.sequential.specs.Demand3.{Opening}
 use Rattle.sequential.proofs.ReachedSound.{reached-sound}
 use Rattle.sequential.proofs.Demand3.{demand3, alike}
@@ -107,6 +107,9 @@ ready_into_hands q m run left kind r w = (go (ready kind (contents_of q) run) w,
 
 pub ready-hands : ReadyHands
 ready-hands q m run serials kind answer queue w = (ap₂ no_value w.answer_is w.queue_is, refl)
+
+pub ready_fronts : ReadyFronts
+ready_fronts q run kind r e = record { answer_is = ap number e; serials_are = ap front_of e; queue_is = refl }
 
 -- ---- a run's answers and what it leaves
 pub record Agrees (m : Machine) (calls : List Call) (log : List Answered) (left : Machine) : Type 0 where

@@ -1,7 +1,8 @@
 -- Demand 3 of the records themselves. A run of calls on queue records: each call is lent the record and the memory that the
 -- last one left, and answers and leaves what its contract says. Nothing is said of places beyond the counts, so there may be many
 -- such runs; demand 3 holds of every one of them. The proof is proofs/RecordsDemand3.antt.
-use Rattle.std.specs.Prelude.{ℕ, ◌<◌, ◌^◌, ◌≡◌, true, List, [], ◌∷◌, length}
+use Rattle.std.specs.Borrow.{MutBor}
+use Rattle.std.specs.Prelude.{ℕ, ◌<◌, ◌^◌, ◌≡◌, true, Result, List, [], ◌∷◌, length}
 use Rattle.std.proofs.Math.Option.{some}
 use Rattle.std.proofs.Math.ListN.{get_elem?}
 use Rattle.table.specs.declared.Table.{Table}
@@ -9,12 +10,9 @@ use Rattle.table.specs.Table.{groups_of}
 use Rattle.counts.specs.declared.Counts.{Counts}
 use Rattle.queue.specs.declared.Queue.{Queue}
 use Rattle.queue.specs.declared.Kind.{Kind}
-use Rattle.queue.specs.Outcome.{Outcome}
-use Rattle.queue.specs.Outcome.{Opened}
-use Rattle.queue.specs.Outcome.{Counted}
-use Rattle.queue.specs.Ready.{Readied}
 use Rattle.queue.specs.Parts.{OpenedFrame}
 use Rattle.number.specs.Reply.{number}
+use Rattle.number.specs.declared.refusal.Refusal.{Refusal}
 use Rattle.queue.specs.Contents.{contents_of}
 use Rattle.queue.specs.Sound.{sound}
 use Rattle.queue.specs.Open.{open_queue, fresh_frame}
@@ -23,8 +21,8 @@ use Rattle.queue.specs.Arguments.{give}
 use Rattle.queue.specs.Serve.{serve}
 use Rattle.queue.specs.Write.{write}
 use Rattle.queue.specs.Take.{take_rule}
-use Rattle.queue.specs.Ready.{ready, Readies, Fronts}
-use Rattle.queue.specs.Outcome.{no_value, Moves, Takes, Serves, Writes, Opens, with_counts, without_counts}
+use Rattle.queue.specs.Ready.{Readied, ready, Readies, Fronts, front_of, front_reply}
+use Rattle.queue.specs.Outcome.{Outcome, Opened, Counted, no_value, Moves, Takes, Serves, Writes, Opens, with_counts, without_counts}
 use Rattle.queue.specs.Parts.{queue_of, answered, OpensFrame}
 use Rattle.sequential.specs.Calls.{Call, Activate, Give, Serve, Write, Take, Ready}
 use Rattle.sequential.specs.Answers.{Machine, Answered}
@@ -78,6 +76,13 @@ ReadyHands =
     (q : Queue) (m run serials : List ℕ) (kind : Kind) (answer : ℕ) (queue : Queue) →
     Fronts q (ready kind (contents_of q) run) answer serials queue →
     Hands q m (Ready kind run) (answered answer queue) m
+
+-- What the contract of `ready` says, a reply, is such a front part: the queue is lent and left as it is.
+abbrev pub ReadyFronts : Type 0
+ReadyFronts =
+    (q : Queue) (run : List ℕ) (kind : Kind) (r : Result (MutBor (List ℕ)) Refusal) →
+    front_reply r ≡ ready kind (contents_of q) run →
+    Fronts q (ready kind (contents_of q) run) (number (front_reply r)) (front_of (front_reply r)) q
 
 abbrev pub machine_of : Queue → List ℕ → Machine
 machine_of q m = record { queue = contents_of q; memory = m }

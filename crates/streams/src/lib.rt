@@ -13,7 +13,8 @@ pub fn large_buffer() -> [u8; 65536]
     [0; 65536]
 }
 
-// Reads until the buffer is full, the input ends or a read fails; how many bytes then stand at the front of the buffer.
+// Reads until the buffer is full, the input ends or a read fails; how many bytes then stand at the front of the buffer. The loop is
+// its own, since `read_exact` refuses an input that ends early and `read_to_end` allocates.
 pub fn read_full(from: &mut impl Read, into: &mut [u8]) -> usize
     ensures { result ≤ length into.old }
 {

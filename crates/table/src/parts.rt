@@ -96,13 +96,14 @@ impl Span {
         }
     }
 
-    // The places of its accesses among those of a table, which hold them all.
+    // The places of its accesses among those of a table: all of them where the span lies within the places, as each of a group from
+    // `Table::group` does, and else those up to the last place.
     pub fn among<'a>(self, places: &'a [u16; 32]) -> &'a [u16]
-        requires { Inside self }
         ensures numbers { result.now ≡ take self.count (drop self.first places.now) }
-        ensures pairs { map pair_in result.now ≡ list_of places.now self }
+        ensures pairs { Inside self → map pair_in result.now ≡ list_of places.now self }
     {
         let first = self.first as usize;
-        &places[first..first + self.count as usize]
+        let end = first + self.count as usize;
+        places.get(first..end.min(places.len())).unwrap_or(&[])
     }
 }

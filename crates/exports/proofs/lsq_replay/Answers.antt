@@ -9,16 +9,16 @@ pub returns-in-Err : goal.returns-in-Err
 returns-in-Err c =
     let a = c.args in
     let l : Lent = lent a.memory.now a.counts.now a.answers.now a.given.now a.values.now in
-    answered-refused l (lent-table a.table.now a.trace.now l (table_refused a.table.now c.in-Err.ensures))
+    rw c.number.ensures (answered-refused l (lent-table a.table.now a.trace.now l (table_refused a.table.now c.in-Err.ensures)))
 
 pub returns-then-counts-lt2 : goal.returns-then-counts-lt2
 returns-then-counts-lt2 c =
     let a = c.args in
     let l : Lent = lent a.memory.now a.counts.now a.answers.now a.given.now a.values.now in
-    answered-refused l (lent-short a.table.now a.trace.now l (table_got a.table.now c.in-Ok.ensures).0 c.if-counts-lt2.true)
+    rw c.number-then-counts-lt2.ensures (answered-refused l (lent-short a.table.now a.trace.now l (table_got a.table.now c.in-Ok.ensures).0 c.if-counts-lt2.true))
 
 pub returns : goal.returns
 returns c =
     let a = c.args in
     let l : Lent = lent a.memory.now a.counts.now a.answers.now a.given.now a.values.now in
-    answered-lent a.table.now a.trace.now l (table_got a.table.now c.in-Ok.ensures).0 c.if-counts-lt2.false (reply c.replay-done.result) _ c.replay-done.ensures
+    rw c.number_of.ensures (answered-lent a.table.now a.trace.now l (table_got a.table.now c.in-Ok.ensures).0 c.if-counts-lt2.false (reply c.replay-done.result) _ c.replay-done.ensures)

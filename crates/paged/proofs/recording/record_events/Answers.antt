@@ -1,44 +1,40 @@
 -- Each event is read again, beside what the replay put down of it.
-use Prim.Native.Nat.{◌<◌}
-use mathlib.Core.Path.{◌≡◌, refl, sym, ap, ◌∙◌}
-use mathlib.Core.List.{[]}
-use native.Mathlib.Omega.{arith}
-use lib.ListN.{length}
-use Rattle.trace.specs.declared.EventRead.{EventRead}
-use Rattle.trace.specs.declared.EventRead.TheVariants.{Found, End, NoEvent}
+use mathlib.Core.Path.{◌≡◌, sym, ap, ◌∙◌}
+use mathlib.Core.Logic.{inl, inr}
+use borrow.Author.Rules.{rules}
+use Rattle.std.proofs.lemmas.List.{nil_from_length}
 use Rattle.trace.specs.Event.{event_reply}
-use Rattle.number.specs.Reply.{accept}
-use Rattle.replay.specs.Events.{events_from}
 use Rattle.trace.proofs.TraceSteps.{EventGot, event_got, event_end, event_fault}
-use Rattle.paged.proofs.BufferLaws.{along-given-end, along-values-end, along-end, along-no-fault, along-more}
+use Rattle.paged.proofs.BufferLaws.{along_none, along-given-end, along-values-end, along-end, along-no-fault, along-more}
 use Rattle.paged.proofs.recording.record_events.Goals as goal
-use Rattle.paged.proofs.recording.record_events.Goals.{In_default}
+use Rattle.paged.proofs.recording.record_events.Goals.{In-Ok-Some}
 
-pub returns-then-given-i : goal.returns-then-given-i
-returns-then-given-i c = along-given-end c.loop-i.invariant c.if-given-i.true
+-- the event that was read
+got : (c : In-Ok-Some) → EventGot c.args.trace.now c.loop-given.place c.in-Ok-Some.event c.in-Ok-Some.next
+got c = event_got c.args.trace.now c.loop-given.place (sym (rw c.in-Ok-Some.field-0-is at c.in-Ok-Some.ensures))
 
-pub returns-then-values-i : goal.returns-then-values-i
-returns-then-values-i c = along-values-end c.loop-i.invariant c.if-values-i.true
-
--- the event that was read is none
-ended : (c : In_default) (r : EventRead) → c.read_event-read.result ≡ r → events_from c.args.trace.now c.loop-i.place ≡ accept []
-ended c (Found e n) is = absurd (c.in_default.not-Found e n is)
-ended c End is = event_end _ _ (sym c.read_event-read.ensures ∙ ap event_reply is)
-ended c (NoEvent n) is = absurd (along-no-fault c.loop-i.invariant (event_fault _ _ (sym c.read_event-read.ensures ∙ ap event_reply is)))
+pub loop-given-init : goal.loop-given-init
+loop-given-init c =
+    let given : c.into_iter-given-iterator.result.a.rest.now ≡ c.args.given.now = search rules in
+    let values : c.into_iter-given-iterator.result.b.rest.now ≡ c.args.values.now = search rules in
+    ((tt, tt), tt, rw (given, values) (along_none c.requires))
 
 pub returns-in_default : goal.returns-in_default
-returns-in_default c = along-end c.loop-i.invariant (ended c _ refl)
+returns-in_default c =
+    along-end c.loop-given.invariant.2 (event_end c.args.trace.now c.loop-given.place (sym c.read_event.ensures ∙ search rules))
 
-pub loop-i-smaller : goal.loop-i-smaller
-loop-i-smaller c =
-    let event : EventGot c.args.trace.now c.loop-i.place c.in-Found.event c.in-Found.next =
-    event_got _ _ (sym c.read_event-read.ensures ∙ ap event_reply c.in-Found.is) in
-    let e = event in omega (arith, e.later, e.inside)
+pub returns-in_default-2 : goal.returns-in_default-2
+returns-in_default-2 c =
+    absurd (along-no-fault c.loop-given.invariant.2
+    (event_fault c.args.trace.now c.loop-given.place (sym c.read_event.ensures ∙ ap event_reply c.in_default.is)))
 
-pub loop-i-preserved : goal.loop-i-preserved
-loop-i-preserved c =
-    let event : EventGot c.args.trace.now c.loop-i.place c.in-Found.event c.in-Found.next =
-    event_got _ _ (sym c.read_event-read.ensures ∙ ap event_reply c.in-Found.is) in
-    let in-given : c.loop-i.i < length c.args.given.now = c.if-given-i.false in
-    let in-values : c.loop-i.i < length c.args.values.now = c.if-values-i.false in
-    rw c.after_event-kept.ensures (along-more c.loop-i.invariant event in-given in-values)
+pub loop-given-preserved : goal.loop-given-preserved
+loop-given-preserved c =
+    let along = along-more c.loop-given.invariant.2 (got (goal.at.loop-given-preserved c).In-Ok-Some) c.in-Some.ensures.steps.0 c.in-Some.ensures.steps.1 in
+    ((tt, tt), tt, rw c.record_event.ensures along)
+
+pub returns : goal.returns
+returns c = elim c.in-None.ensures.steps [
+  | inl w ↦ along-given-end c.loop-given.invariant.2 (nil_from_length _ w.1.0)
+  | inr w ↦ along-values-end c.loop-given.invariant.2 (nil_from_length _ w.1.0)
+]

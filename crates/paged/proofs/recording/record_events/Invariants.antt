@@ -1,11 +1,8 @@
 -- Each event is read again, beside what the replay put down of it.
-use Prim.Native.Nat.{◌-◌}
-use lib.ListN.{length}
 use Rattle.paged.proofs.BufferLaws.{Along}
 use Rattle.paged.proofs.recording.record_events.Given as goal
 
-abbrev pub invariant-loop-i : goal.invariant-loop-i
-invariant-loop-i l = Along l.trace l.from l.given l.values l.initial.kept l.place l.i l.kept
-
-abbrev pub decreases-loop-i : goal.decreases-loop-i
-decreases-loop-i l = length l.trace - l.place
+abbrev pub invariant-loop-given : goal.invariant-loop-given
+invariant-loop-given l =
+    (goal.iterator-loop-given).can_next l.given-iterator × (goal.iterator-loop-given).is_finite l.given-iterator
+    × Along l.trace l.from l.fn.given l.values l.initial.kept l.place l.given-iterator.a.rest.now l.given-iterator.b.rest.now l.kept

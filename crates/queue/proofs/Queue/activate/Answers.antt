@@ -1,10 +1,6 @@
-use Rattle.std.proofs.Common.{◌≡◌, true, rules}
-use Rattle.queue.specs.Parts.{whole}
-use Rattle.queue.proofs.PartsLaws.{both-whole}
+use Rattle.std.proofs.Common.{rules}
+use Rattle.queue.proofs.PartsLaws.{own-whole}
 use Rattle.queue.proofs.Queue.activate.Goals as goal
 
 pub returns : goal.returns
-returns c =
-    let own : whole c.args.self.now.load_entries c.args.self.now.store_entries ≡ true =
-    both-whole c.args.self.now.load_entries c.args.self.now.store_entries (search rules) (search rules) in
-    rw own at c.activate_in.ensures.moves
+returns c = rw (own-whole c.args.self.now (search rules) (search rules)) at c.activate_in.ensures.moves

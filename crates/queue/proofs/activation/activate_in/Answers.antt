@@ -66,21 +66,15 @@ returns-then-not-has_room-clause-moves c =
     let p = (goal.at.returns-then-not-has_room-clause-moves c).After-has_room in
     rw ((good p).full, rule p, has_place p ∙ c.if-not-has_room.true)
 
-pub among-new_loads-requires : goal.among-new_loads-requires
-among-new_loads-requires c = (group-inside _ _ c.group-chosen.ensures).0
-
-pub among-new_stores-requires : goal.among-new_stores-requires
-among-new_stores-requires c = (group-inside _ _ c.group-chosen.ensures).1
-
 pub append-requires : goal.append-requires
 append-requires c =
     let p = (goal.at.append-requires c).After-has_room in
-    rw c.among-new_loads.ensures.pairs (loads_fit p c.if-not-has_room.false, count_most (queue p) (good p).right Kind.Store, (good p).loads_whole)
+    rw (c.among-new_loads.ensures.pairs (group-inside _ _ c.group-chosen.ensures).0) (loads_fit p c.if-not-has_room.false, count_most (queue p) (good p).right Kind.Store, (good p).loads_whole)
 
 pub append-requires-2 : goal.append-requires-2
 append-requires-2 c =
     let p = (goal.at.append-requires-2 c).After-has_room in
-    rw c.among-new_stores.ensures.pairs (stores_fit p c.if-not-has_room.false, count_most (queue p) (good p).right Kind.Load, (good p).stores_whole)
+    rw (c.among-new_stores.ensures.pairs (group-inside _ _ c.group-chosen.ensures).1) (stores_fit p c.if-not-has_room.false, count_most (queue p) (good p).right Kind.Load, (good p).stores_whole)
 
 pub lengthen-requires : goal.lengthen-requires
 lengthen-requires c =
@@ -100,7 +94,7 @@ returns-clause-moves c =
       answer = refl {a = 0};
       gives = refl {a = none};
       holds = rw (c.lengthen.ensures, c.lengthen-2.ensures)
-          (appended-both (queue p) c.group-chosen.result (rw c.among-new_loads.ensures.pairs at c.append.ensures)
-          (rw c.among-new_stores.ensures.pairs at c.append-2.ensures)
+          (appended-both (queue p) c.group-chosen.result (rw (c.among-new_loads.ensures.pairs (group-inside _ _ c.group-chosen.ensures).0) at c.append.ensures)
+          (rw (c.among-new_stores.ensures.pairs (group-inside _ _ c.group-chosen.ensures).1) at c.append-2.ensures)
           ∙ with_group_is (contents_of (queue p)) (meant p) (good_group p));
     })

@@ -26,14 +26,14 @@ pub returns-in_err-check_pairs : goal.returns-in_err-check_pairs
 returns-in_err-check_pairs c =
     let a = c.args in
     let r : c.from_residual.result ≡ Err c.in_err-check_pairs.field-0.0 = search rules in
-    let fault = rw c.among-loads.ensures.pairs at c.in_err-check_pairs.ensures in
+    let fault = rw (c.among-loads.ensures.pairs c.requires.0) at c.in_err-check_pairs.ensures in
     rw r (group-loads a.table.now.loads a.table.now.stores a.group (seen_of a.seen.now)
     (right (goal.at.returns-in_err-check_pairs c).After-among-loads) fault)
 
 pub check_pairs-requires-2 : goal.check_pairs-requires-2
 check_pairs-requires-2 c =
     let few = counts-few c.args.group.loads.count c.args.group.stores.count (right (goal.at.check_pairs-requires-2 c).After-among-loads) in
-    let size = among-length c.among-loads.result.now c.args.table.now.loads c.args.group.loads c.among-loads.ensures.pairs in
+    let size = among-length c.among-loads.result.now c.args.table.now.loads c.args.group.loads (c.among-loads.ensures.pairs c.requires.0) in
     let loads = c.in_ok-check_pairs.ensures in
     (omega (arith, few.0, size), rising-checked _ _ _ _ _ loads.0)
 
@@ -41,9 +41,9 @@ pub returns : goal.returns
 returns c =
     let a = c.args in
     let passed = c.in_ok-check_pairs.ensures in
-    let stores = rw (c.among-loads.ensures.pairs, c.among-stores.ensures.pairs) at c.check_pairs-2.ensures in
-    let loads = rw c.among-loads.ensures.pairs at passed.0 in
-    let marks = rw c.among-loads.ensures.pairs at passed.1 in
+    let stores = rw ((c.among-loads.ensures.pairs c.requires.0), (c.among-stores.ensures.pairs c.requires.1)) at c.check_pairs-2.ensures in
+    let loads = rw (c.among-loads.ensures.pairs c.requires.0) at passed.0 in
+    let marks = rw (c.among-loads.ensures.pairs c.requires.0) at passed.1 in
     checks-last c.check_pairs-2.result
     (group-stores a.table.now.loads a.table.now.stores a.group (seen_of a.seen.now) (right (goal.at.returns c).After-among-loads) loads)
     (λ e. ap₂ (λ (x y : List Bool). record { loads = x; stores = y }) marks e) stores

@@ -48,19 +48,19 @@ counts_put c = put_two put_none c.args.group.loads.count c.args.group.stores.cou
 pub put_pairs-after_pairs-requires : goal.put_pairs-after_pairs-requires
 put_pairs-after_pairs-requires c =
     let p = (goal.at.put_pairs-after_pairs-requires c).After-put_number-after_counts in
-    rw c.among.ensures.pairs (omega (arith, room p, (counts_end p).0, (counts_end p).1))
+    rw (c.among.ensures.pairs c.requires.0.0) (omega (arith, room p, (counts_end p).0, (counts_end p).1))
 
 pub put_pairs-requires : goal.put_pairs-requires
 put_pairs-requires c =
     let p = (goal.at.put_pairs-requires c).After-put_number-after_counts in
-    let loads = rw c.among.ensures.pairs at c.put_pairs-after_pairs.ensures.ends in
-    rw c.among-2.ensures.pairs (omega (arith, room p, (counts_end p).0, (counts_end p).1, loads, c.put_pairs-after_pairs.auto.out))
+    let loads = rw (c.among.ensures.pairs c.requires.0.0) at c.put_pairs-after_pairs.ensures.ends in
+    rw (c.among-2.ensures.pairs c.requires.0.1) (omega (arith, room p, (counts_end p).0, (counts_end p).1, loads, c.put_pairs-after_pairs.auto.out))
 
 pub returns : goal.returns
 returns c =
     let p = (goal.at.returns c).After-put_number-after_counts in
     let t = c.args.table.now in
-    let loads = rw c.among.ensures.pairs at c.put_pairs-after_pairs.ensures in
-    let stores = rw c.among-2.ensures.pairs at c.put_pairs.ensures in
+    let loads = rw (c.among.ensures.pairs c.requires.0.0) at c.put_pairs-after_pairs.ensures in
+    let stores = rw (c.among-2.ensures.pairs c.requires.0.1) at c.put_pairs.ensures in
     let w = put-group t.loads t.stores c.args.group (counts_put p) c.requires.1 loads.is loads.ends stores.is stores.ends in
     record { ends = w.ends; is = w.is }

@@ -8,8 +8,7 @@ use lib.ListN.{length, drop}
 use lib.Dec.{eqb}
 use Rattle.number.specs.Reply.{Reply, refuse, accept}
 use Rattle.number.proofs.ReplyLaws.{refused-accepted, need-accepts, and_then_accepts, then_read_accepts, refused_some}
-use Rattle.number.proofs.RoundTrip.{read_refused}
-use Rattle.number.specs.Number.{Got, place_of, reading, read_in}
+use Rattle.number.specs.Number.{place_of, reading, read_in}
 use Rattle.std.specs.Prelude.{Ok}
 use Rattle.number.specs.Refusal.{too_short, wrong_memory}
 use Rattle.table.specs.Group.{GroupPairs}
@@ -107,9 +106,6 @@ module _ (trace : List ℕ) where
       let (x, rest, d, f) = then_read_accepts (read_header trace) (λ a l. accept (reading a (place_of trace l))) (sym e) in
       let place : place_of trace rest ≡ at = cc in
       ap events_behind d ∙ ap read_events (header_place trace d ∙ ap (λ (i : ℕ). drop i trace) place)
-
-  pub no_header : {k : ℕ} → refuse k ≡ read_in trace (read_header trace) → trace_events trace ≡ []
-  no_header e = ap (λ (g : Reply (Got Header)). events_read (events_behind g)) (read_refused trace (read_header trace) e)
 
 pub start-events : (gs : List GroupPairs) (trace : List ℕ) {s : Start} → prepare gs trace ≡ accept s → trace_events trace ≡ s.events
 unfolding prepare

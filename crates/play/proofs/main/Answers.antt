@@ -1,5 +1,10 @@
+-- What was printed stands in the buffer.
+use Rattle.std.proofs.Common.{sym, length-take-le}
 use Rattle.printed.proofs.TextFits.{printed-inside}
 use Rattle.play.proofs.main.Goals as goal
 
-pub run-requires-clause-inside : goal.run-requires-clause-inside
-run-requires-clause-inside c table trace lent n left w = printed-inside table.now trace.now lent.now w
+pub slice_bounds-out-end : goal.slice_bounds-out-end
+slice_bounds-out-end c = printed-inside _ _ _ c.in-Ok.ensures
+
+pub slice_bounds-write_out-end : goal.slice_bounds-write_out-end
+slice_bounds-write_out-end c = sym (length-take-le _ _ (printed-inside _ _ _ c.in-Ok.ensures))

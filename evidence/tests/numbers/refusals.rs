@@ -1,7 +1,7 @@
 //! The refusal numbers: the enum of `lsq.h`, the names of the Rust wrapper and of
-//! the reference, and the constants and definitions of the crates.
+//! the reference, and the enum and the definitions of the crates.
 
-use std::collections::BTreeMap;
+use std::collections::{BTreeMap, BTreeSet};
 
 use crate::check::Check;
 use crate::source::{Source, Sources};
@@ -14,6 +14,10 @@ pub const PATHS: [&str; 6] = [
     "crates/number/specs/Refusal.antt",
     "docs/FORMATS.md",
 ];
+
+/// The enum of the crates, and what gives its number to each case of it.
+const CRATES_ENUM: (&str, &str) = ("crates/number/src/refusal.rt", "pub enum Refusal {\n");
+const NUMBERED: (&str, &str) = ("crates/number/specs/Refusal.antt", "refusal_number ");
 
 /// Names of the crates that differ from those of `lsq.h`.
 const CRATES_NAMES: [(&str, &str); 16] = [
@@ -52,6 +56,7 @@ const KINDS: [&str; 6] = [
 ];
 
 pub fn read(check: &mut Check, sources: &Sources) {
+    cases(check, sources);
     let mut having: BTreeMap<String, Vec<&str>> = BTreeMap::new();
     for path in PATHS {
         let source = sources.get(path);
@@ -68,6 +73,38 @@ pub fn read(check: &mut Check, sources: &Sources) {
                 check.fault(format!("refusal {name}: {paths:?} have it, no {kind} has"));
             }
         }
+    }
+}
+
+/// Each case of the crates' enum has a number beside it, and the definition of its own
+/// name, as in `refusal_number NoGroup = no_group`; no other case is numbered.
+fn cases(check: &mut Check, sources: &Sources) {
+    let (path, head) = CRATES_ENUM;
+    let text = &sources.get(path).text;
+    let body = text
+        .split_once(head)
+        .and_then(|(_, rest)| rest.split('}').next());
+    let lines = body.unwrap_or_default().lines().map(str::trim);
+    let mut named = BTreeSet::new();
+    for line in lines.filter(|line| !line.is_empty() && !line.starts_with("//")) {
+        match line.split_once(" = ") {
+            Some((case, _)) => drop(named.insert(case)),
+            None => check.fault(format!("{path}: `{line}` has no number beside it")),
+        }
+    }
+    let (path, head) = NUMBERED;
+    let lines = sources.get(path).text.lines();
+    let pairs = lines.filter_map(|line| line.strip_prefix(head)?.split_once(" = "));
+    let mut numbered = BTreeSet::new();
+    for (case, definition) in pairs {
+        numbered.insert(case);
+        if upper(case) != upper(definition) {
+            check.fault(format!("{path}: {case} is numbered as {definition}"));
+        }
+    }
+    if named.is_empty() || named != numbered {
+        let both = format!("{named:?}, and numbered are {numbered:?}");
+        check.fault(format!("{path}: the cases are {both}"));
     }
 }
 
@@ -99,8 +136,22 @@ fn name_of(before: &str) -> Option<String> {
     let word = before.trim().trim_start_matches("pub const ");
     let word = word.trim_end_matches(": u8").trim_start_matches("LSQ_");
     let is_name = word.chars().all(|c| c.is_ascii_alphabetic() || c == '_');
-    let name = word.to_ascii_uppercase();
+    let name = upper(word);
     let other = CRATES_NAMES.iter().find(|(crates, _)| *crates == name);
     let name = other.map_or(name, |(_, lsq)| lsq.to_string());
     is_name.then_some(name)
+}
+
+/// `NoGroup`, or `no_group`, as `NO_GROUP`.
+fn upper(name: &str) -> String {
+    let mut upper = String::new();
+    let mut low = false;
+    for letter in name.chars() {
+        if low && letter.is_ascii_uppercase() {
+            upper.push('_');
+        }
+        low = letter.is_ascii_lowercase();
+        upper.push(letter.to_ascii_uppercase());
+    }
+    upper
 }

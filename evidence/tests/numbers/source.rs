@@ -29,10 +29,17 @@ pub struct Source {
 
 const MARKS: [&str; 5] = ["/// ", "//! ", "// ", "-- ", "* "];
 
+/// How the crates' code may write 4294967295.
+const GREATEST: &str = "u32::MAX";
+
 impl Source {
     pub fn new(path: &str, text: String) -> Self {
         let (flat, origin) = flattened(&text);
-        let numerals = numerals(&flat);
+        let mut numerals = numerals(&flat);
+        if path.ends_with(".rt") {
+            numerals.extend(flat.match_indices(GREATEST).map(greatest));
+            numerals.sort_by_key(|numeral| numeral.flat.start);
+        }
         let path = path.into();
         Self {
             path,
@@ -136,6 +143,13 @@ fn numerals(flat: &str) -> Vec<Numeral> {
         at = end;
     }
     found
+}
+
+fn greatest((start, name): (usize, &str)) -> Numeral {
+    Numeral {
+        flat: start..start + name.len(),
+        value: u32::MAX.into(),
+    }
 }
 
 /// Whether a comma and three digits come next, as in 16,384.

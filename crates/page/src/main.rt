@@ -2,41 +2,15 @@
 
 #![tactic(auto)]
 
-use number::BytesWritten;
 use paged::text::print_page;
-use program::{file_buffer, read_file};
 use shift::page::PAGE_BYTES;
 use std::io;
-use std::io::Write;
 
 // Room for a page. A fault's line is shorter.
 fn page_buffer() -> [u8; PAGE_BYTES] {
     [0; PAGE_BYTES]
 }
 
-// Writes all of the text to standard output; where that fails, says so on standard error, since part of the text may be lost.
-fn write_out(rt: &(impl Print + Eprint), text: &[u8]) -> io::Result<()> {
-    let written = io::writer(rt).write_all(text);
-    if written.is_err() {
-        eprintln!(rt; "page: standard output took only part of the text")?;
-    }
-    written
-}
-
-// Prints the text of both files' bytes.
-fn show(rt: &(impl Print + Eprint), table: &[u8], trace: &[u8]) -> io::Result<()> {
-    let mut out = page_buffer();
-    let written = print_page(table, trace, &mut out);
-    if let BytesWritten::Bytes(n) = written {
-        return write_out(rt, &out[..n]);
-    }
-    Ok(())
-}
-
 fn main(rt: HostRuntime) -> io::Result<()> {
-    let mut table = file_buffer();
-    let mut trace = file_buffer();
-    let table_length = read_file(&rt, b"table.bin", &mut table);
-    let trace_length = read_file(&rt, b"trace.bin", &mut trace);
-    show(&rt, &table[..table_length], &trace[..trace_length])
+    program::run(&rt, "page", print_page, &mut page_buffer())
 }

@@ -10,7 +10,9 @@ use borrow.Author.Tests.{lt-leb, le-leb}
 use Rattle.number.specs.Basics.{pick}
 use Rattle.number.specs.Refusal.{page_too_short, file_too_long}
 use Rattle.number.specs.Reply.{Reply, refuse, accept}
-use Rattle.number.specs.Number.{Puts, Wrote, unwritten}
+use Rattle.std.specs.Prelude.{Ok}
+use Rattle.number.specs.Number.{Puts, HasWritten, unwritten}
+use Rattle.printed.proofs.TextLaws.{written-inside}
 use Rattle.number.proofs.SpliceLaws.{splice_front}
 use Rattle.table.specs.Group.{GroupPairs}
 use Rattle.table.specs.TableBytes.{read_table}
@@ -78,18 +80,7 @@ pub printed-fits : (table trace out : List ℕ) → page_bytes ≤ length out
 unfolding page_printed
 printed-fits table trace out h = rw (le-leb page_bytes (length out) h)
 
-abbrev wrote_text : List ℕ → List ℕ → Wrote
-wrote_text text out = record { answer = accept (length text); buffer = text ++ drop (length text) out }
-
--- no more bytes are printed than the buffer has: it keeps its length
-pub bytes-few : (table trace out : List ℕ) {left : List ℕ} {n : ℕ} → accept n ≡ (page_printed table trace out).answer
-    → left ≡ (page_printed table trace out).buffer → length left ≡ length out → n ≤ length out
+-- what is printed stands in the buffer that it is printed into
+pub page-inside : (table trace out : List ℕ) {n : ℕ} {left : List ℕ} → HasWritten (page_printed table trace out) (Ok n) left → n ≤ length left
 unfolding page_printed
-bytes-few table trace out {left} {n} e f long = go (leb page_bytes (length out)) e f
-  where
-    go : (t : Bool) → accept n ≡ (pick {A = Wrote} t (wrote_text (page_text table trace) out) (unwritten page_too_short out)).answer
-        → left ≡ (pick {A = Wrote} t (wrote_text (page_text table trace) out) (unwritten page_too_short out)).buffer → n ≤ length out
-    go true e f =
-        let y : n ≡ length (page_text table trace) = cc in
-        omega (arith, y, ap length f, long, length-append (page_text table trace) (drop (length (page_text table trace)) out))
-    go false e f = let z : ◌≡◌ {A = ℕ} 0 1 = cc in absurd (omega arith)
+page-inside table trace out w = written-inside (leb page_bytes (length out)) (page_text table trace) out page_too_short w

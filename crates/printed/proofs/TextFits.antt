@@ -5,12 +5,14 @@ use mathlib.Core.Bool.{Bool, true, false}
 use mathlib.Core.List.{List, [], ◌∷◌, ◌++◌}
 use native.Mathlib.Omega.{arith}
 use lib.Dec.{leb, ltb}
-use lib.ListN.{length, drop, length-append}
-use borrow.Author.Tests.{leb-true, ltb-false}
+use lib.ListN.{length, length-append}
+use borrow.Author.Tests.{ltb-false}
 use Rattle.number.specs.Basics.{pick}
 use Rattle.number.specs.Refusal.{too_short, file_too_long}
 use Rattle.number.specs.Reply.{Reply, refuse, accept}
-use Rattle.number.specs.Number.{Wrote, unwritten}
+use Rattle.std.specs.Prelude.{Ok}
+use Rattle.number.specs.Number.{HasWritten}
+use Rattle.printed.proofs.TextLaws.{written-inside}
 use Rattle.table.specs.Group.{GroupPairs}
 use Rattle.table.specs.TableBytes.{read_table}
 use Rattle.trace.specs.Event.{read_header}
@@ -123,17 +125,10 @@ files-few (run s) h = play_few s (h s refl)
 pub text-fits : TextFits
 text-fits table trace = files-few (files table trace) λ s e. files-small table trace e
 
--- what is printed is no longer than the buffer
-pub bytes-few : (table trace out : List ℕ) {n : ℕ} → accept n ≡ (printed table trace out).answer → n ≤ length out
+-- what is printed stands in the buffer that it is printed into
+pub printed-inside : (table trace out : List ℕ) {n : ℕ} {left : List ℕ} → HasWritten (printed table trace out) (Ok n) left → n ≤ length left
 unfolding printed
-bytes-few table trace out {n} h = go (leb most_text (length out)) refl h
-  where
-    go : (t : Bool) → leb most_text (length out) ≡ t
-        → accept n ≡ (pick {A = Wrote} t
-        (record { answer = accept (length (text table trace)); buffer = text table trace ++ drop (length (text table trace)) out })
-        (unwritten too_short out)).answer → n ≤ length out
-    go true e f = let y : n ≡ length (text table trace) = cc in omega (arith, text-fits table trace, leb-true most_text (length out) e)
-    go false e f = let z : ◌≡◌ {A = ℕ} 0 1 = cc in absurd (omega arith)
+printed-inside table trace out w = written-inside (leb most_text (length out)) (text table trace) out too_short w
 
 -- ---- no text is empty
 files_some : (f : Files) → 0 < length (files_text f)

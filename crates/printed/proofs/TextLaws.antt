@@ -1,6 +1,9 @@
 -- Laws of the whole text.
 use Prim.Native.Nat.{ℕ, ◌≤◌, ◌<◌}
-use mathlib.Core.Path.{◌≡◌, sym, ◌∙◌}
+use mathlib.Core.Path.{◌≡◌, sym, ap, ◌∙◌}
+use mathlib.Core.Bool.{Bool, true, false}
+use Rattle.std.specs.Prelude.{Ok}
+use Rattle.number.specs.Basics.{pick}
 use mathlib.Core.List.{List, ◌++◌, map}
 use native.Mathlib.Omega.{arith}
 use native.Mathlib.Nat.{zero-add}
@@ -9,7 +12,7 @@ use lib.Seq.{take_at}
 use borrow.Author.Tests.{lt-leb, le-leb}
 use Rattle.number.specs.Refusal.{too_short}
 use Rattle.number.specs.Reply.{accept}
-use Rattle.number.specs.Number.{unwritten, Puts}
+use Rattle.number.specs.Number.{unwritten, HasWritten, Puts}
 use Rattle.number.proofs.SpliceLaws.{splice_front}
 use Rattle.printed.specs.declared.files.FilesRun.{FilesRun}
 use Rattle.replay.specs.Playing.{Logged, answer_of, given_of, word_of}
@@ -65,3 +68,12 @@ printed-fits table trace out h = rw (le-leb most_text (length out) h)
 
 pub puts-front : {d bytes : List ℕ} {e : ℕ} {out : List ℕ} → Puts d 0 bytes e out → (e ≡ length bytes) × (out ≡ bytes ++ drop (length bytes) d)
 puts-front {d} {bytes} w = (w.ends ∙ zero-add (length bytes), w.is ∙ splice_front d bytes)
+
+-- what was written stands in the buffer that it was written into, where that was long enough
+pub written-inside : (t : Bool) (text out : List ℕ) (k : ℕ) {n : ℕ} {left : List ℕ}
+    → HasWritten (pick t (record { answer = accept (length text); buffer = text ++ drop (length text) out }) (unwritten k out)) (Ok n) left
+    → n ≤ length left
+written-inside true text out k {n} w =
+    let long : n ≡ length text = let e = w.0 in cc in
+    omega (arith, long, ap length w.1, length-append text (drop (length text) out))
+written-inside false text out k w = let e = w.0 in let z : ◌≡◌ {A = ℕ} 0 1 = cc in absurd (omega arith)

@@ -19,10 +19,10 @@ use Rattle.queue.specs.Sound.{sound}
 use Rattle.queue.specs.Arguments.{kind_of, names_port, in_range, with_argument, lacks, asked_of, argument_given, give}
 use Rattle.queue.specs.Outcome.{Moves, moved}
 use Rattle.queue.specs.Parts.{queue_of, queue_of_kind}
-use Rattle.queue.specs.Internal.{lacks_mark, mark_of, set_argument, waiting_at, GivenAt, Given}
+use Rattle.queue.specs.Internal.{Checked, lacks_mark, mark_of, set_argument, waiting_at, GivenAt, Given}
 use Rattle.queue.proofs.ContentsLaws.{mapped-few, anew-held, counts_of, numbers_of, with_numbers, same_numbers, side-held, side-count, side-anew}
 use Rattle.queue.proofs.EntryLaws.{address_number, word_number}
-use Rattle.queue.proofs.PartsLaws.{PartsFit}
+use Rattle.queue.proofs.PartsLaws.{loads-room, stores-room}
 
 -- some element passes where the first that does is a place of the list
 pub any_place : {A : Type 0} (p : A → Bool) (l : List A) → any_of p l ≡ ltb (first_place p l) (length l)
@@ -105,11 +105,11 @@ queue_for argument frame own others = queue_of_kind (kind_of argument) frame own
 abbrev pub side_for : Argument → Frame → SideStruct
 side_for argument frame = of_kind (kind_of argument) frame.loads frame.stores
 
-pub own_room : (argument : Argument) (frame : Frame) (own others : List ℕ) → PartsFit (queue_for argument frame own others)
-    → (side_for argument frame).count ≤ length own
-own_room LoadAddress frame own others f = f.loads_room
-own_room StoreAddress frame own others f = f.stores_room
-own_room StoreData frame own others f = f.stores_room
+pub own_room : (argument : Argument) (frame : Frame) (own others : List ℕ)
+    → (let q = queue_for argument frame own others in Checked q.frame q.load_entries q.store_entries) → (side_for argument frame).count ≤ length own
+own_room LoadAddress frame own others f = loads-room f
+own_room StoreAddress frame own others f = stores-room f
+own_room StoreData frame own others f = stores-room f
 
 -- what giving the argument to the oldest answers and leaves is what the rest of the rule asks
 pub gives : (argument : Argument) (frame : Frame) (own others : List ℕ) {port x : ℕ} {answer : Result (Unit {0}) Refusal} {left : List ℕ}

@@ -1,5 +1,5 @@
 -- What a queue's record holds, by its places: the entries below a count, and one entry made anew.
-use Rattle.std.proofs.Common.{◌≡◌, ℕ, zero, suc, ◌+◌, ◌<◌, ◌≤◌, List, [], ◌∷◌, ◌++◌, map, length, get_or, take, drop, set, sym, refl, ap, ◌∙◌, ap₂, le_of_suc-le-suc, not-suc-le-zero, add-one, arith, length-set, get_or-take, drop_of_length-le, take_all, drop-cons, take-suc}
+use Rattle.std.proofs.Common.{◌≡◌, ℕ, zero, suc, ◌+◌, ◌<◌, ◌≤◌, List, [], ◌∷◌, ◌++◌, map, length, get_or, take, drop, set, refl, ap, ◌∙◌, ap₂, le_of_suc-le-suc, not-suc-le-zero, add-one, length-set, get_or-take, drop-cons}
 use mathlib.Core.Option.{none, some}
 use lib.ListN.{length-map, get_or-map, get_elem?}
 use lib.Seq.{take-set-lt}
@@ -55,29 +55,9 @@ module _ {A B : Type 0} (f : A → B) (blank : A) (n : ℕ) (l : List A) where
   pub mapped_get_elem? : (i : ℕ) → i < n → get_elem? (map f (held blank n l)) i ≡ some (f (get_or l i blank))
   mapped_get_elem? i k = get_elem?_get_d (map f (held blank n l)) i (f blank) (rw mapped-length k) ∙ rw (mapped_at i k)
 
-  -- one more
-  pub mapped-last : map f (held blank (n + 1) l) ≡ map f (held blank n l) ++ f (get_or l n blank) ∷ []
-  mapped-last =
-      rw add-one
-      (sym (take_all (suc n) more (omega (arith, long)))
-      ∙ take-suc more n (f blank) (omega (arith, long))
-      ∙ rw (take-map f n (held blank (suc n) l), held-take blank (suc n) l n (omega arith), get_or-map f (held blank (suc n) l) n blank)
-      (rw (held-here blank (suc n) l n (omega arith))))
-    where
-      more : List B
-      more = map f (held blank (suc n) l)
-
-      long : length more ≡ suc n
-      long = length-map (held blank (suc n) l) f ∙ held-length blank (suc n) l
-
   -- those from the ith on: what a walk over them comes to
   pub mapped-here : (i : ℕ) → i < n → drop i (map f (held blank n l)) ≡ f (get_or l i blank) ∷ drop (i + 1) (map f (held blank n l))
   mapped-here i k = rw (add-one, ← mapped_at i k) (drop-cons (map f (held blank n l)) i (f blank) (rw mapped-length k))
-
-  pub mapped_end : (i : ℕ) → n ≤ i → drop i (map f (held blank n l)) ≡ []
-  mapped_end i k =
-      let e : length (map f (held blank n l)) ≤ i = rw mapped-length k in
-      drop_of_length-le (map f (held blank n l)) e
 
   -- within the list
   pub mapped-few : n ≤ length l → map f (held blank n l) ≡ map f (take n l)

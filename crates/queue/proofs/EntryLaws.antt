@@ -1,11 +1,10 @@
 -- Entries and the numbers that hold them: packing loses nothing.
-use Rattle.std.proofs.Common.{◌≡◌, ℕ, zero, suc, ◌+◌, ◌*◌, ◌/◌, ◌%◌, ◌<◌, Bool, true, false, not, eqb, refl, ap, ◌∙◌, arith}
+use Rattle.std.proofs.Common.{◌≡◌, ℕ, zero, suc, ◌+◌, ◌*◌, ◌/◌, ◌%◌, ◌<◌, Bool, true, false, eqb, refl, ap, ◌∙◌, arith}
 use mathlib.Core.Option.{none, some}
 use Rattle.number.specs.Basics.{pick, is_some}
 use Rattle.queue.specs.declared.Entry.{Entry as EntryStruct}
 use Rattle.queue.specs.Entry.{Entry, with_address, with_word, mark_finished, entry_of, unpacked, entry_in, bit, number_of, Small, EntriesReadBack}
 use Rattle.queue.specs.Entry.{PackedReadBack}
-use Rattle.queue.specs.Touch.{apart, same, is_apart}
 use Rattle.queue.specs.Internal.{set_address, set_word, set_finished}
 
 -- ---- packing
@@ -191,7 +190,3 @@ address_number a n low =
 pub marked : (mark : Bool) (a : ℕ) → is_some (pick mark (some a) none) ≡ mark
 marked true a = refl
 marked false a = refl
-
-pub apart_picked : (t : Bool) → not t ≡ is_apart (pick t same apart)
-apart_picked true = refl
-apart_picked false = refl

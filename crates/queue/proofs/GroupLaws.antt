@@ -1,23 +1,16 @@
 -- A group and a table by their records: how many accesses and groups they hold, and which.
-use Rattle.std.proofs.Common.{◌≡◌, ℕ, ◌+◌, ◌<◌, ◌≤◌, ◌&&◌, leb, List, [], ◌∷◌, map, length, get_or, take, drop, sym, ap, ◌∙◌, le_trans, add-one, drop-cons, get_or-take}
+use Rattle.std.proofs.Common.{◌≡◌, ℕ, ◌+◌, ◌<◌, ◌≤◌, ◌&&◌, leb, List, ◌∷◌, get_or, take, drop, sym, ap, ◌∙◌, le_trans, get_or-take}
 use mathlib.Core.Option.{some}
-use lib.ListN.{get_elem?, get_or-map, length-map}
+use lib.ListN.{get_elem?}
 use Rattle.table.specs.declared.Group.{Group}
 use Rattle.table.specs.declared.Table.{Table}
-use Rattle.table.specs.Packed.{pair_in}
 use Rattle.table.specs.Group.{GroupPairs, pairs_of}
 use Rattle.table.specs.Table.{meant_in, group_at, groups_of, check_table}
 use Rattle.table.proofs.CheckLaws.{view-length, groups-size, group_at_lem}
 use Rattle.table.proofs.OrderOffsets.{GroupRight, table_groups_few, table_group_right}
 use Rattle.queue.specs.Open.{group_fits}
-use Rattle.queue.proofs.ContentsLaws.{mapped_get_elem?, mapped-here, mapped_end}
+use Rattle.queue.proofs.ContentsLaws.{mapped_get_elem?, mapped-here}
 use Rattle.number.specs.Reply.{passed}
-
--- the pairs from the ith on: what a walk over the numbers that hold them comes to
-pub pairs_here : (numbers : List ℕ) (i : ℕ) → i < length numbers
-    → drop i (map pair_in numbers) ≡ pair_in (get_or numbers i 0) ∷ drop (i + 1) (map pair_in numbers)
-pairs_here numbers i k =
-    rw (add-one, ← get_or-map pair_in numbers i 0) (drop-cons (map pair_in numbers) i (pair_in 0) (rw length-map k))
 
 pub fits_record : (load_depth store_depth : ℕ) (loads stores : List ℕ) (g : Group)
     → group_fits load_depth store_depth (pairs_of loads stores g) ≡ leb g.loads.count load_depth && leb g.stores.count store_depth
@@ -46,6 +39,3 @@ module _ (t : Table) (few : t.count ≤ 16) (i : ℕ) (k : i < t.count) {g : Gro
 
   pub group-right : check_table (groups_of t) ≡ passed → GroupRight (pairs_of t.loads t.stores g)
   group-right right = rw (group_at_lem t few i k here a) at (table_group_right (groups_of t) right i here (rw (groups-size t) k))
-
-pub groups_end : (t : Table) (i : ℕ) → t.count ≤ i → drop i (groups_of t) ≡ []
-groups_end t i k = mapped_end (meant_in t.loads t.stores) 0 t.count t.groups i k

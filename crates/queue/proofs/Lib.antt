@@ -8,7 +8,7 @@ pub mod Accepted
 pub mod ContentsLaws
 -- entries and the numbers that hold them
 pub mod EntryLaws
--- walks over a side's entries
+-- walks over groups and over a side's entries
 pub mod WalkLaws
 pub mod SoundLaws
 pub mod PartsLaws

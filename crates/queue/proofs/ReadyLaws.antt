@@ -1,7 +1,6 @@
 -- What serve and write accept goes by the entry and the entries before it, and not by the memory's words; and the serials that
 -- pass, gathered from the oldest.
-use Rattle.std.proofs.Common.{rules, ◌≡◌, ℕ, zero, suc, ◌+◌, ◌-◌, ◌^◌, ◌<◌, ◌≤◌, Bool, true, false, not, eqb, leb, Result, Ok, Err, List, [], ◌∷◌, ◌++◌, length, get_or, take, drop, sym, refl, ap, ◌∙◌, ap₂, append_assoc, append-nil, le_trans, arith, length-append, length-take-le}
-use native.Mathlib.Nat.{sub-zero}
+use Rattle.std.proofs.Common.{rules, ◌≡◌, ℕ, zero, suc, ◌+◌, ◌-◌, ◌<◌, ◌≤◌, Bool, true, false, not, eqb, leb, Result, Ok, Err, List, [], ◌∷◌, ◌++◌, length, get_or, take, drop, sym, refl, ap, ◌∙◌, ap₂, append_assoc, append-nil, le_trans, arith, length-append, length-take-le}
 use mathlib.Core.Option.{Option, none, some}
 use lib.ListN.{length-replicate, get_elem?}
 use lib.Seq.{take-append_seam}
@@ -12,9 +11,9 @@ use Rattle.queue.specs.declared.ready.Serials.{Serials}
 use Rattle.queue.specs.declared.Queue.{Queue}
 use Rattle.number.specs.declared.refusal.Refusal.{Refusal}
 use Rattle.number.specs.Refusal.{too_short, unsound, no_serial, refusal_number}
-use Rattle.number.specs.Reply.{Reply, refuse, accept, need, have, and_then, number, accepted, reply}
-use Rattle.queue.specs.Entry.{Entry, entry_in, unpacked, served}
-use Rattle.queue.specs.Contents.{Contents, contents_of, after, age, oldest, place_of, entries_held, others_before}
+use Rattle.number.specs.Reply.{Reply, refuse, accept, need, have, and_then, accepted, reply}
+use Rattle.queue.specs.Entry.{Entry, entry_in, served}
+use Rattle.queue.specs.Contents.{Contents, contents_of, after, age, oldest, place_of, others_before}
 use Rattle.queue.specs.Sound.{sound}
 use Rattle.queue.specs.Serve.{unsettled, Source, from_store, from_memory, source, loaded_from, may_serve, served_with, serve_at, serve}
 use Rattle.queue.specs.Write.{may_write, written_with, write_at, write}
@@ -23,7 +22,7 @@ use Rattle.queue.specs.Internal.{may_write_at, load_ready, ready_at, InReach, se
 use Rattle.queue.proofs.ContentsLaws.{counts_of, side_next, side-count, side-get_elem?, side-take}
 use Rattle.number.proofs.AnswerLaws.{refusals_positive}
 use Rattle.number.proofs.ReplyLaws.{accepted_number, not_zero}
-use Rattle.queue.proofs.Refusals.{proper, need_same, have_same, small-proper, ready-small, may_write_proper, serve_proper, write_proper}
+use Rattle.queue.proofs.Refusals.{proper, need_same, have_same, small-proper, ready-small, serve_proper, write_proper}
 use Rattle.queue.proofs.Serials.{place_of_serial, oldest-small}
 use Rattle.queue.proofs.SoundLaws.{count_most, before-held}
 use Rattle.queue.proofs.ServeLaws.{serve_by_place}
@@ -73,11 +72,6 @@ write_accepts_ready q memory place = go (get_elem? q.stores.entries place)
     go (some s) = then_accepts (may_write (take s.before q.loads.entries) (take place q.stores.entries) s) (written_with q memory place)
 
 -- ---- either: what stands at a serial's place decides, whatever the memory's words
-pub write_fault_ready : (loads stores : List ℕ) (i : ℕ) → eqb (number (may_write_at loads stores i)) 0 ≡ accepted (may_write_at loads stores i)
-write_fault_ready loads stores i =
-    accepted_number (may_write_at loads stores i)
-    (may_write_proper (entries_held (unpacked (get_or stores i 0)).before loads) (entries_held i stores) (entry_in (get_or stores i 0)))
-
 abbrev pub stands_ready : Kind → Contents → ℕ → Bool
 stands_ready load q place = ready_in q (get_elem? q.loads.entries place)
 stands_ready store q place = writable_in q place (get_elem? q.stores.entries place)
@@ -136,14 +130,6 @@ pub record ReadyGathering (ready : ℕ → Bool) (from n i serial : ℕ) (s : Se
   pub next : serial ≡ after from i
   pub are : (p : ℕ → Bool) → ((j : ℕ) → j < n → p (after from j) ≡ ready j)
       → keep_where p (serials from n) ≡ serials_listed s ++ keep_where p (serials serial (n - i))
-
-pub gathering_none : {ready : ℕ → Bool} {from n : ℕ} (numbers : List ℕ) → length numbers ≡ 64 → from < 2 ^ 32
-    → ReadyGathering ready from n 0 from (record { count = 0; numbers = numbers })
-gathering_none {ready} {from} {n} numbers e h = record { few = omega arith; long = e; next = omega arith; are = λ p e. rw (sub-zero n) (front p numbers) }
-  where
-    front : (p : ℕ → Bool) (l : List ℕ) → keep_where p (serials from n) ≡ take 0 l ++ keep_where p (serials from n)
-    front p [] = refl
-    front p (x ∷ l) = refl
 
 -- one more serial, where it is ready
 record NotedIf (s : Serials) (serial : ℕ) (ready : Bool) (r : Serials) : Type 0 where

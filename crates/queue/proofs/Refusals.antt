@@ -108,9 +108,6 @@ ready-small kind q run = need-among byte (sound q) _ _ refl (need-among byte (le
 pub serve_proper : (q : Contents) (m : List ℕ) (serial : ℕ) → proper (serve q m serial) ≡ true
 serve_proper q m serial = small-proper (serve q m serial) (serve-small q m serial)
 
-pub may_write_proper : (ls : List Entry) (ss : List Entry) (s : Entry) → proper (may_write ls ss s) ≡ true
-may_write_proper ls ss s = small-proper (may_write ls ss s) (may_write_small ls ss s)
-
 pub write_proper : (q : Contents) (m : List ℕ) (serial : ℕ) → proper (write q m serial) ≡ true
 write_proper q m serial = small-proper (write q m serial) (write-small q m serial)
 

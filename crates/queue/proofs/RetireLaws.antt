@@ -57,9 +57,6 @@ drop-map f (suc k) [] = refl
 drop-map f (suc k) (x ∷ l) = drop-map f k l
 
 module _ {A : Type 0} {g : A → A} {k : ℕ} {old : List A} where
-  pub moved_none : Moved g k old 0 old
-  moved_none = record { is = refl }
-
   module _ {j : ℕ} {l : List A} (w : Moved g k old j l) where
     front-size : j ≤ length (drop k old) → length (map g (take j (drop k old))) ≡ j
     front-size h = length-map (take j (drop k old)) g ∙ length-take-le j (drop k old) h

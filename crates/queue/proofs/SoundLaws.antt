@@ -16,9 +16,6 @@ use Rattle.queue.specs.Sound.{depth_right, memory_right, address_right, entry_ri
 use Rattle.queue.proofs.Lists.{false-true}
 use Rattle.queue.proofs.ContentsLaws.{mapped-length, mapped_at, counts_of, numbers_of, opposite, side-held, side-depth, side-count, words-held}
 
-pub within-least : (lo hi n : ℕ) → within lo hi n ≡ true → lo ≤ n
-within-least lo hi n h = leb-true lo n (and_left (leb lo n) (leb n hi) h)
-
 pub within_most : (lo hi n : ℕ) → within lo hi n ≡ true → n ≤ hi
 within_most lo hi n h = leb-true n hi (and_right (leb lo n) (leb n hi) h)
 
@@ -98,11 +95,6 @@ sound-sides q =
     (all_of (entry_right words m) (entries_held n q.load_entries))
     (depth_right q.frame.stores.depth && leb m q.frame.stores.depth)
     (all_of (entry_right words n) (entries_held m q.store_entries))))
-
--- a side whose depth is right and that holds no more
-pub side-few : (depth n : ℕ) → (depth_right depth && leb n depth) ≡ true → n ≤ 64
-side-few depth n h = le_trans (leb-true n depth (and_right (depth_right depth) (leb n depth) h))
-    (within_most 1 64 depth (and_left (depth_right depth) (leb n depth) h))
 
 -- an address that is filled in
 filled_in : (words a : ℕ) (addressed : Bool) → address_right words (pick addressed (some a) none) ≡ true → addressed ≡ true → a < words

@@ -1,9 +1,9 @@
 -- What the crate's own functions promise each other: nothing here is promised to a caller from outside.
-use Rattle.std.specs.Prelude.{◌≡◌, ℕ, ◌+◌, ◌-◌, ◌<◌, ◌≤◌, Bool, true, false, Option, Some, None, Result, List, [], ◌∷◌, ◌++◌, map, length, take, drop, nat_le, nat_lt, slice_index, slice_index_or, slice_set}
+use Rattle.std.specs.Prelude.{◌≡◌, ℕ, ◌+◌, ◌-◌, ◌<◌, ◌≤◌, Bool, true, false, Option, Some, None, ◌&&◌, Result, Ok, Err, List, [], ◌∷◌, ◌++◌, map, length, take, drop, nat_le, nat_lt, slice_index, slice_index_or, slice_set}
 use Rattle.std.proofs.Math.Option.{none, some}
 use Rattle.number.specs.Basics.{pick, is_some}
 use Rattle.number.specs.declared.refusal.Refusal.{Refusal}
-use Rattle.number.specs.Refusal.{none_waits, too_short}
+use Rattle.number.specs.Refusal.{none_waits, too_short, unsound, refusal_number}
 use Rattle.number.specs.Reply.{Reply, accept, accepted, need, passed, reply}
 use Rattle.table.specs.declared.Pair.{Pair}
 use Rattle.table.specs.Group.{GroupPairs, blank_pair}
@@ -28,7 +28,8 @@ use Rattle.queue.specs.Arguments.{with_argument}
 use Rattle.queue.specs.Serve.{Source, unsettled, from_store, from_memory, decided, Loaded, may_serve}
 use Rattle.queue.specs.Write.{WordPut, may_write}
 use Rattle.queue.specs.Retire.{after_retiring}
-use Rattle.queue.specs.Parts.{queue_of}
+use Rattle.queue.specs.declared.Queue.{Queue}
+use Rattle.queue.specs.Parts.{queue_of, whole}
 
 -- a run of entries, with just as many numbers as a side has places
 abbrev pub Has64 : List ℕ → Type 0
@@ -52,6 +53,11 @@ set_finished s = entry_struct s.port s.addressed s.address s.filled s.word true 
 
 abbrev pub set_before : ℕ → EntryStruct → EntryStruct
 set_before n s = entry_struct s.port s.addressed s.address s.filled s.word s.finished n
+
+-- what the check of a queue's parts says: they are the parts of a sound queue, or they are not, which is 40
+abbrev pub PartsChecked : Queue → Result (Unit {0}) Refusal → Type 0
+PartsChecked q (Ok done) = Checked q.frame q.load_entries q.store_entries
+PartsChecked q (Err e) = (refusal_number e ≡ unsound) × ((whole q.load_entries q.store_entries && sound (contents_of q)) ≡ false)
 
 -- ---- the entries of a run of numbers
 abbrev pub entries_in : List ℕ → List Entry

@@ -8,7 +8,7 @@ ghost use Rattle.queue.specs.Parts.{queue_of, OpenedAlike, on_parts};
 ghost use Rattle.queue.specs.Internal.{Has64, PairsFit, Appended, longer};
 
 use crate::entries::pack;
-use crate::sound::sound_in;
+use crate::sound::check_parts;
 use crate::{Entry, Frame, Queue, Side};
 use number::refusal::Refusal;
 use table::Group;
@@ -74,9 +74,7 @@ pub fn activate_in(
         (moved result (queue_of frame.new load_entries.new store_entries.new)) }
     ensures opening { OpenedAlike frame.old frame.new }
 {
-    if !sound_in(frame, load_entries, store_entries) {
-        return Err(Refusal::Unsound);
-    }
+    check_parts(frame, load_entries, store_entries)?;
     if frame.table.count as u32 <= group {
         return Err(Refusal::NoGroup);
     }

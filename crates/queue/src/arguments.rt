@@ -8,7 +8,7 @@ ghost use Rattle.queue.specs.Internal.{mark_of, set_argument, Given};
 
 use crate::entries::{Mark, oldest_without, pack, unpack};
 use crate::ports::has_port;
-use crate::sound::sound_of;
+use crate::sound::check_parts_of;
 use crate::{Entry, Frame, Kind, Queue};
 use number::refusal::Refusal;
 
@@ -95,9 +95,7 @@ pub fn give_in(
         (moved result (queue_of_kind (kind_of argument) frame.now own_entries.new other_entries.now)) }
 {
     let kind = kind_of(argument);
-    if !sound_of(kind, frame, own_entries, other_entries) {
-        return Err(Refusal::Unsound);
-    }
+    check_parts_of(kind, frame, own_entries, other_entries)?;
     if !has_port(&frame.table, kind, port) {
         return Err(Refusal::NoPort);
     }

@@ -9,7 +9,7 @@ ghost use Rattle.queue.specs.Internal.{Checked, load_ready, InReach, ready_at, N
 use crate::entries::unpack;
 use crate::serial::oldest_serial;
 use crate::serving::{Source, source_of};
-use crate::sound::sound_in;
+use crate::sound::check_parts;
 use crate::writing::write_fault;
 use crate::{Entry, Frame, Kind, Queue};
 use number::refusal::Refusal;
@@ -103,9 +103,7 @@ pub fn ready_in(
         Readies q out.old (on_parts load_entries.now store_entries.now (ready kind (contents_of q) out.old))
         (readied result q) out.new }
 {
-    if !sound_in(frame, load_entries, store_entries) {
-        return Err(Refusal::Unsound);
-    }
+    check_parts(frame, load_entries, store_entries)?;
     let found = ready_serials(frame, kind, load_entries, store_entries);
     hand_out(&found, out)
 }

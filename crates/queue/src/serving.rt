@@ -11,7 +11,7 @@ ghost use Rattle.queue.specs.Internal.{entries_in, Checked, source_in, Decides, 
 
 use crate::entries::{pack, unpack};
 use crate::serial::place_of;
-use crate::sound::sound_in;
+use crate::sound::check_parts;
 use crate::{Entry, Frame, Queue};
 use counts::Counts;
 use number::refusal::Refusal;
@@ -129,9 +129,7 @@ pub fn serve_in(
         Serves q counts.old (on_parts load_entries.old store_entries.now (serve (contents_of q) memory.now serial))
         (with_counts (gave result (queue_of frame.now load_entries.new store_entries.now)) counts.new) }
 {
-    if !sound_in(frame, load_entries, store_entries) {
-        return Err(Refusal::Unsound);
-    }
+    check_parts(frame, load_entries, store_entries)?;
     if memory.len() != frame.memory_length as usize {
         return Err(Refusal::WrongMemory);
     }

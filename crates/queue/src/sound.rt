@@ -3,12 +3,13 @@ ghost use Rattle.std.specs.Prelude.{◌≡◌, ◌≤◌, ◌&&◌, length, nat_
 ghost use Rattle.number.specs.Basics.{all_of};
 ghost use Rattle.queue.specs.Entry.{entry_of};
 ghost use Rattle.queue.specs.Contents.{contents_of};
-ghost use Rattle.queue.specs.Internal.{entries_in};
+ghost use Rattle.queue.specs.Internal.{entries_in, PartsChecked};
 ghost use Rattle.queue.specs.Sound.{depth_right, memory_right, entry_right, sound};
 ghost use Rattle.queue.specs.Parts.{queue_of, queue_of_kind, whole};
 
 use crate::entries::unpack;
 use crate::{Entry, Frame, Kind, Queue, Side};
+use number::refusal::Refusal;
 
 // A depth is 1 to 64.
 pub(crate) fn depth_right(depth: u32) -> bool
@@ -78,19 +79,32 @@ pub fn sound_in(frame: &Frame, load_entries: &[u64], store_entries: &[u64]) -> b
     frame.table.check().is_ok()
 }
 
+// 40, where they are not: every call on a queue's parts begins with this.
+pub(crate) fn check_parts(
+    frame: &Frame,
+    load_entries: &[u64],
+    store_entries: &[u64],
+) -> Result<(), Refusal>
+    ensures { PartsChecked (queue_of frame.now load_entries.now store_entries.now) result }
+{
+    if !sound_in(frame, load_entries, store_entries) {
+        return Err(Refusal::Unsound);
+    }
+    Ok(())
+}
+
 // The same, by the entries of one kind and those of the other.
-pub(crate) fn sound_of(
+pub(crate) fn check_parts_of(
     kind: Kind,
     frame: &Frame,
     own_entries: &[u64],
     other_entries: &[u64],
-) -> bool
-    ensures { let q = queue_of_kind kind frame.now own_entries.now other_entries.now in
-        result ≡ whole q.load_entries q.store_entries && sound (contents_of q) }
+) -> Result<(), Refusal>
+    ensures { PartsChecked (queue_of_kind kind frame.now own_entries.now other_entries.now) result }
 {
     match kind {
-        Kind::Load => sound_in(frame, own_entries, other_entries),
-        Kind::Store => sound_in(frame, other_entries, own_entries),
+        Kind::Load => check_parts(frame, own_entries, other_entries),
+        Kind::Store => check_parts(frame, other_entries, own_entries),
     }
 }
 

@@ -8,7 +8,7 @@ ghost use Rattle.queue.specs.Parts.{queue_of, OpenedAlike, on_parts};
 use crate::entries::{Mark, oldest_without, pack, unpack};
 use crate::ports::has_port;
 use crate::retiring::retire;
-use crate::sound::sound_in;
+use crate::sound::check_parts;
 use crate::{Frame, Kind, Queue};
 use number::refusal::Refusal;
 
@@ -24,9 +24,7 @@ pub fn take_in(
         (gave result (queue_of frame.new load_entries.new store_entries.new)) }
     ensures opening { OpenedAlike frame.old frame.new }
 {
-    if !sound_in(frame, load_entries, store_entries) {
-        return Err(Refusal::Unsound);
-    }
+    check_parts(frame, load_entries, store_entries)?;
     if !has_port(&frame.table, Kind::Load, port) {
         return Err(Refusal::NoPort);
     }

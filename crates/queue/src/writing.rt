@@ -12,7 +12,7 @@ ghost use Rattle.queue.specs.Internal.{entries_in, Checked, has, may_write_at};
 use crate::entries::{Mark, pack, unpack};
 use crate::retiring::retire;
 use crate::serial::place_of;
-use crate::sound::sound_in;
+use crate::sound::check_parts;
 use crate::{Entry, Frame, Queue};
 use number::refusal::Refusal;
 
@@ -102,9 +102,7 @@ pub fn write_in(
         (moved result (queue_of frame.new load_entries.new store_entries.new)) memory.new }
     ensures opening { OpenedAlike frame.old frame.new }
 {
-    if !sound_in(frame, load_entries, store_entries) {
-        return Err(Refusal::Unsound);
-    }
+    check_parts(frame, load_entries, store_entries)?;
     if memory.len() != frame.memory_length as usize {
         return Err(Refusal::WrongMemory);
     }

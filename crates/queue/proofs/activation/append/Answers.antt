@@ -7,7 +7,7 @@ use Rattle.table.specs.Group.{blank_pair}
 use Rattle.table.proofs.CheckLaws.{pair-at}
 use Rattle.queue.specs.Entry.{entry_in}
 use Rattle.queue.specs.Internal.{entry_after}
-use Rattle.queue.proofs.AppendLaws.{pasted-none, pasted-more, mapped_appended, number_after, after_number}
+use Rattle.queue.proofs.AppendLaws.{pasted-more, mapped_appended, number_after, after_number}
 use Rattle.queue.proofs.activation.append.Goals as goal
 use Rattle.queue.proofs.activation.append.Goals.{After-unpack_pair-pair}
 
@@ -17,9 +17,6 @@ here c = pair-at c.args.pairs.now c.loop-j.j ∙ sym c.unpack_pair-pair.ensures
 
 inside : (c : After-unpack_pair-pair) → c.loop-j.j < length (map pair_in c.args.pairs.now)
 inside c = rw length-map c.loop-j-test.true
-
-pub loop-j-init : goal.loop-j-init
-loop-j-init c = pasted-none
 
 pub overflow_add-entry : goal.overflow_add-entry
 overflow_add-entry c =

@@ -1,10 +1,6 @@
 -- What is left of the stores decides as all of them do.
-use Rattle.std.proofs.Common.{◌≡◌}
-use Rattle.queue.proofs.SourceLaws.{back_none, back-unknown, back-matched, back-passed, back_end}
+use Rattle.queue.proofs.SourceLaws.{back-unknown, back-matched, back-passed, back_end}
 use Rattle.queue.proofs.serving.source_of.Goals as goal
-
-pub loop-number-init : goal.loop-number-init
-loop-number-init c = let all : c.into_iter-number-iterator.result.iter.rest.now ≡ c.args.stores.now = cc in rw all back_none
 
 pub returns-then-not-store : goal.returns-then-not-store
 returns-then-not-store c =

@@ -17,9 +17,9 @@ use Rattle.number.specs.Number.{got, read_number, bytes_of, Fit, fit_none, fit_o
 use Rattle.table.specs.Group.{GroupPairs}
 use Rattle.table.specs.Table.{load_rule, store_rule, check_pair, check_pairs, counts_right, Seen, none_seen, seen_after}
 use Rattle.table.specs.Table.{groups_of, check_group, check_groups, check_table}
-use Rattle.table.specs.TableBytes.{read_pairs, read_group, read_groups, read_table, pack, table_reply, table_answer, wrote_table}
+use Rattle.table.specs.TableBytes.{read_pairs, read_group, read_groups, read_table, pack, table_reply, table_read, table_answer, wrote_table}
 use Rattle.table.specs.TableBytes.{pair_numbers, group_numbers, table_numbers, table_bytes}
-use Rattle.table.specs.RoundTrip.{FaultsAreRead, TablesReadBack, OnlyRightTables, TablesAreWritten, EqualTablesEqualBytes, TablesWrittenBack}
+use Rattle.table.specs.RoundTrip.{FaultsAreRead, TablesReadBack, OnlyRightTables, TablesAreWritten, EqualTablesEqualBytes, TablesWrittenBack, RepliesAreRecords}
 use Rattle.number.proofs.ReplyLaws.{refused-accepted, need-accepts, and_then_accepts, then_read_accepts, not_zero, refused_some}
 use Rattle.number.proofs.ReplyLaws.{need-then, and_then-then, then_read-then, of_accepted, of_read, both_pass}
 use Rattle.number.proofs.RoundTrip.{numbers_read_back, Reads, reads_none, reads_one, reads_append, reads-written}
@@ -240,6 +240,13 @@ table_refused s {n} e = go (read_table s) e
     go : (g : Reply (List GroupPairs)) → refuse n ≡ table_reply g → g ≡ refuse n
     go (refuse m) f = cc
     go (accept gs) f = refused-accepted f
+
+pub replies_are_records : RepliesAreRecords
+replies_are_records s r e = ap table_read e ∙ go (read_table s)
+  where
+    go : (g : Reply (List GroupPairs)) → table_read (table_reply g) ≡ table_answer g
+    go (refuse n) = refl
+    go (accept gs) = refl
 
 answered : (s : List ℕ) → (table_answer (read_table s)).answer ≡ 0 → read_table s ≡ accept (groups_of (table_answer (read_table s)).table)
 answered s zero_is = go (read_table s) refl zero_is

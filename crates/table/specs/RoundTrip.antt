@@ -1,11 +1,12 @@
 -- What reading and writing tables promise together: what is written is read back, and what is read was written so. The proofs are
 -- proofs/RoundTrip.antt and proofs/PackLaws.antt.
 use Rattle.std.specs.Prelude.{ℕ, ◌≤◌, ◌≡◌, ◌↔◌, List, ◌++◌, length, drop}
-use Rattle.number.specs.Reply.{accept, and_then, passed}
+use Rattle.number.specs.Reply.{Reply, accept, and_then, passed}
 use Rattle.number.specs.Number.{Fit, AreBytes}
+use Rattle.table.specs.declared.Table.{Table}
 use Rattle.table.specs.Group.{GroupPairs}
 use Rattle.table.specs.Table.{groups_of, check_table}
-use Rattle.table.specs.TableBytes.{read_table, pack, loads_in, stores_in, table_answer, table_numbers, table_bytes, wrote_table}
+use Rattle.table.specs.TableBytes.{read_table, pack, loads_in, stores_in, table_reply, table_read, table_answer, table_numbers, table_bytes, wrote_table}
 
 -- Reading finds the fault that checking finds: of the bytes of groups, right or wrong, every number one of 32 bits, it tells the first
 -- of 4, 5, 8, 6, 7 that they meet, and where they meet none it gives them.
@@ -35,6 +36,10 @@ abbrev pub TablesWrittenBack : Type 0
 TablesWrittenBack =
     (s buffer : List ℕ) → AreBytes s → (table_answer (read_table s)).answer ≡ 0 → length s ≤ length buffer →
     wrote_table (groups_of (table_answer (read_table s)).table) buffer ≡ record { answer = accept (length s); buffer = s ++ drop (length s) buffer }
+
+-- What the contract of reading says, a reply, is that number and that record.
+abbrev pub RepliesAreRecords : Type 0
+RepliesAreRecords = (s : List ℕ) (r : Reply Table) → r ≡ table_reply (read_table s) → table_read r ≡ table_answer (read_table s)
 
 -- "A port stands once in a table": the places of its record are enough for the accesses of a right table.
 abbrev pub AccessesFit : Type 0

@@ -81,6 +81,10 @@ abbrev pub table_answer : Reply (List GroupPairs) → TableRead
 table_answer (accept gs) = record { answer = 0; table = pack gs }
 table_answer (refuse n) = record { answer = n; table = pack [] }
 
+abbrev pub table_read : Reply Table → TableRead
+table_read (accept t) = record { answer = 0; table = t }
+table_read (refuse n) = record { answer = n; table = pack [] }
+
 -- the numbers of a table, in the order of its bytes
 abbrev pub pair_numbers : Pair → List ℕ
 pair_numbers p = p.offset ∷ p.port ∷ []

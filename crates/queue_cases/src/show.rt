@@ -1,4 +1,5 @@
-// Printing: what a call hands back, and what a queue holds.
+// Printing: what a call hands back, and what a queue holds. They are functions, and no `Display`: the types are other crates', and this is
+// the script's form of them.
 use number::refusal::Refusal;
 use queue::entries::unpack;
 use queue::{Entry, Kind, Side};
@@ -28,12 +29,12 @@ pub(crate) fn same(out: &mut impl Write, text: &[u8], is_same: bool) -> io::Resu
 }
 
 // Words, and a number that is there or not.
-fn optional(out: &mut impl Write, text: &[u8], there: bool, value: u32) -> io::Result<()> {
+fn optional(out: &mut impl Write, text: &[u8], number: Option<u32>) -> io::Result<()> {
     out.write_all(text)?;
-    if there {
-        return write!(out, " {value}");
+    match number {
+        Some(value) => write!(out, " {value}"),
+        None => out.write_all(b" -"),
     }
-    out.write_all(b" -")
 }
 
 // A word that is said where it holds.
@@ -55,9 +56,10 @@ fn words(out: &mut impl Write, kind: Kind, load: &[u8], store: &[u8]) -> io::Res
 fn entry(out: &mut impl Write, kind: Kind, serial: u32, entry: Entry) -> io::Result<()> {
     words(out, kind, b"\n  load ", b"\n  store ")?;
     write!(out, "{serial} port {} before {}", entry.port, entry.before)?;
-    optional(out, b" address", entry.addressed, entry.address as u32)?;
+    let address = entry.addressed.then_some(entry.address as u32);
+    optional(out, b" address", address)?;
     words(out, kind, b" value", b" data")?;
-    optional(out, b"", entry.filled, entry.word)?;
+    optional(out, b"", entry.filled.then_some(entry.word))?;
     if entry.finished {
         words(out, kind, b" taken", b" written")?;
     }

@@ -47,7 +47,7 @@ struct GroupSoFar {
 }
 
 impl GroupSoFar {
-    // One access more: its offset counts the accesses of the other kind so far.
+    // One access more: its offset counts the accesses of the other kind so far. The kind is a number, as C hands it in.
     fn push(&mut self, kind: u8, port: u8)
         requires { Room self.old }
         ensures { self.new ≡ with_access self.old kind port }
@@ -87,6 +87,7 @@ impl GroupSoFar {
 }
 
 // The accesses in the order that the record gives, if it is no refusal and its first `count` places are numbers of accesses.
+// It looks at the answer's number, since the record is laid out for C and may come from anywhere.
 fn accesses_named(order: &Ordered) -> Option<&[u8]>
     ensures some { IfSome result (λ numbers. Named order.now numbers.now) }
     ensures none { IfNone result (names_accesses order.now ≡ false) }

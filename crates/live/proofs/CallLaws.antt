@@ -1,16 +1,10 @@
 -- What a call on a queue's parts gives, told as numbers.
-use Prim.Native.Nat.{ℕ}
-use mathlib.Core.Path.{◌≡◌, refl, ap, ◌∙◌}
-use mathlib.Core.List.{List, []}
-use mathlib.Core.Option.{Option}
+use mathlib.Core.Path.{◌≡◌, ap}
 use Rattle.counts.specs.declared.Counts.{Counts}
 use Rattle.queue.specs.declared.Queue.{Queue}
 use Rattle.number.specs.Reply.{Reply, refuse, accept, and_then}
-use Rattle.queue.specs.Contents.{Contents}
 use Rattle.queue.specs.Serve.{Served}
-use Rattle.queue.specs.Write.{Written}
-use Rattle.queue.specs.Take.{Taken}
-use Rattle.queue.specs.Outcome.{Outcome, Counted, HandedCounts, Accepted, Moves, Takes, Writes, Serves}
+use Rattle.queue.specs.Outcome.{Outcome, Counted, HandedCounts, Serves}
 use Rattle.replay.specs.Playing.{given_in, word_in, after_serve}
 use Rattle.live.specs.Internal.{told_of, told_served}
 use Rattle.live.specs.Calls as Live

@@ -13,7 +13,8 @@ use table::read::read_table;
 use table::write::write_table;
 use trace::writing::write_event_of;
 
-// What writing hands back: 0 and how many bytes were written, or the refusal and 0.
+// What writing hands back: 0 and how many bytes were written, or the refusal and 0. `LiveWritten` and `TableFound` have a number with
+// a value beside it, and are no `Result`, since C gets them.
 #[repr(C)]
 #[derive(Clone, Copy)]
 pub struct LiveWritten {
@@ -30,18 +31,20 @@ pub struct TableFound {
 }
 
 // The numbers of a writer's answer.
-pub(crate) fn live_written(written: Result<usize, Refusal>) -> LiveWritten
-    ensures { result ≡ live_written (written_reply written) }
-{
-    match written {
-        Ok(count) => LiveWritten {
-            answer: 0,
-            count: count as u64,
-        },
-        Err(refusal) => LiveWritten {
-            answer: refusal.number() as u32,
-            count: 0,
-        },
+impl From<Result<usize, Refusal>> for LiveWritten {
+    ghost from_gives = { λ written told. told ≡ live_written (written_reply written) };
+
+    fn from(written: Result<usize, Refusal>) -> LiveWritten {
+        match written {
+            Ok(count) => LiveWritten {
+                answer: 0,
+                count: count as u64,
+            },
+            Err(refusal) => LiveWritten {
+                answer: refusal.number() as u32,
+                count: 0,
+            },
+        }
     }
 }
 
@@ -65,8 +68,7 @@ pub extern "C" fn lsq_write_table(table: Table, out: &mut [u8]) -> LiveWritten
     ensures answer { result ≡ live_written (wrote_table (groups_of table) out.old).answer }
     ensures buffer { out.new ≡ (wrote_table (groups_of table) out.old).buffer }
 {
-    let written = write_table(&table, out);
-    live_written(written)
+    LiveWritten::from(write_table(&table, out))
 }
 
 // Writes an event, by its kind and its numbers, at the front of a buffer: 35, then 10.
@@ -75,8 +77,7 @@ pub extern "C" fn lsq_write_event(kind: u32, first: u32, second: u32, out: &mut 
     ensures answer { result ≡ live_written (wrote_event_of kind first second out.old).answer }
     ensures buffer { out.new ≡ (wrote_event_of kind first second out.old).buffer }
 {
-    let written = write_event_of(kind, first, second, out);
-    live_written(written)
+    LiveWritten::from(write_event_of(kind, first, second, out))
 }
 
 // Writes a number at the front of a buffer, in the fewest bytes: 10.
@@ -85,6 +86,5 @@ pub extern "C" fn lsq_write_number(value: u32, out: &mut [u8]) -> LiveWritten
     ensures answer { result ≡ live_written (wrote (number_bytes value) out.old).answer }
     ensures buffer { out.new ≡ (wrote (number_bytes value) out.old).buffer }
 {
-    let written = write_number(value, out);
-    live_written(written)
+    LiveWritten::from(write_number(value, out))
 }

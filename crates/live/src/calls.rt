@@ -35,7 +35,9 @@ use replay::playing::{value_given, value_word};
 use table::Table;
 use table::read::read_table;
 
-// What opening hands back: its answer and the frame of a queue with no entry, so what the runs hold means nothing yet.
+// What opening hands back: its answer and the frame of a queue with no entry, so what the runs hold means nothing yet. `LiveOpened`,
+// `LiveStep`, `LiveService` and `LiveReady` have an answer's number with values beside it, and are no `Result`, since C gets them; for
+// the same reason the calls answer a number, 0 where they are accepted.
 #[repr(C)]
 #[derive(Clone, Copy)]
 pub struct LiveOpened {
@@ -73,7 +75,8 @@ pub struct LiveReady {
     pub count: u64,
 }
 
-// The numbers of an answer to a call that may move the sides, and both sides as they are left.
+// The numbers of an answer to a call that may move the sides, and both sides as they are left. It and `live_service` are no `From`,
+// since they make a record of two things.
 fn live_step(answer: Result<Option<u32>, Refusal>, frame: &Frame) -> LiveStep
     ensures { result ≡ live_step answer frame.now }
 {
@@ -99,18 +102,20 @@ fn live_service(answer: Result<Option<u32>, Refusal>, counts: Counts) -> LiveSer
 }
 
 // The numbers of an answer that counts serials.
-fn live_ready(answer: Result<usize, Refusal>) -> LiveReady
-    ensures { result ≡ live_ready answer }
-{
-    match answer {
-        Ok(count) => LiveReady {
-            answer: 0,
-            count: count as u64,
-        },
-        Err(refusal) => LiveReady {
-            answer: refusal.number() as u32,
-            count: 0,
-        },
+impl From<Result<usize, Refusal>> for LiveReady {
+    ghost from_gives = { λ answer told. told ≡ live_ready answer };
+
+    fn from(answer: Result<usize, Refusal>) -> LiveReady {
+        match answer {
+            Ok(count) => LiveReady {
+                answer: 0,
+                count: count as u64,
+            },
+            Err(refusal) => LiveReady {
+                answer: refusal.number() as u32,
+                count: 0,
+            },
+        }
     }
 }
 
@@ -308,7 +313,7 @@ pub extern "C" fn lsq_ready_loads_in(
         let rule = on_parts loads.now stores.now (ready load (contents_of q) out.old) in
         Readies q out.old rule (live_readied result q) out.new }
 {
-    live_ready(ready_in(&frame, loads, stores, Kind::Load, out))
+    LiveReady::from(ready_in(&frame, loads, stores, Kind::Load, out))
 }
 
 // The same for stores and write.
@@ -323,5 +328,5 @@ pub extern "C" fn lsq_ready_stores_in(
         let rule = on_parts loads.now stores.now (ready store (contents_of q) out.old) in
         Readies q out.old rule (live_readied result q) out.new }
 {
-    live_ready(ready_in(&frame, loads, stores, Kind::Store, out))
+    LiveReady::from(ready_in(&frame, loads, stores, Kind::Store, out))
 }

@@ -4,7 +4,7 @@ ghost use Rattle.shift.specs.Record.{recorded};
 ghost use Rattle.shift.specs.Page.{page_written};
 ghost use Rattle.live.specs.Bytes.{live_written};
 
-use crate::bytes::{LiveWritten, live_written};
+use crate::bytes::LiveWritten;
 use shift::ShiftRecord;
 use shift::page::write_page;
 
@@ -24,6 +24,5 @@ pub extern "C" fn lsq_page(kept: ShiftRecord, out: &mut [u8]) -> LiveWritten
     ensures answer { result ≡ live_written (page_written kept out.old).answer }
     ensures buffer { out.new ≡ (page_written kept out.old).buffer }
 {
-    let written = write_page(&kept, out);
-    live_written(written)
+    LiveWritten::from(write_page(&kept, out))
 }

@@ -19,7 +19,7 @@ pub const MOST_PAIRS: usize = 64;
 
 // A pair: the access `first` has to come before the access `second`. C hands pairs in, so it is laid out as in C.
 #[repr(C)]
-#[derive(Clone, Copy, PartialEq, Eq)]
+#[derive(Clone, Copy, PartialEq, Eq, Default)]
 pub struct Precedence {
     pub first: u32,
     pub second: u32,
@@ -27,7 +27,7 @@ pub struct Precedence {
 
 // As many pairs as the count says. Places beyond it mean nothing. An array with a count, and no slice, since C hands it in.
 #[repr(C)]
-#[derive(Clone, Copy, PartialEq, Eq)]
+#[derive(Clone, Copy, PartialEq, Eq, Default)]
 pub struct Precedences {
     pub count: u32,
     pub pairs: [Precedence; MOST_PAIRS],

@@ -75,7 +75,7 @@ fn main(rt: HostRuntime) -> io::Result<()> {
     let mut text = large_buffer();
     let count = read_full(&mut rt.stdin(), &mut text);
     let mut out = rt.stdout();
-    let mut kept = pairs::none();
+    let mut kept = Precedences::default();
     for line in lines_of(&text[..count]) {
         one_line(&mut out, &mut kept, line)?;
         out.write_all(b"\n")?;

@@ -1,17 +1,5 @@
 // The pairs that are handed over, and what a line's bytes make of them.
-use ordering::{MOST_PAIRS, Precedence, Precedences};
-
-// No pairs. Every place has 0 before 0, which would be a circle if it counted.
-pub(crate) fn none() -> Precedences {
-    let blank = Precedence {
-        first: 0,
-        second: 0,
-    };
-    Precedences {
-        count: 0,
-        pairs: [blank; MOST_PAIRS],
-    }
-}
+use ordering::{Precedence, Precedences};
 
 // Sets the pair at a place, and leaves the count. There is nothing beyond the last place.
 pub(crate) fn set(kept: &mut Precedences, place: usize, first: u32, second: u32) {
@@ -28,7 +16,7 @@ fn push(kept: &mut Precedences, first: u32, second: u32) {
 
 // The pairs in some bytes, a digit for each access.
 pub(crate) fn of_digits(bytes: &[u8]) -> Precedences {
-    let mut pairs = none();
+    let mut pairs = Precedences::default();
     for digits in bytes {
         push(&mut pairs, (*digits / 16) as u32, (*digits % 16) as u32);
     }

@@ -1,4 +1,5 @@
-// Printing what ordering answers.
+// Printing what ordering answers. A function, and no `Display`: the record is another crate's, and this is the script's form of it. Its
+// answer is a number, since it is laid out for C.
 use ordering::Ordered;
 use script::print_all;
 use std::io;

@@ -11,7 +11,8 @@ use crate::put::put_item;
 use counts::Counts;
 use number::texts::put_bytes;
 
-// Puts an event's line: its number, its answer, and the value or `-`.
+// Puts an event's line: its number, its answer, and the value or `-`. All are numbers, as a replay puts them into the buffers that C
+// lends, and whatever stands there is printed.
 fn put_event(out: &mut [u8], at: usize, number: u64, answer: u8, given: u8, word: u32) -> usize
     requires { at + 63 ≤ length out.old }
     ensures { Puts out.old at (event_line number (logged_as answer given word)) result out.new }
@@ -85,7 +86,7 @@ pub(crate) fn put_run(out: &mut [u8], room: &PlayRoom, run: FilesRun) -> usize
     put_counts(out, place, run.counts)
 }
 
-// Puts a word and a number as a line at a buffer's front, where it fits.
+// Puts a word and a number as a line at a buffer's front, where it fits. The number may be any, and no `Refusal` (`put_fault`).
 fn put_line(out: &mut [u8], word: &[u8], number: u8) -> usize
     requires { length word.now ≤ 11 }
     ensures { PutIfFits out.old 0 (item word.now number 10) result out.new }

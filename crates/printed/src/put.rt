@@ -1,4 +1,5 @@
-// Putting bytes at a place of a buffer where they fit. Each function says where they end.
+// Putting bytes at a place of a buffer where they fit. Each function says where they end. It is no `write!`, here and in `lines`: what is
+// put is known to fit, and each `write!` would answer a `Result` that is never an error.
 ghost use Rattle.std.specs.Prelude.{◌+◌, ◌≤◌, ◌<◌, length};
 ghost use Rattle.number.specs.Texts.{digits_up_to};
 ghost use Rattle.number.specs.Number.{Puts};
@@ -6,7 +7,8 @@ ghost use Rattle.printed.specs.Internal.{item};
 
 use number::texts::put_bytes;
 
-// Puts a number's digits: one, and up to `more` before it.
+// Puts a number's digits: one, and up to `more` before it. It calls itself, and is no loop: the first digit is put first and known last,
+// so a loop would need their number before.
 fn put_digits(out: &mut [u8], at: usize, n: u64, more: u32) -> usize
     requires { at + length (digits_up_to more n) ≤ length out.old }
     ensures { Puts out.old at (digits_up_to more n) result out.new }

@@ -1,4 +1,4 @@
-// The text of both files, in a buffer whose bytes are EE before.
+// The text of both files, in a buffer whose bytes are EE before. What is shown is no `Display`: it is bytes, and another crate's answer.
 use crate::files::Files;
 use number::refusal::Refusal;
 use printed::text;

@@ -20,7 +20,8 @@ pub enum Argument {
     StoreData,
 }
 
-// The kind of access that an argument is for.
+// The kind of access that an argument is for. It and `mark_of` have names, and are no `From`: an argument has a kind and a mark, and is
+// neither.
 fn kind_of(argument: Argument) -> Kind
     ensures { result ≡ kind_of argument }
 {

@@ -1,4 +1,5 @@
-// Entries: the number that one is packed into, and the oldest that lacks something.
+// Entries: the number that one is packed into, and the oldest that lacks something. Packing has functions with names, and no `From`,
+// which would not say that a number is packed.
 ghost use Rattle.std.specs.Prelude.{◌≡◌, ◌≤◌, length};
 ghost use Rattle.queue.specs.Entry.{entry_of, unpacked, number_of};
 ghost use Rattle.queue.specs.Contents.{entries_held};

@@ -30,7 +30,8 @@ pub enum Kind {
     Store,
 }
 
-// An access that was activated, a load or a store. A queue holds it packed into a number (`entries`).
+// An access that was activated, a load or a store. A queue holds it packed into a number (`entries`). Marks stand beside the address and
+// the word, and no `Option`: an entry is all that its number holds, which may have a word without its mark (`unpack`, `pack`).
 #[derive(Clone, Copy, PartialEq, Eq)]
 pub struct Entry {
     pub port: u8,

@@ -4,7 +4,7 @@ use queue::{Entry, entries};
 use std::io;
 use std::io::Write;
 
-// All seven fields, whether or not they mean anything; a mark is said where it is set.
+// All seven fields, whether or not they mean anything; a mark is said where it is set. No `Display`: the type is another crate's.
 fn show_fields(out: &mut impl Write, entry: Entry) -> io::Result<()> {
     write!(out, ": port {} before {}", entry.port, entry.before)?;
     write!(out, " address {} word {}", entry.address, entry.word)?;

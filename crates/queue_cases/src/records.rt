@@ -16,7 +16,7 @@ fn half(numbers: &[u64], place: usize) -> u16 {
     (word(numbers, place) % 65536) as u16
 }
 
-// Of the numbers: port, remembered number, addressed, address, filled (served), word, finished.
+// Of the numbers: port, remembered number, addressed, address, filled (served), word, finished. No `From`, which would not say so.
 pub(crate) fn entry_of(numbers: &[u64]) -> Entry {
     Entry {
         port: byte(numbers, 0),

@@ -52,20 +52,18 @@ pub(crate) fn copied(memory: &Memory) -> Memory {
 }
 
 impl Run {
+    // No `Default`, since a queue has none: it is opened.
     pub(crate) fn fresh() -> Run {
         Run {
             queue: no_queue(),
             table: Table::none(),
             memory: Memory::new(),
-            counts: Counts {
-                loads: 0,
-                forwarded: 0,
-            },
+            counts: Counts::default(),
             kept: ShiftRecord::none(),
         }
     }
 
-    // All that is held, for calls that are not to change it.
+    // All that is held, for calls that are not to change it. No derived `Clone`: that of the memory answers a `Result`, as if it could fail.
     pub(crate) fn copy(&self) -> Run {
         Run {
             queue: self.queue,

@@ -1,4 +1,5 @@
-// Printing: what a call hands back, and what a queue holds.
+// Printing: what a call hands back, and what a queue holds. They are functions, and no `Display`: the types are other crates', and this is
+// the script's form of them.
 use number::refusal::Refusal;
 use queue::entries::unpack;
 use queue::{Entry, Kind, Side};
@@ -25,11 +26,11 @@ pub(crate) fn same(out: &mut impl Write, text: &str, is_same: bool) -> io::Resul
 }
 
 // Words, and a number that is there or not.
-fn optional(out: &mut impl Write, text: &str, there: bool, value: u32) -> io::Result<()> {
-    if there {
-        return write!(out, "{text} {value}");
+fn optional(out: &mut impl Write, text: &str, number: Option<u32>) -> io::Result<()> {
+    match number {
+        Some(value) => write!(out, "{text} {value}"),
+        None => write!(out, "{text} -"),
     }
-    write!(out, "{text} -")
 }
 
 // A word that is said where it holds.
@@ -51,9 +52,13 @@ fn words(out: &mut impl Write, kind: Kind, load: &str, store: &str) -> io::Resul
 fn entry(out: &mut impl Write, kind: Kind, serial: u32, entry: Entry) -> io::Result<()> {
     words(out, kind, "\n  load ", "\n  store ")?;
     write!(out, "{serial} port {} before {}", entry.port, entry.before)?;
-    optional(out, " address", entry.addressed, entry.address as u32)?;
+    optional(
+        out,
+        " address",
+        entry.addressed.then_some(entry.address as u32),
+    )?;
     words(out, kind, " value", " data")?;
-    optional(out, "", entry.filled, entry.word)?;
+    optional(out, "", entry.filled.then_some(entry.word))?;
     if entry.finished {
         words(out, kind, " taken", " written")?;
     }

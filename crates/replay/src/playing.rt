@@ -49,7 +49,8 @@ pub(crate) fn play_event(
     }
 }
 
-// 1 where an answer gives a value, else 0.
+// 1 where an answer gives a value, else 0. It and `value_word` have names, and are no `From`: each tells a part of an answer, as C is
+// told it.
 pub fn value_given(answer: Result<Option<u32>, Refusal>) -> u8
     ensures { result ≡ given_in (value_of answer) }
 {

@@ -17,7 +17,8 @@ use queue::Queue;
 use table::Table;
 use trace::reading::read_event;
 
-// Plays the events from a place on, which can all be read, and says how many they are.
+// Plays the events from a place on, which can all be read, and says how many they are. A `while let`, as in `count_events`: only an
+// event says where the next one begins. They share no loop with a closure, which would be longer than the loop.
 fn play_all(
     mut queue: Queue,
     counts: &mut Counts,

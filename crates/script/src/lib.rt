@@ -24,7 +24,8 @@ pub type Numbers = ArrayVec<u64, 8>;
 // The bytes of a line.
 pub type Bytes = ArrayVec<u8, 128>;
 
-// The numbers that are read so far. The last of them is `bare` where only its space is read, and no digit yet.
+// The numbers that are read so far. The last of them is `bare` where only its space is read, and no digit yet: a mark beside them, and
+// no `Option`, since there are numbers either way.
 #[derive(Drop)]
 struct NumbersRead {
     numbers: Numbers,
@@ -100,7 +101,7 @@ fn until(text: &[u8], byte: u8) -> usize
     text.iter().take_while(|b| **b != byte).count()
 }
 
-// The place of the next such byte, or the end.
+// The place of the next such byte, or the end. No `Option`: a part of a line goes up to the byte or up to the end alike.
 pub fn next_byte(text: &[u8], from: usize, byte: u8) -> usize
     ensures { NextByte text.now from byte result }
 {
@@ -219,7 +220,7 @@ pub fn named<T: Copy>(table: &[(&[u8], T)], word: &[u8]) -> Option<T>
     None
 }
 
-// The largest number that a letter stands for.
+// The largest number that a letter stands for. A letter, and no enum: a command's shape is eight letters of a text (`takes`).
 fn most(letter: u8) -> u64
     ensures { result ≡ most_of letter }
 {
@@ -254,7 +255,8 @@ fn number_at(numbers: &[u64], place: usize) -> Option<u64>
     numbers.get(place).copied()
 }
 
-// The number at a place as one of 32 bits or of 8; 0 where there is none. Of a larger number it is the remainder.
+// The number at a place as one of 32 bits or of 8; 0 where there is none. Of a larger number it is the remainder, where `TryFrom` would
+// refuse it.
 pub fn word(numbers: &[u64], place: usize) -> u32
     ensures { result ≡ unwrap_or (slice_get numbers.now place) 0 % 2 ^ 32 }
 {
@@ -278,7 +280,8 @@ pub fn print_all<W: Write, T: Display>(out: &mut W, values: &[T]) -> io::Result<
     Ok(())
 }
 
-// Does a command take these numbers? Eight letters for each command say so.
+// Does a command take these numbers? Eight letters for each command say so. The command is a number, its place among the shapes, as
+// `taken` has it: `script` knows no program's enum of commands.
 pub fn takes(shapes: &[u8], command: usize, numbers: &[u64]) -> bool
     ensures { result ≡ taken shapes.now command numbers.now }
 {

@@ -1,4 +1,5 @@
-// The page: a header, a line for each load port, and a footer.
+// The page: a header, a line for each load port, and a footer. It is put with no `write!`: what is put is known to fit, and each `write!`
+// would answer a `Result` that is never an error.
 ghost use Rattle.std.specs.Prelude.{◌≡◌, ◌+◌, ◌*◌, ◌≤◌, ◌<◌, ◌^◌, ◌%◌, eqb, length};
 ghost use Rattle.number.specs.Basics.{pick, flat_map};
 ghost use Rattle.number.specs.Number.{HasWritten, Puts};

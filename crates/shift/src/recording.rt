@@ -11,7 +11,7 @@ use number::refusal::Refusal;
 use queue::Queue;
 
 impl ShiftRecord {
-    // The record before any take.
+    // The record before any take. It has a name, and is no `Default`, which would not say that nothing was taken.
     pub fn none() -> ShiftRecord
         ensures { result ≡ no_takes }
     {

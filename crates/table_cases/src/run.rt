@@ -12,6 +12,7 @@ pub(crate) struct Run {
 }
 
 impl Run {
+    // No `Default`, since a table has none (`Table::none`).
     pub(crate) fn fresh() -> Run {
         Run {
             bytes: Bytes::new(),

@@ -1,4 +1,5 @@
-// Printing what the calls answer.
+// Printing what the calls answer. They are functions, and no `Display`: the types are other crates', and this is
+// the script's form of them.
 use number::refusal::Refusal;
 use std::io;
 use std::io::Write;

@@ -12,6 +12,7 @@ use table::write::write_table;
 use trace::Header;
 use trace::writing::{write_event_of, write_header};
 
+// Of the numbers: what stands before the header's own, then these in their order. No `From`, which would not say so.
 fn header_of(numbers: &[u64]) -> Header {
     Header {
         load_depth: word(numbers, 1),

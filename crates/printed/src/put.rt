@@ -1,4 +1,5 @@
-// Putting bytes at a place of a buffer where they fit. Each function says where they end.
+// Putting bytes at a place of a buffer where they fit. Each function says where they end, as `put_bytes` does (`number::texts`). Words are
+// bytes and no `&str`: they only go among the bytes of a buffer.
 ghost use Rattle.std.specs.Prelude.{◌+◌, ◌≤◌, ◌<◌, length};
 ghost use Rattle.number.specs.Texts.{digits_up_to};
 ghost use Rattle.number.specs.Number.{Puts};

@@ -80,7 +80,9 @@ fn served(
     word
 }
 
-// Serve the load at a place: 25, 26, 27, 28, 29.
+// Serve the load at a place: 25, 26, 27, 28, 29. That the parts were found sound (`Checked`) is asked here, by `write_at` and by
+// `ready_serials`: each is called once, right behind the test, and all of the parts, some or none are lent to be changed, so no one type
+// of lent parts would do.
 fn serve_at(
     frame: &Frame,
     load_entries: &mut [u64],

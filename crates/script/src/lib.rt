@@ -2,7 +2,7 @@
 
 #![tactic(auto)]
 
-ghost use Rattle.std.specs.Prelude.{◌≡◌, ◌%◌, ◌^◌, drop, slice_get, OnOk, IfSome};
+ghost use Rattle.std.specs.Prelude.{◌≡◌, ◌%◌, ◌^◌, ◌++◌, ◌∷◌, [], true, drop, slice_get, OnOk, IfSome};
 ghost use Rattle.script.specs.Shapes.{most_of, fits_of, taken, numbers_as};
 ghost use Rattle.std.specs.Io.KnownBytes.{Appends};
 ghost use Rattle.script.specs.Printed.{all_spaced};
@@ -276,6 +276,26 @@ pub fn print_all<W: Write, T: Display>(out: &mut W, values: &[T]) -> io::Result<
         write!(out, "{value}")?;
     }
     Ok(())
+}
+
+// What a script works on, which knows what each line does.
+pub trait Obeys {
+    // What a line does, or nothing where it is no command.
+    fn obey<W: Write>(&mut self, out: &mut W, line: &[u8]) -> Option<io::Result<()>>;
+}
+
+// A line of a script: it is echoed, and behind it stands what it does, or a question mark where it is no command. A heading does nothing.
+pub fn one_line<W: Write, K: Obeys>(out: &mut W, kept: &mut K, line: &[u8]) -> io::Result<()>
+    ensures { OnOk result (is_text line.now ≡ true → Appends (W.contents out.old) (W.contents out.new) (line.now ++ 10 ∷ [])) }
+{
+    out.write_all(line)?;
+    if !is_text(line) {
+        match kept.obey(out, line) {
+            Some(obeyed) => obeyed?,
+            None => out.write_all(b" ?")?,
+        }
+    }
+    out.write_all(b"\n")
 }
 
 // Does a command take these numbers? Eight letters for each command say so.

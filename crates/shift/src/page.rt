@@ -1,4 +1,4 @@
-// The page: a header, a line for each load port, and a footer.
+// The page: a header, a line for each load port, and a footer. A place goes in and the end comes out, as in `put_bytes` (`number::texts`).
 ghost use Rattle.std.specs.Prelude.{◌≡◌, ◌+◌, ◌*◌, ◌≤◌, ◌<◌, ◌^◌, ◌%◌, eqb, length};
 ghost use Rattle.number.specs.Basics.{pick, flat_map};
 ghost use Rattle.number.specs.Number.{HasWritten, Puts};

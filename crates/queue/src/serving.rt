@@ -1,5 +1,6 @@
 // Serving loads, as S-7 has it: the earlier stores are walked back, nearest first, to the one that decides where the load's word comes
-// from. A load that a store supplies counts as forwarded.
+// from. A load that a store supplies counts as forwarded. The memory and the counts are lent one by one: `serve` and `serve_in` are public,
+// and C lends the one and hands the other in (`lsq_serve_in`).
 ghost use Rattle.std.specs.Prelude.{◌≡◌, ◌<◌, length};
 ghost use Rattle.counts.specs.Counts.{counted};
 ghost use Rattle.queue.specs.Entry.{entry_of, with_word};

@@ -1,4 +1,5 @@
-// The parts of a line of a script: where a part ends, decimal numbers, bytes in hexadecimal. What the programs of cases share.
+// The parts of a line of a script: where a part ends, decimal numbers, bytes in hexadecimal. What the programs of cases share. Lines are
+// bytes and no `&str`: a program reads bytes, which need be no text, and a name that it knows is compared with them.
 
 #![tactic(auto)]
 
@@ -191,6 +192,7 @@ fn byte_step(mut read: BytesRead, byte: u8) -> Option<BytesRead>
 }
 
 // The bytes of a line from a place on, each two digits with one space before them, if there is nothing else and they are at most 128.
+// Not one function with `numbers_of`: what is read so far, the step and the end differ, which is all but the `for`.
 pub fn bytes_of(line: &[u8], from: usize) -> Option<Bytes>
     ensures { result ≡ bytes_from line.now from }
 {
@@ -285,6 +287,7 @@ pub trait Obeys {
 }
 
 // A line of a script: it is echoed, and behind it stands what it does, or a question mark where it is no command. A heading does nothing.
+// Each program goes through its lines in `main`: a loop here would have to say what all of them do.
 pub fn one_line<W: Write, K: Obeys>(out: &mut W, kept: &mut K, line: &[u8]) -> io::Result<()>
     ensures { OnOk result (is_text line.now ≡ true → Appends (W.contents out.old) (W.contents out.new) (line.now ++ 10 ∷ [])) }
 {

@@ -47,7 +47,8 @@ fn group_fits(group: Group, load_depth: u32, store_depth: u32) -> bool
     group.loads.count as u32 <= load_depth && group.stores.count as u32 <= store_depth
 }
 
-// That the table has at most 16 groups is asked here and by `has_port`, each once, behind the check: a type for it would have no other use.
+// That the table has at most 16 groups is asked here and by `has_port`, both behind the check of the table: a type for it would have no
+// other use.
 fn groups_fit(table: &Table, load_depth: u32, store_depth: u32) -> bool
     requires { table.now.count ≤ 16 }
     ensures { result ≡ all_of (group_fits load_depth store_depth) (groups_of table.now) }

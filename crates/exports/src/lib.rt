@@ -1,6 +1,7 @@
 // Functions for C and Rust to link: tables and traces as bytes, replays as numbers in lent runs. A name is the whole
 // program's, as in C, so each begins with `lsq_`. Whatever is handed in, each answers as its contract says: a number, with 0 for none
-// or for accepted, where a function for Rattle alone answers a `Result`.
+// or for accepted, where a function for Rattle alone answers a `Result`. Every parameter is as C hands it in (bindings/c/lsq.h), so files,
+// memory, counts and buffers are runs of their own; and C has a function for each number that is told of a trace, alike but for the number.
 
 #![tactic(auto)]
 

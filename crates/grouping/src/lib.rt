@@ -39,7 +39,8 @@ impl PairList {
     }
 }
 
-// A group in the making: its loads and its stores so far.
+// A group in the making: its loads and its stores so far. Lists of its own, though `table` has such a list for itself: there the places go
+// into a table that has others already, and here they are the table's.
 #[derive(Clone, Copy, Default)]
 struct GroupSoFar {
     loads: PairList,

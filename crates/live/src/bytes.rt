@@ -1,4 +1,5 @@
-// For C and Rust: a table read into its record, and tables, events and numbers written to lent buffers.
+// For C and Rust: a table read into its record, and tables, events and numbers written to lent buffers. C has a function for each, and a
+// record for each answer: `lsq_write_table`, `lsq_write_event`, `lsq_write_number` and `lsq_page` are alike but for what they write.
 ghost use Rattle.std.specs.Prelude.{◌≡◌};
 ghost use Rattle.number.specs.Number.{number_bytes, written_reply, wrote};
 ghost use Rattle.table.specs.Table.{groups_of};

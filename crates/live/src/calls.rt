@@ -1,6 +1,8 @@
 // Live calls for C and Rust: a queue is a frame, which goes in and out by value as a C struct, and two runs of 64 numbers, its
 // packed entries, which are lent. It is plain data with no pointer inside. Whatever a host hands in is tested (40), a run of
-// another length first of all. The frame is lent on to the queue's own calls: between them no table is copied.
+// another length first of all. The frame is lent on to the queue's own calls: between them no table is copied. The names, the records
+// and the parameters are C's (bindings/c/lsq.h): so each argument, each call that moves and each that lists has its function, a frame
+// goes with two runs, and the numbers of opening are loose. What is alike is said once, in `live_step`, `live_ready` and `queue`.
 ghost use Rattle.std.specs.Prelude.{◌≡◌, ◌&&◌};
 ghost use Rattle.queue.specs.Entry.{bit};
 ghost use Rattle.queue.specs.Contents.{contents_of};
@@ -89,7 +91,7 @@ fn live_step(answer: Result<Option<u32>, Refusal>, frame: &Frame) -> LiveStep
     }
 }
 
-// The numbers of an answer to a serve, and the counts that follow.
+// The numbers of an answer to a serve, and the counts that follow. The first three are told as in `live_step`, but C has two records.
 fn live_service(answer: Result<Option<u32>, Refusal>, counts: Counts) -> LiveService
     ensures { result ≡ live_service answer counts }
 {

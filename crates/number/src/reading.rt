@@ -21,7 +21,8 @@ fn ended_by(at: usize, next: usize, last: u32, value: u32) -> Result<(u32, usize
     Ok((value, next))
 }
 
-// Reads the number at a place, byte by byte: each counts 128 times what the one before it does. A place past the end is the end.
+// Reads the number at a place, byte by byte: each counts 128 times what the one before it does. A place past the end is the end. The
+// place goes beside the bytes: where the number ends is told as a place of the same bytes, which a slice from a place on would not know.
 pub fn read_number(bytes: &[u8], at: usize) -> Result<(u32, usize), Refusal>
     ensures { number_reply result ≡ read_in bytes.now (read_number (drop at bytes.now)) }
 {

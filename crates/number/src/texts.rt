@@ -1,4 +1,6 @@
-// Putting texts at a place of a buffer.
+// Putting texts at a place of a buffer. Here, in `writing` and wherever bytes are put, the place goes in beside the buffer and the end comes
+// out: one clause (`Puts`, `PutIfFits`) then says what a call put. A writer that keeps its place would have to be spoken of before and after,
+// and callers hand in any place.
 ghost use Rattle.number.specs.Number.{PutIfFits};
 
 // Puts some bytes at a place, and says where they end. Where they do not fit, it puts nothing and says the place itself: no `Option`,

@@ -18,7 +18,7 @@ pub fn number_length(value: u32) -> usize
 }
 
 // Puts a number's bytes at a place where they fit, and says where they end. A `while`, and no `for`: what is left of the number ends it,
-// and a `for` over the places would first need their number.
+// and a `for` over the places would first need their number. The length is counted without this walk, from the bits.
 fn put_fitting(out: &mut [u8], at: usize, value: u32) -> usize
     requires { at + length (number_bytes value) ≤ length out.old }
     ensures { Puts out.old at (number_bytes value) result out.new }
@@ -35,7 +35,8 @@ fn put_fitting(out: &mut [u8], at: usize, value: u32) -> usize
 }
 
 // Puts a number's bytes at a place, and says where they end. Where they do not fit, it puts nothing and says the place itself: no
-// `Option`, since `PutIfFits` promises a place to every caller.
+// `Option`, since `PutIfFits` promises a place to every caller. Not by `put_bytes`, which tests the same: the bytes would first have to
+// be made elsewhere.
 pub fn put_number(out: &mut [u8], at: usize, value: u32) -> usize
     ensures { PutIfFits out.old at (number_bytes value) result out.new }
 {
@@ -49,7 +50,8 @@ pub fn put_number(out: &mut [u8], at: usize, value: u32) -> usize
     put_fitting(out, at, value)
 }
 
-// Writes a number at the front of a buffer, in the fewest bytes.
+// Writes a number at the front of a buffer, in the fewest bytes. What else is written to lent buffers has the same steps (`write_numbers`,
+// `write_table`, `write_page`): one function would take a closure that puts, with what it has to say of the buffer, for these four lines.
 pub fn write_number(value: u32, out: &mut [u8]) -> Result<usize, Refusal>
     ensures { HasWritten (wrote (number_bytes value) out.old) result out.new }
 {

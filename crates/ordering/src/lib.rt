@@ -70,7 +70,7 @@ impl<'a> Asked<'a> {
     }
 
     // Marks the accesses that are not ready: those that are placed, and those that a waiting one has to come before. It looks at each
-    // pair once, where asking access by access would look at every pair for each.
+    // pair once, where asking access by access would look at every pair for each. An array of marks: a set of the library takes a heap.
     fn unready(&self, placed: &[bool; MOST_ACCESSES]) -> [bool; MOST_ACCESSES]
         ensures { Unready self.now.accesses self.now.pairs.now placed.now result }
     {

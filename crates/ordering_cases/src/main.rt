@@ -7,7 +7,7 @@ mod pairs;
 mod show;
 
 use ordering::{Precedences, order};
-use script::{bytes_of, is_text, lines_of, named, next_byte, numbers_as, word};
+use script::{Obeys, bytes_of, lines_of, named, next_byte, numbers_as, one_line, word};
 use std::io;
 use std::io::Write;
 use streams::{large_buffer, read_full};
@@ -33,41 +33,39 @@ const COMMANDS: [(&[u8], Command); 7] = [
     (b"chain", Command::Chain),
 ];
 
-// What a line does, or nothing where it is no command. Of numbers, `p` stands for one to 63, `w` for one of 32 bits.
-fn obey(out: &mut impl Write, kept: &mut Precedences, line: &[u8]) -> Option<io::Result<()>> {
-    let end = next_byte(line, 0, b' ');
-    match named(&COMMANDS, &line[..end])? {
-        Command::Far => {
-            let numbers = numbers_as(b"pww.....", line, end)?;
-            let place = word(&numbers, 0) as usize;
-            pairs::set(kept, place, word(&numbers, 1), word(&numbers, 2));
-        }
-        Command::Count => kept.count = word(&numbers_as(b"w.......", line, end)?, 0),
-        Command::Order => {
-            let accesses = word(&numbers_as(b"w.......", line, end)?, 0);
-            return Some(show::ordered(out, &order(accesses, kept)));
-        }
-        Command::Small => {
-            let bytes = bytes_of(line, end)?;
-            let (accesses, digits) = bytes.split_first()?;
-            let given = order(*accesses as u32, &pairs::of_digits(digits));
-            return Some(show::ordered(out, &given));
-        }
-        Command::Pairs => pairs::replace(kept, &bytes_of(line, end)?)?,
-        Command::MorePairs => pairs::repeat(kept, &bytes_of(line, end)?)?,
-        Command::Chain => pairs::chain(kept, &bytes_of(line, end)?)?,
-    }
-    Some(Ok(()))
+// What is kept between lines: the pairs that are handed over.
+#[derive(Drop)]
+struct Kept {
+    pairs: Precedences,
 }
 
-fn one_line(out: &mut impl Write, kept: &mut Precedences, line: &[u8]) -> io::Result<()> {
-    out.write_all(line)?;
-    if is_text(line) {
-        return Ok(());
-    }
-    match obey(out, kept, line) {
-        Some(obeyed) => obeyed,
-        None => out.write_all(b" ?"),
+impl Obeys for Kept {
+    // Of the letters of numbers, `p` stands for one to 63, `w` for one of 32 bits.
+    fn obey<W: Write>(&mut self, out: &mut W, line: &[u8]) -> Option<io::Result<()>> {
+        let kept = &mut self.pairs;
+        let end = next_byte(line, 0, b' ');
+        match named(&COMMANDS, &line[..end])? {
+            Command::Far => {
+                let numbers = numbers_as(b"pww.....", line, end)?;
+                let place = word(&numbers, 0) as usize;
+                pairs::set(kept, place, word(&numbers, 1), word(&numbers, 2));
+            }
+            Command::Count => kept.count = word(&numbers_as(b"w.......", line, end)?, 0),
+            Command::Order => {
+                let accesses = word(&numbers_as(b"w.......", line, end)?, 0);
+                return Some(show::ordered(out, &order(accesses, kept)));
+            }
+            Command::Small => {
+                let bytes = bytes_of(line, end)?;
+                let (accesses, digits) = bytes.split_first()?;
+                let given = order(*accesses as u32, &pairs::of_digits(digits));
+                return Some(show::ordered(out, &given));
+            }
+            Command::Pairs => pairs::replace(kept, &bytes_of(line, end)?)?,
+            Command::MorePairs => pairs::repeat(kept, &bytes_of(line, end)?)?,
+            Command::Chain => pairs::chain(kept, &bytes_of(line, end)?)?,
+        }
+        Some(Ok(()))
     }
 }
 
@@ -75,10 +73,11 @@ fn main(rt: HostRuntime) -> io::Result<()> {
     let mut text = large_buffer();
     let count = read_full(&mut rt.stdin(), &mut text);
     let mut out = rt.stdout();
-    let mut kept = Precedences::default();
+    let mut kept = Kept {
+        pairs: Precedences::default(),
+    };
     for line in lines_of(&text[..count]) {
         one_line(&mut out, &mut kept, line)?;
-        out.write_all(b"\n")?;
     }
     Ok(())
 }

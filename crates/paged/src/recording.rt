@@ -1,4 +1,5 @@
-// The record of a replay: what it put into the buffers says which takes gave a value.
+// The record of a replay: what it put into the buffers says which takes gave a value. The buffers stay runs of their own, as `replay` is lent
+// them: `replay_recorded` and `record_replay` are public.
 ghost use Rattle.std.specs.Prelude.{◌≡◌};
 ghost use Rattle.table.specs.Table.{groups_of};
 ghost use Rattle.replay.specs.Events.{events_from};

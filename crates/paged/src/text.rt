@@ -1,4 +1,4 @@
-// The text that the program `page` prints.
+// The text that the program `page` prints. Both files go as two runs of bytes, as in `printed`: `print_page` is public too.
 ghost use Rattle.number.specs.Number.{HasWritten};
 ghost use Rattle.shift.specs.Record.{no_takes};
 ghost use Rattle.shift.specs.Page.{page_written};

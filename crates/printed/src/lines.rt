@@ -1,4 +1,4 @@
-// The lines of the printed run.
+// The lines of the printed run. A place goes in and the end comes out, as in `put_bytes` (`number::texts`).
 ghost use Rattle.std.specs.Prelude.{◌+◌, ◌*◌, ◌≤◌, length, take};
 ghost use Rattle.printed.specs.Text.{event_line, event_lines, word_line, word_lines, counts_line, run_text};
 ghost use Rattle.number.specs.Number.{Puts, PutIfFits};

@@ -1,5 +1,6 @@
-// Putting bytes at a place of a buffer where they fit. Each function says where they end. It is no `write!`, here and in `lines`: what is
-// put is known to fit, and each `write!` would answer a `Result` that is never an error.
+// Putting bytes at a place of a buffer where they fit. Each function says where they end, as `put_bytes` does (`number::texts`). It is no
+// `write!`, here and in `lines`: what is put is known to fit, and each `write!` would answer a `Result` that is never an error. Words are
+// bytes and no `&str`: they only go among the bytes of a buffer.
 ghost use Rattle.std.specs.Prelude.{◌+◌, ◌≤◌, ◌<◌, length};
 ghost use Rattle.number.specs.Texts.{digits_up_to};
 ghost use Rattle.number.specs.Number.{Puts};

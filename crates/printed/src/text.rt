@@ -1,4 +1,4 @@
-// The whole text of a table file and a trace file.
+// The whole text of a table file and a trace file. They go as two runs of bytes: `print` is public, and C lends them so (`lsq_text`).
 ghost use Rattle.std.specs.Prelude.{◌≤◌, length};
 ghost use Rattle.number.specs.Number.{HasWritten, Puts};
 ghost use Rattle.printed.specs.Text.{text};

@@ -22,7 +22,8 @@ impl Files {
     }
 }
 
-// Puts bytes behind those of a file, as many as there is room for.
+// Puts bytes behind those of a file, as many as there is room for. (The pairs of `ordering_cases` go otherwise: two bytes to each, and
+// beyond the last place their count goes on.)
 pub(crate) fn append(file: &mut File, bytes: &[u8]) {
     for byte in bytes {
         if file.is_full() {

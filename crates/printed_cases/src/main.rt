@@ -9,7 +9,7 @@ mod texts;
 
 use crate::files::{Files, append, repeat};
 use printed::text::MOST_TEXT;
-use script::{bytes_of, is_text, lines_of, named, next_byte};
+use script::{Obeys, bytes_of, lines_of, named, next_byte, one_line};
 use std::io;
 use std::io::Write;
 use streams::{large_buffer, read_full};
@@ -58,22 +58,13 @@ fn obey(out: &mut impl Write, files: &mut Files, command: Command, bytes: &[u8])
     Ok(())
 }
 
-// A line with a command, or nothing where it is none.
-fn command_line(out: &mut impl Write, files: &mut Files, line: &[u8]) -> Option<io::Result<()>> {
-    let end = next_byte(line, 0, b' ');
-    let command = named(&COMMANDS, &line[..end])?;
-    let bytes = bytes_of(line, end)?;
-    Some(obey(out, files, command, &bytes))
-}
-
-fn one_line(out: &mut impl Write, files: &mut Files, line: &[u8]) -> io::Result<()> {
-    out.write_all(line)?;
-    if is_text(line) {
-        return Ok(());
-    }
-    match command_line(out, files, line) {
-        Some(obeyed) => obeyed,
-        None => out.write_all(b" ?"),
+impl Obeys for Files {
+    // The bytes behind a command, and what it does with them.
+    fn obey<W: Write>(&mut self, out: &mut W, line: &[u8]) -> Option<io::Result<()>> {
+        let end = next_byte(line, 0, b' ');
+        let command = named(&COMMANDS, &line[..end])?;
+        let bytes = bytes_of(line, end)?;
+        Some(obey(out, self, command, &bytes))
     }
 }
 
@@ -84,7 +75,6 @@ fn main(rt: HostRuntime) -> io::Result<()> {
     let mut files = Files::empty();
     for line in lines_of(&text[..count]) {
         one_line(&mut out, &mut files, line)?;
-        out.write_all(b"\n")?;
     }
     Ok(())
 }

@@ -41,7 +41,7 @@ fn has_room(frame: &Frame, group: Group) -> bool
 }
 
 // Puts a group's entries of one kind behind those held. An entry comes after all of the other kind that are held and those of
-// its group that its offset counts.
+// its group that its offset counts. The count goes beside the run, since what is written stands behind what it counts.
 fn append(entries: &mut [u64], held: u8, pairs: &[u16], others: u8)
     requires { PairsFit held (map pair_in pairs.now) × (others ≤ 64) × Has64 entries.old }
     ensures { Appended held (map pair_in pairs.now) others entries.old entries.new }

@@ -1,6 +1,7 @@
 // The group-allocated load-store queue: its record, and every call on it.
 // A call changes the queue that is lent to it, or refuses and leaves it as it was. The calls named `.._in` do the work: a frame is
-// lent to them, and the entries of both sides as runs of numbers, so that a host may keep these apart.
+// lent to them, and the entries of both sides as runs of numbers, so that a host may keep these apart. Within the crate they go on as two
+// runs too: a serve and an argument change one side and only read the other, and a struct that holds both would be lent as one.
 
 #![tactic(auto)]
 
@@ -57,7 +58,8 @@ pub struct Side {
 }
 
 impl Side {
-    // Of a run with a place for each, the entries that the side holds.
+    // Of a run with a place for each, the entries that the side holds. A count is asked to be no more than its run is long here, in
+    // `load_ready`, `write_fault`, `shift` and `retire`: a frame and runs are lent apart, and no value has the two together.
     pub(crate) fn held<'a>(self, entries: &'a [u64]) -> &'a [u64]
         requires { self.count ≤ length entries.now }
         ensures entries { entries_in result.now ≡ entries_held self.count entries.now }
@@ -89,7 +91,8 @@ impl Frame {
     }
 }
 
-// A queue: its frame, and each side's entries from the oldest, packed. Places beyond a side's count mean nothing.
+// A queue: its frame, and each side's entries from the oldest, packed. Places beyond a side's count mean nothing. The counts stand in the
+// frame and not with the arrays, since C has a frame and two runs (bindings/c/lsq.h), and a call on this record lends just those.
 #[derive(Clone, Copy, PartialEq, Eq)]
 pub struct Queue {
     pub frame: Frame,

@@ -1,4 +1,5 @@
-// Opening a queue: 4 to 8 of its table, then 11, 12, 13, 14.
+// Opening a queue: 4 to 8 of its table, then 11, 12, 13, 14. The depths, the first serial and the memory length stay numbers of their own:
+// `open` and `open_in` are public, C hands the same four in (`lsq_open_in`), and `Header`, which has them, is of no crate beneath this one.
 ghost use Rattle.std.specs.Prelude.{◌≡◌, ◌≤◌, ◌&&◌, nat_le};
 ghost use Rattle.number.specs.Basics.{all_of};
 ghost use Rattle.table.specs.Table.{groups_of};
@@ -39,13 +40,15 @@ fn fresh_frame(
     }
 }
 
-// The group has no more loads and stores than their depths.
+// The group has no more loads and stores than their depths. Not by `Side::has_room`: no side is made before this is tested.
 fn group_fits(group: Group, load_depth: u32, store_depth: u32) -> bool
     ensures { result ≡ nat_le group.loads.count load_depth && nat_le group.stores.count store_depth }
 {
     group.loads.count as u32 <= load_depth && group.stores.count as u32 <= store_depth
 }
 
+// That the table has at most 16 groups is asked here and by `has_port`, both behind the check of the table: a type for it would have no
+// other use.
 fn groups_fit(table: &Table, load_depth: u32, store_depth: u32) -> bool
     requires { table.now.count ≤ 16 }
     ensures { result ≡ all_of (group_fits load_depth store_depth) (groups_of table.now) }

@@ -15,7 +15,7 @@ use crate::{Entry, Frame, Kind, Queue};
 use number::refusal::Refusal;
 
 // Serials, as many as a side can hold. Places beyond the count mean nothing. No heap: what is ready is known only once it is gathered,
-// and nothing is written to the lent run before that.
+// and nothing is written to the lent run before that. An array with a count, and no `ArrayVec`: the libraries stand on each other alone.
 #[derive(Clone, Copy)]
 pub(crate) struct Serials {
     pub count: usize,

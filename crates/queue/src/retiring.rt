@@ -20,7 +20,8 @@ fn retiring(entries: &[u64]) -> usize
 }
 
 // Moves the `left` entries behind the first `gone` to the front; each forgets `others`, as many of the other kind as retire too.
-// "The number falls as those leave and then stays 0." By places, since each entry is read farther on in the run that it is put in.
+// "The number falls as those leave and then stays 0." By places, since each entry is read farther on in the run that it is put in. Both
+// counts go beside the run: it is read behind the first and written at its front.
 fn shift(entries: &mut [u64], gone: u8, left: u8, others: u8)
     requires { gone + left ≤ length entries.old }
     ensures { Shifted gone left others entries.old entries.new }

@@ -1,5 +1,6 @@
 // Serving loads, as S-7 has it: the earlier stores are walked back, nearest first, to the one that decides where the load's word comes
-// from. A load that a store supplies counts as forwarded.
+// from. A load that a store supplies counts as forwarded. The memory and the counts are lent one by one: `serve` and `serve_in` are public,
+// and C lends the one and hands the other in (`lsq_serve_in`).
 ghost use Rattle.std.specs.Prelude.{◌≡◌, ◌<◌, length};
 ghost use Rattle.counts.specs.Counts.{counted};
 ghost use Rattle.queue.specs.Entry.{entry_of, with_word};
@@ -80,7 +81,9 @@ fn served(
     word
 }
 
-// Serve the load at a place: 25, 26, 27, 28, 29.
+// Serve the load at a place: 25, 26, 27, 28, 29. That the parts were found sound (`Checked`) is asked here, by `write_at` and by
+// `ready_serials`: each is called once, right behind the test, and all of the parts, some or none are lent to be changed, so no one type
+// of lent parts would do.
 fn serve_at(
     frame: &Frame,
     load_entries: &mut [u64],

@@ -18,7 +18,7 @@ pub(crate) fn depth_right(depth: u32) -> bool
     1 <= depth && depth <= 64
 }
 
-// The memory length is 1 to 4,096.
+// The memory length is 1 to 4,096. A function with the limit as a parameter would be no shorter, and each limit has its definition.
 pub(crate) fn memory_right(memory_length: u32) -> bool
     ensures { result ≡ memory_right memory_length }
 {

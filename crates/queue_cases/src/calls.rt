@@ -24,6 +24,7 @@ fn shown(
     show::same(out, "", *before == *after)
 }
 
+// Each of these keeps what its call is lent, which differs from call to call, and prints by `shown`.
 fn take(out: &mut impl Write, run: &mut Run, port: u32) -> io::Result<()> {
     let before = run.queue;
     let answer = run.queue.take(port).map(Some);

@@ -15,7 +15,7 @@ mod show;
 use crate::command::{COMMANDS, Command};
 use crate::run::Run;
 use cases::set_part;
-use script::{bytes_of, is_text, lines_of, named, next_byte, numbers_as, word};
+use script::{Obeys, bytes_of, lines_of, named, next_byte, numbers_as, one_line, word};
 use std::io;
 use std::io::Write;
 use streams::{large_buffer, read_full};
@@ -52,41 +52,31 @@ fn obey(
     Some(Ok(()))
 }
 
-// A line with a command, or nothing where it is none.
-fn command_line(out: &mut impl Write, run: &mut Run, line: &[u8]) -> Option<io::Result<()>> {
-    let end = next_byte(line, 0, b' ');
-    let name = &line[..end];
-    if name == b"table".as_slice() {
-        return Some(run.read(out, &bytes_of(line, end)?));
+impl Obeys for Run {
+    // The numbers or the bytes behind a command, and what it does with them.
+    fn obey<W: Write>(&mut self, out: &mut W, line: &[u8]) -> Option<io::Result<()>> {
+        let end = next_byte(line, 0, b' ');
+        let name = &line[..end];
+        if name == b"table".as_slice() {
+            return Some(self.read(out, &bytes_of(line, end)?));
+        }
+        let command = named(&COMMANDS, name)?;
+        let numbers = numbers_as(command.shape(), line, end)?;
+        obey(out, self, command, &numbers)
     }
-    let command = named(&COMMANDS, name)?;
-    let numbers = numbers_as(command.shape(), line, end)?;
-    obey(out, run, command, &numbers)
 }
 
 // An empty line ends a case: nothing of it is held any more.
-fn one_line(out: &mut impl Write, run: &mut Run, line: &[u8]) -> io::Result<()> {
-    out.write_all(line)?;
-    if line.is_empty() {
-        *run = Run::fresh();
-    }
-    if is_text(line) {
-        return Ok(());
-    }
-    match command_line(out, run, line) {
-        Some(obeyed) => obeyed,
-        None => out.write_all(b" ?"),
-    }
-}
-
 fn main(rt: HostRuntime) -> io::Result<()> {
     let mut text = large_buffer();
     let count = read_full(&mut rt.stdin(), &mut text);
     let mut out = rt.stdout();
     let mut run = Run::fresh();
     for line in lines_of(&text[..count]) {
+        if line.is_empty() {
+            run = Run::fresh();
+        }
         one_line(&mut out, &mut run, line)?;
-        out.write_all(b"\n")?;
     }
     Ok(())
 }

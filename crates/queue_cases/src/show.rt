@@ -6,6 +6,7 @@ use queue::{Entry, Kind, Side};
 use std::io;
 use std::io::Write;
 
+// The same in `table_cases`: its one line is no shorter from elsewhere.
 pub(crate) fn refused(out: &mut impl Write, refusal: Refusal) -> io::Result<()> {
     write!(out, ": {}", refusal.number())
 }

@@ -16,7 +16,8 @@ use queue::taking::take_in;
 use queue::writing::write_in;
 use trace::Event;
 
-// Plays one event on a queue's parts, with the memory and the counts that the last one left.
+// Plays one event on a queue's parts, with the memory and the counts that the last one left. The parts are lent apart, as each call on them
+// takes them.
 pub(crate) fn play_event(
     frame: &mut Frame,
     loads: &mut [u64],

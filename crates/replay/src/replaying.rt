@@ -1,4 +1,5 @@
-// Replaying a whole trace.
+// Replaying a whole trace. The memory, the counts and the three buffers are lent one by one, and the trace with a place: `replay` and
+// `replay_from` are public, C lends all of them so, and a record of what is lent would ask every caller to make one.
 ghost use Rattle.std.specs.Prelude.{◌≡◌, ◌&&◌, leb};
 ghost use Rattle.table.specs.Table.{groups_of};
 ghost use Rattle.queue.specs.Contents.{contents_of};
@@ -53,7 +54,7 @@ fn play_all(
     i
 }
 
-// Buffers of these lengths have room for so many events.
+// Buffers of these lengths have room for so many events. `printed` tests for more, a memory too, and against constants.
 fn have_room(events: usize, answers: usize, given: usize, values: usize) -> bool
     ensures { result ≡ leb events answers && leb events given && leb events values }
 {

@@ -1,8 +1,9 @@
-// The parts of a line of a script: where a part ends, decimal numbers, bytes in hexadecimal. What the programs of cases share.
+// The parts of a line of a script: where a part ends, decimal numbers, bytes in hexadecimal. What the programs of cases share. Lines are
+// bytes and no `&str`: a program reads bytes, which need be no text, and a name that it knows is compared with them.
 
 #![tactic(auto)]
 
-ghost use Rattle.std.specs.Prelude.{◌≡◌, ◌%◌, ◌^◌, drop, slice_get, OnOk, IfSome};
+ghost use Rattle.std.specs.Prelude.{◌≡◌, ◌%◌, ◌^◌, ◌++◌, ◌∷◌, [], true, drop, slice_get, OnOk, IfSome};
 ghost use Rattle.script.specs.Shapes.{most_of, fits_of, taken, numbers_as};
 ghost use Rattle.std.specs.Io.KnownBytes.{Appends};
 ghost use Rattle.script.specs.Printed.{all_spaced};
@@ -192,6 +193,7 @@ fn byte_step(mut read: BytesRead, byte: u8) -> Option<BytesRead>
 }
 
 // The bytes of a line from a place on, each two digits with one space before them, if there is nothing else and they are at most 128.
+// Not one function with `numbers_of`: what is read so far, the step and the end differ, which is all but the `for`.
 pub fn bytes_of(line: &[u8], from: usize) -> Option<Bytes>
     ensures { result ≡ bytes_from line.now from }
 {
@@ -278,6 +280,27 @@ pub fn print_all<W: Write, T: Display>(out: &mut W, values: &[T]) -> io::Result<
         write!(out, "{value}")?;
     }
     Ok(())
+}
+
+// What a script works on, which knows what each line does.
+pub trait Obeys {
+    // What a line does, or nothing where it is no command.
+    fn obey<W: Write>(&mut self, out: &mut W, line: &[u8]) -> Option<io::Result<()>>;
+}
+
+// A line of a script: it is echoed, and behind it stands what it does, or a question mark where it is no command. A heading does nothing.
+// Each program goes through its lines in `main`: a loop here would have to say what all of them do.
+pub fn one_line<W: Write, K: Obeys>(out: &mut W, kept: &mut K, line: &[u8]) -> io::Result<()>
+    ensures { OnOk result (is_text line.now ≡ true → Appends (W.contents out.old) (W.contents out.new) (line.now ++ 10 ∷ [])) }
+{
+    out.write_all(line)?;
+    if !is_text(line) {
+        match kept.obey(out, line) {
+            Some(obeyed) => obeyed?,
+            None => out.write_all(b" ?")?,
+        }
+    }
+    out.write_all(b"\n")
 }
 
 // Does a command take these numbers? Eight letters for each command say so. The command is a number, its place among the shapes, as

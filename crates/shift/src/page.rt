@@ -1,5 +1,5 @@
-// The page: a header, a line for each load port, and a footer. It is put with no `write!`: what is put is known to fit, and each `write!`
-// would answer a `Result` that is never an error.
+// The page: a header, a line for each load port, and a footer. A place goes in and the end comes out, as in `put_bytes` (`number::texts`).
+// It is no `write!`: what is put is known to fit, and each `write!` would answer a `Result` that is never an error.
 ghost use Rattle.std.specs.Prelude.{◌≡◌, ◌+◌, ◌*◌, ◌≤◌, ◌<◌, ◌^◌, ◌%◌, eqb, length};
 ghost use Rattle.number.specs.Basics.{pick, flat_map};
 ghost use Rattle.number.specs.Number.{HasWritten, Puts};

@@ -96,7 +96,8 @@ pub(crate) fn counts_right(loads: u32, stores: u32) -> bool
 
 // The first fault of the group at a place: 5 counts, then its loads, then its stores. The marks of the ports seen are lent.
 fn check_group(table: &Table, i: usize, seen: &mut Ports) -> Result<(), Refusal>
-    ensures { GroupChecked (seen_of seen.old) (pairs_of table.now.loads table.now.stores (group_at table.now.groups i)) (seen_of seen.new) result }
+    ensures { GroupChecked (seen_of seen.old) (pairs_of table.now.loads table.now.stores (group_at table.now.groups i))
+        (seen_of seen.new) result }
 {
     let group = table.group(i);
     let few = group.stores.count as u32;

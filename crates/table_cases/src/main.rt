@@ -13,7 +13,7 @@ use crate::command::{COMMANDS, Command};
 use crate::run::{Run, filled};
 use cases::set_part;
 use number::writing::number_length;
-use script::{bytes_of, is_text, lines_of, named, next_byte, numbers_as, word};
+use script::{Obeys, bytes_of, lines_of, named, next_byte, numbers_as, one_line, word};
 use std::io;
 use std::io::Write;
 use streams::{large_buffer, read_full};
@@ -39,27 +39,18 @@ fn obey(
     Some(Ok(()))
 }
 
-// A line with a command, or nothing where it is none.
-fn command_line(out: &mut impl Write, run: &mut Run, line: &[u8]) -> Option<io::Result<()>> {
-    let end = next_byte(line, 0, b' ');
-    let name = &line[..end];
-    if name == b"bytes".as_slice() {
-        run.bytes = bytes_of(line, end)?;
-        return Some(Ok(()));
-    }
-    let (shape, command) = named(&COMMANDS, name)?;
-    let numbers = numbers_as(shape, line, end)?;
-    obey(out, run, command, &numbers)
-}
-
-fn one_line(out: &mut impl Write, run: &mut Run, line: &[u8]) -> io::Result<()> {
-    out.write_all(line)?;
-    if is_text(line) {
-        return Ok(());
-    }
-    match command_line(out, run, line) {
-        Some(obeyed) => obeyed,
-        None => out.write_all(b" ?"),
+impl Obeys for Run {
+    // The numbers or the bytes behind a command, and what it does with them.
+    fn obey<W: Write>(&mut self, out: &mut W, line: &[u8]) -> Option<io::Result<()>> {
+        let end = next_byte(line, 0, b' ');
+        let name = &line[..end];
+        if name == b"bytes".as_slice() {
+            self.bytes = bytes_of(line, end)?;
+            return Some(Ok(()));
+        }
+        let (shape, command) = named(&COMMANDS, name)?;
+        let numbers = numbers_as(shape, line, end)?;
+        obey(out, self, command, &numbers)
     }
 }
 
@@ -70,7 +61,6 @@ fn main(rt: HostRuntime) -> io::Result<()> {
     let mut run = Run::fresh();
     for line in lines_of(&text[..count]) {
         one_line(&mut out, &mut run, line)?;
-        out.write_all(b"\n")?;
     }
     Ok(())
 }

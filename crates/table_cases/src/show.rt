@@ -7,6 +7,7 @@ use table::Table;
 use table::parts::unpack_pair;
 use trace::{Event, Header};
 
+// The same in `queue_cases`: its one line is no shorter from elsewhere.
 pub(crate) fn refused(out: &mut impl Write, refusal: Refusal) -> io::Result<()> {
     write!(out, ": {}", refusal.number())
 }

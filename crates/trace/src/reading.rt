@@ -1,4 +1,5 @@
-// Reading events and traces: a trace is four leading numbers, then events to the end of its bytes.
+// Reading events and traces: a trace is four leading numbers, then events to the end of its bytes. A place goes beside the bytes, as in
+// `read_number`; where one reader goes on, it keeps both (`Reader`).
 ghost use Rattle.std.specs.Prelude.{◌≡◌, drop};
 ghost use Rattle.number.specs.Number.{read_in};
 ghost use Rattle.trace.specs.Event.{read_header, header_reply, kind_reply, event_of, read_kind, event_reply, event_read_in, event_at, place_after, Steps, moved_to};

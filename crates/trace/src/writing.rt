@@ -1,5 +1,5 @@
 // Writing events and the leading numbers of a trace. The length is known before the first byte is written, so a refusal leaves the
-// buffer as it was.
+// buffer as it was. So the numbers are gone through twice; one function for both ways would take a closure, for loops of one line.
 ghost use Rattle.std.specs.Prelude.{◌≡◌, ◌≤◌, length};
 ghost use Rattle.number.specs.Number.{bytes_of, HasWritten, wrote};
 ghost use Rattle.trace.specs.Event.{header_bytes, event_bytes, wrote_event_of};

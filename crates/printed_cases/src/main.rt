@@ -66,6 +66,8 @@ fn command_line(out: &mut impl Write, files: &mut Files, line: &[u8]) -> Option<
     Some(obey(out, files, command, &bytes))
 }
 
+// One line, echoed with what it does. Each program of cases has this frame of its own: one that is handed the step as a closure, beside
+// its output and its state, would be no shorter.
 fn one_line(out: &mut impl Write, files: &mut Files, line: &[u8]) -> io::Result<()> {
     out.write_all(line)?;
     if is_text(line) {

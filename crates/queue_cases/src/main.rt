@@ -64,6 +64,8 @@ fn command_line(out: &mut impl Write, run: &mut Run, line: &[u8]) -> Option<io::
     obey(out, run, command, &numbers)
 }
 
+// One line, echoed with what it does. Each program of cases has this frame of its own: one that is handed the step as a closure, beside
+// its output and its state, would be no shorter.
 // An empty line ends a case: nothing of it is held any more.
 fn one_line(out: &mut impl Write, run: &mut Run, line: &[u8]) -> io::Result<()> {
     out.write_all(line)?;

@@ -86,7 +86,8 @@ pub(crate) fn put_run(out: &mut [u8], room: &PlayRoom, run: FilesRun) -> usize
     put_counts(out, place, run.counts)
 }
 
-// Puts a word and a number as a line at a buffer's front, where it fits. The number may be any, and no `Refusal` (`put_fault`).
+// Puts a word and a number as a line at a buffer's front, where it fits, and says where it ends as `put_bytes` does. The number may be any,
+// and no `Refusal` (`put_fault`).
 fn put_line(out: &mut [u8], word: &[u8], number: u8) -> usize
     requires { length word.now ≤ 11 }
     ensures { PutIfFits out.old 0 (item word.now number 10) result out.new }

@@ -47,8 +47,8 @@ fn group_fits(group: Group, load_depth: u32, store_depth: u32) -> bool
     group.loads.count as u32 <= load_depth && group.stores.count as u32 <= store_depth
 }
 
-// That the table has at most 16 groups is asked here and by `has_port`, both behind the check of the table: a type for it would have no
-// other use.
+// Does every group fit? It goes by places, here and in `has_port`, with no slice of groups: a table holds them packed (`Table::group`).
+// That the table has at most 16 groups is asked here and there, both behind the check of the table: a type for it would have no other use.
 fn groups_fit(table: &Table, load_depth: u32, store_depth: u32) -> bool
     requires { table.now.count ≤ 16 }
     ensures { result ≡ all_of (group_fits load_depth store_depth) (groups_of table.now) }

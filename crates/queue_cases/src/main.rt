@@ -66,6 +66,8 @@ impl Obeys for Run {
     }
 }
 
+// One line, echoed with what it does. Each program of cases has this frame of its own: one that is handed the step as a closure, beside
+// its output and its state, would be no shorter.
 // An empty line ends a case: nothing of it is held any more.
 fn main(rt: HostRuntime) -> io::Result<()> {
     let mut text = large_buffer();

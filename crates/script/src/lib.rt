@@ -165,7 +165,7 @@ pub fn numbers_of(line: &[u8], from: usize) -> Option<Numbers>
     if read.bare { None } else { Some(read.numbers) }
 }
 
-// A hexadecimal digit's value.
+// A hexadecimal digit's value. It takes upper case alone, where `to_digit` takes both.
 fn hexadecimal(byte: u8) -> Option<u8>
     ensures { result ≡ hexadecimal byte }
 {

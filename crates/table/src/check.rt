@@ -71,7 +71,9 @@ pub(crate) fn check_pair(right: bool, seen: &[bool; 32], port: u32) -> Result<()
     Ok(())
 }
 
-// The first fault of a group's pairs of one kind. The marks of the ports seen are lent, and take in the pairs' own.
+// The first fault of a group's pairs of one kind. The marks of the ports seen are lent, and take in the pairs' own. Inlined: the check of a
+// table of 16 groups took a fifth longer with two calls for each.
+#[inline(always)]
 fn check_pairs<'a>(rule: Rule<'a>, pairs: &'a [u16], seen: &mut [bool; 32]) -> Result<(), Refusal>
     requires { RuleRight rule }
     ensures { PairsChecked (rule_of rule.entry) seen.old (map pair_in pairs.now) seen.new result }

@@ -72,7 +72,7 @@ pub extern "C" fn lsq_write_table(table: Table, out: &mut [u8]) -> LiveWritten
     LiveWritten::from(write_table(&table, out))
 }
 
-// Writes an event, by its kind and its numbers, at the front of a buffer: 35, then 10.
+// Writes an event, by its kind and its numbers, at the front of a buffer: 35, then 10. The kind is a number, as C hands it in.
 #[unsafe(no_mangle)]
 pub extern "C" fn lsq_write_event(kind: u32, first: u32, second: u32, out: &mut [u8]) -> LiveWritten
     ensures answer { result ≡ live_written (wrote_event_of kind first second out.old).answer }

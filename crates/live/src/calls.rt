@@ -2,7 +2,7 @@
 // packed entries, which are lent. It is plain data with no pointer inside. Whatever a host hands in is tested (40), a run of
 // another length first of all. The frame is lent on to the queue's own calls: between them no table is copied. The names, the records
 // and the parameters are C's (bindings/c/lsq.h): so each argument, each call that moves and each that lists has its function, a frame
-// goes with two runs, and the numbers of opening are loose. What is alike is said once, in `live_step`, `live_ready` and `queue`.
+// goes with two runs, and the numbers of opening are loose. What is alike is said once, in `live_step` and `queue`.
 ghost use Rattle.std.specs.Prelude.{◌≡◌, ◌&&◌};
 ghost use Rattle.queue.specs.Entry.{bit};
 ghost use Rattle.queue.specs.Contents.{contents_of};
@@ -103,7 +103,7 @@ fn live_service(answer: Result<Option<u32>, Refusal>, counts: Counts) -> LiveSer
     }
 }
 
-// The numbers of an answer that counts serials.
+// The numbers of an answer that counts serials. As for `LiveWritten`, but C has two records.
 impl From<Result<usize, Refusal>> for LiveReady {
     ghost from_gives = { λ answer told. told ≡ live_ready answer };
 

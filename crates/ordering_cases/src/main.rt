@@ -69,6 +69,7 @@ impl Obeys for Kept {
     }
 }
 
+// The lines are gone through here, as in each program of cases, with a state of its own (`script::one_line`).
 fn main(rt: HostRuntime) -> io::Result<()> {
     let mut text = large_buffer();
     let count = read_full(&mut rt.stdin(), &mut text);

@@ -65,6 +65,7 @@ pub(crate) fn chain(kept: &mut Precedences, bytes: &[u8]) -> Option<()> {
     Some(())
 }
 
+// Two loops, up and down: the range and the two of a pair both turn.
 fn up(kept: &mut Precedences, first: u32, last: u32) {
     for access in first..last {
         push(kept, access, access + 1);

@@ -8,13 +8,14 @@ use shift::page::PAGE_BYTES;
 use std::io;
 use std::io::Write;
 
-// Room for a page. A fault's line is shorter.
+// Room for a page. A fault's line is shorter. Of its own size, as `large_buffer` of `streams` says.
 fn page_buffer() -> [u8; PAGE_BYTES] {
     [0; PAGE_BYTES]
 }
 
 // Writes all of the text to standard output; where that fails, says so on standard error, since part of the text may be lost. It stands
-// in `play` too, private: no contract can say what standard output takes, and no public function is without one.
+// in `play` too, private: no contract can say what standard output takes, and no public function is without one. The
+// text is bytes, as `print_page` puts them into its buffer.
 fn write_out(rt: &(impl Print + Eprint), text: &[u8]) -> io::Result<()> {
     let written = io::writer(rt).write_all(text);
     if written.is_err() {

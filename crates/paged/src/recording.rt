@@ -17,7 +17,7 @@ use trace::Event;
 use trace::reading::{read_event, read_header};
 
 // What an event leaves of the record: a take that gave a value has it recorded; every other event, and a take that was refused,
-// leaves it. `given` and `value` are numbers, and no `Option`, as a replay puts them into the buffers that C lends.
+// leaves it. `given` and `value` are the numbers of the buffers, and no `Option`, which would be made only to be looked at here.
 fn record_event(kept: &mut ShiftRecord, event: Event, given: u8, value: u32)
     ensures { kept.new ≡ after_event kept.old event (value_given given value) }
 {

@@ -13,7 +13,8 @@ fn text_buffer() -> [u8; MOST_TEXT] {
 }
 
 // Writes all of the text to standard output; where that fails, says so on standard error, since part of the text may be lost. It stands
-// in `page` too, private: no contract can say what standard output takes, and no public function is without one.
+// in `page` too, private: no contract can say what standard output takes, and no public function is without one. The
+// text is bytes, as `print` puts them into its buffer.
 fn write_out(rt: &(impl Print + Eprint), text: &[u8]) -> io::Result<()> {
     let written = io::writer(rt).write_all(text);
     if written.is_err() {

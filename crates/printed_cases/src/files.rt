@@ -7,19 +7,10 @@ const ROOM: usize = MOST_BYTES + 1;
 
 pub(crate) type File = ArrayVec<u8, ROOM>;
 
-#[derive(Drop)]
+#[derive(Drop, Default)]
 pub(crate) struct Files {
     pub table: File,
     pub trace: File,
-}
-
-impl Files {
-    pub(crate) fn empty() -> Files {
-        Files {
-            table: File::new(),
-            trace: File::new(),
-        }
-    }
 }
 
 // Puts bytes behind those of a file, as many as there is room for. (The pairs of `ordering_cases` go otherwise: two bytes to each, and

@@ -68,11 +68,12 @@ impl Obeys for Files {
     }
 }
 
+// The lines are gone through here, as in each program of cases, with a state of its own (`script::one_line`).
 fn main(rt: HostRuntime) -> io::Result<()> {
     let mut text = large_buffer();
     let count = read_full(&mut rt.stdin(), &mut text);
     let mut out = rt.stdout();
-    let mut files = Files::empty();
+    let mut files = Files::default();
     for line in lines_of(&text[..count]) {
         one_line(&mut out, &mut files, line)?;
     }

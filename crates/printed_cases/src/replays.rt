@@ -12,6 +12,7 @@ use table::Table;
 use table::read::read_table;
 
 // What a replay is lent. Before, the memory's words are 9, the bytes of both buffers 238 and the values 7777; the counts are 5 and 3.
+// The last three are runs of their own, as a replay is lent them.
 #[derive(Clone, Copy)]
 struct Lent {
     memory: [u32; 8],

@@ -93,6 +93,8 @@ pub fn activate_in(
     Ok(())
 }
 
+// The methods of `Queue`, here and in the other files, lend its three fields on to the call on parts: one that took that call as a closure
+// would be no shorter than each.
 impl Queue {
     // Queues the group's accesses, with no argument yet.
     pub fn activate(&mut self, group: u32) -> Result<(), Refusal>

@@ -108,7 +108,7 @@ pub fn give_in(
 }
 
 impl Queue {
-    // Gives an argument to the port's oldest entry of its kind that lacks it.
+    // Gives an argument to the port's oldest entry of its kind that lacks it. The three public calls, which README.md names, are this one.
     fn give(&mut self, argument: Argument, port: u32, number: u32) -> Result<(), Refusal>
         ensures { Moves self.old (give argument (contents_of self.old) port number) (moved result self.new) }
     {

@@ -48,7 +48,7 @@ fn group_fits(group: Group, load_depth: u32, store_depth: u32) -> bool
 }
 
 // Does every group fit? It goes by places, here and in `has_port`, with no slice of groups: a table holds them packed (`Table::group`).
-// That the table has at most 16 groups is asked here and there, both behind the check of the table: a type for it would have no other use.
+// That the table has at most 16 groups is asked here and there, both behind the check of the table, which gives no value that could carry it.
 fn groups_fit(table: &Table, load_depth: u32, store_depth: u32) -> bool
     requires { table.now.count ≤ 16 }
     ensures { result ≡ all_of (group_fits load_depth store_depth) (groups_of table.now) }

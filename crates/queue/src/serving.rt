@@ -119,7 +119,7 @@ fn serve_at(
     }
 }
 
-// Serve on a queue's parts: 40, 30, and then as `serve_at`.
+// Serve on a queue's parts: 40, 30, and then as `serve_at`. Writing tests these two too, a line each.
 pub fn serve_in(
     frame: &Frame,
     load_entries: &mut [u64],

@@ -1,4 +1,5 @@
-// The calls on the queue: each prints its answer and its value, and whether what was lent came back as it was.
+// The calls on the queue: each prints its answer and its value, and whether what was lent came back as it was. The output and the run go
+// side by side, here and in the other files, as `Obeys` lends them.
 use crate::command::{CALLS, Call};
 use crate::run::{Run, copied};
 use crate::{ready, show};
@@ -9,8 +10,7 @@ use std::io::Write;
 
 // Of a call that gives no value.
 fn no_value(answer: Result<(), Refusal>) -> Result<Option<u32>, Refusal> {
-    answer?;
-    Ok(None)
+    answer.map(|()| None)
 }
 
 // Prints what a call on the queue alone answered, and whether it moved the queue.
@@ -47,7 +47,7 @@ fn write(out: &mut impl Write, run: &mut Run, serial: u32) -> io::Result<()> {
     show::same(out, " memory", memory == run.memory)
 }
 
-// A call that is lent nothing and gives no value.
+// A call that is lent nothing and gives no value: `call` hands on only these four.
 fn plain(
     out: &mut impl Write,
     run: &mut Run,

@@ -66,9 +66,8 @@ impl Obeys for Run {
     }
 }
 
-// One line, echoed with what it does. Each program of cases has this frame of its own: one that is handed the step as a closure, beside
-// its output and its state, would be no shorter.
-// An empty line ends a case: nothing of it is held any more.
+// The lines are gone through here, as in each program of cases, with a state of its own (`script::one_line`). An empty line ends a case:
+// nothing of it is held any more.
 fn main(rt: HostRuntime) -> io::Result<()> {
     let mut text = large_buffer();
     let count = read_full(&mut rt.stdin(), &mut text);

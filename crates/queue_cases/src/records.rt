@@ -12,6 +12,7 @@ fn side_of(frame: &mut Frame, kind: Kind) -> &mut Side {
     }
 }
 
+// As `word` and `byte` of `script`, of another width.
 fn half(numbers: &[u64], place: usize) -> u16 {
     (word(numbers, place) % 65536) as u16
 }

@@ -22,7 +22,7 @@ pub(crate) struct Run {
     pub kept: ShiftRecord,
 }
 
-// The queue of a refused opening, which holds nothing and has no room.
+// The queue of a refused opening, which holds nothing and has no room. Its frame is `no_frame` of `live`, which is private there.
 fn no_queue() -> Queue {
     let side = Side {
         depth: 0,
@@ -106,8 +106,8 @@ impl Run {
     // The memory is these words, of which there are at most eight.
     pub(crate) fn set_memory(&mut self, numbers: &[u64]) {
         self.memory = Memory::new();
-        for place in 0..numbers.len() {
-            let _ = self.memory.try_push(word(numbers, place));
+        for number in numbers {
+            let _ = self.memory.try_push((*number % 4294967296) as u32);
         }
     }
 

@@ -109,6 +109,7 @@ pub fn next_byte(text: &[u8], from: usize, byte: u8) -> usize
     from + until(behind(text, from), byte)
 }
 
+// No `saturating_mul`: 18446744073709551610 and every number above it count as 18446744073709551615, as `with_digit` says.
 fn with_digit(value: u64, digit: u8) -> u64
     ensures { result ≡ with_digit value digit }
 {
@@ -258,7 +259,7 @@ fn number_at(numbers: &[u64], place: usize) -> Option<u64>
 }
 
 // The number at a place as one of 32 bits or of 8; 0 where there is none. Of a larger number it is the remainder, where `TryFrom` would
-// refuse it.
+// refuse it. One function for both widths would take the type and its size beside the numbers.
 pub fn word(numbers: &[u64], place: usize) -> u32
     ensures { result ≡ unwrap_or (slice_get numbers.now place) 0 % 2 ^ 32 }
 {
@@ -289,7 +290,7 @@ pub trait Obeys {
 }
 
 // A line of a script: it is echoed, and behind it stands what it does, or a question mark where it is no command. A heading does nothing.
-// Each program goes through its lines in `main`: a loop here would have to say what all of them do.
+// Each program goes through its lines in `main`, with its own state; `queue_cases` begins anew at an empty line.
 pub fn one_line<W: Write, K: Obeys>(out: &mut W, kept: &mut K, line: &[u8]) -> io::Result<()>
     ensures { OnOk result (is_text line.now ≡ true → Appends (W.contents out.old) (W.contents out.new) (line.now ++ 10 ∷ [])) }
 {

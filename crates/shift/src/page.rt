@@ -70,6 +70,7 @@ fn put_ports(out: &mut [u8], at: usize, kept: &ShiftRecord) -> usize
         × (result ≡ at + 41 * 32) }
 {
     let mut place = at;
+    // By ports: both arrays are C's.
     for port in 0..32 {
         place = put_port(out, place, port as u64, kept.takes[port], kept.values[port]);
     }

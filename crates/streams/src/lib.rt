@@ -6,7 +6,8 @@ ghost use Rattle.std.specs.Prelude.{◌≡◌, ◌≤◌, length, replicate};
 
 use std::io::Read;
 
-// Room for the input of a program of cases.
+// Room for the input of a program of cases. A function for each size, here and in `program`, `play`, `page` and `printed_cases`: one with
+// the size as a parameter would be `[0; N]` too, and each caller would have to write the size into a type.
 pub fn large_buffer() -> [u8; 65536]
     ensures { result ≡ replicate 65536 0 }
 {

@@ -68,7 +68,7 @@ fn number_at(groups: &[u32; 16], i: usize) -> u32
 
 impl Table {
     // The group at a place, whether or not the count goes so far: its accesses stand within the places. The record may come from
-    // anywhere.
+    // anywhere. Groups are gone through by their places: they are packed, so there is no slice of them.
     pub fn group(&self, i: usize) -> Group
         ensures { result ≡ group_at self.now.groups i }
     {

@@ -30,7 +30,8 @@ pub(crate) struct NewGroup {
     pub stores: Pairs,
 }
 
-// The groups read so far, in the record of their table, and how many loads and stores they have.
+// The groups read so far, in the record of their table, and how many loads and stores they have. The counts stand beside the table,
+// which is C's record and has none.
 #[derive(Clone, Copy)]
 pub(crate) struct Gathered {
     pub table: Table,
@@ -156,7 +157,7 @@ impl Gathered {
     }
 }
 
-// Reads `count` groups, and says where they end.
+// Reads `count` groups, and says where they end. That there are at most 16 is asked where it was just tested.
 fn read_groups(bytes: &[u8], at: usize, count: u32) -> Result<(Table, usize), Refusal>
     requires { (count ≤ 16) × (at ≤ length bytes.now) }
     ensures { GroupsResult bytes.now (read_groups count none_seen (drop at bytes.now)) result }

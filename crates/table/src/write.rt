@@ -2,7 +2,7 @@
 // the same way that the bytes then go: one function for both would hand each number to a closure, and say what that has done so far.
 // The functions that put take a place and say where they end, as `put_number` does, which is public: one clause, `Puts`, says what each
 // put, where a writer that keeps the place would have two states to speak of. That a table has at most 16 groups is asked twice, right
-// behind the check: a type for it would have no other use.
+// behind the check: `check` gives no value that could carry it, and a type would stand around C's record.
 ghost use Rattle.std.specs.Prelude.{◌≡◌, ◌+◌, ◌*◌, ◌≤◌, length, map};
 ghost use Rattle.number.specs.Basics.{flat_map, splice};
 ghost use Rattle.number.specs.Number.{bytes_of, HasWritten, Puts};

@@ -1,4 +1,5 @@
-// Reading in the bytes: the number or the event at a place, the leading numbers of a trace, or a table.
+// Reading in the bytes: the number or the event at a place, the leading numbers of a trace, or a table. The output and the run go side by
+// side, here and in the other files, as `Obeys` lends them.
 use crate::command::Read;
 use crate::run::Run;
 use crate::show;

@@ -81,7 +81,7 @@ pub extern "C" fn lsq_memory_length(table: &[u8], trace: &[u8]) -> u32
     }
 }
 
-// Replays the trace on what is lent, as `lsq_replay` says it, and says how many events were played.
+// Replays the trace on what is lent, as `lsq_replay` says it.
 fn replay_bytes(
     table: &[u8],
     trace: &[u8],

@@ -15,13 +15,19 @@ pub(crate) struct Files {
 
 // Puts bytes behind those of a file, as many as there is room for. (The pairs of `ordering_cases` go otherwise: two bytes to each, and
 // beyond the last place their count goes on.)
-pub(crate) fn append(file: &mut File, bytes: &[u8]) {
+fn append(file: &mut File, bytes: &[u8]) {
     for byte in bytes {
         if file.is_full() {
             return;
         }
         file.push(*byte);
     }
+}
+
+// Puts bytes in place of those of a file.
+pub(crate) fn replace(file: &mut File, bytes: &[u8]) {
+    file.clear();
+    append(file, bytes);
 }
 
 // Appends the bytes behind the first two as often as these two say, the higher one first.

@@ -7,7 +7,7 @@ mod files;
 mod replays;
 mod texts;
 
-use crate::files::{Files, append, repeat};
+use crate::files::{Files, repeat, replace};
 use printed::text::MOST_TEXT;
 use script::{Obeys, bytes_of, lines_of, named, next_byte, one_line};
 use std::io;
@@ -40,14 +40,8 @@ const COMMANDS: [(&[u8], Command); 8] = [
 // What a command does with the bytes behind it.
 fn obey(out: &mut impl Write, files: &mut Files, command: Command, bytes: &[u8]) -> io::Result<()> {
     match command {
-        Command::Table => {
-            files.table.clear();
-            append(&mut files.table, bytes);
-        }
-        Command::Trace => {
-            files.trace.clear();
-            append(&mut files.trace, bytes);
-        }
+        Command::Table => replace(&mut files.table, bytes),
+        Command::Trace => replace(&mut files.trace, bytes),
         Command::MoreTable => repeat(&mut files.table, bytes),
         Command::MoreTrace => repeat(&mut files.trace, bytes),
         Command::Print => return texts::print(out, files, MOST_TEXT),

@@ -1,5 +1,6 @@
 -- Activation by the record: room by the counts, and the new entries by their offsets.
-use Rattle.std.proofs.Common.{◌≡◌, ℕ, suc, ◌+◌, ◌<◌, ◌≤◌, Bool, true, false, ◌&&◌, leb, List, [], ◌∷◌, map, length, get_or, sym, refl, ap, ◌∙◌, le_trans, add-zero, add-suc, arith, leb-true}
+use Rattle.std.proofs.Common.{◌≡◌, ℕ, suc, ◌+◌, ◌<◌, ◌≤◌, Bool, true, false, ◌&&◌, leb, List, [], ◌∷◌, map, length, get_or, sym, refl, ap}
+use Rattle.std.proofs.Common.{◌∙◌, le_trans, add-zero, add-suc, arith, leb-true}
 use lib.ListN.{length-map}
 use Rattle.table.specs.declared.Pair.{Pair}
 use Rattle.table.specs.declared.Group.{Group}

@@ -1,5 +1,6 @@
 -- What a queue's record holds, by its places: the entries below a count, and one entry made anew.
-use Rattle.std.proofs.Common.{◌≡◌, ℕ, zero, suc, ◌+◌, ◌<◌, ◌≤◌, List, [], ◌∷◌, ◌++◌, map, length, get_or, take, drop, set, refl, ap, ◌∙◌, ap₂, le_of_suc-le-suc, not-suc-le-zero, add-one, length-set, get_or-take, drop-cons}
+use Rattle.std.proofs.Common.{◌≡◌, ℕ, zero, suc, ◌+◌, ◌<◌, ◌≤◌, List, [], ◌∷◌, ◌++◌, map, length, get_or, take, drop, set, refl, ap, ◌∙◌}
+use Rattle.std.proofs.Common.{ap₂, le_of_suc-le-suc, not-suc-le-zero, add-one, length-set, get_or-take, drop-cons}
 use mathlib.Core.Option.{none, some}
 use lib.ListN.{length-map, get_or-map, get_elem?}
 use lib.Seq.{take-set-lt}

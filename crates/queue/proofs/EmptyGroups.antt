@@ -1,5 +1,6 @@
 -- Empty groups; the statements are specs/EmptyGroups.antt.
-use Rattle.std.proofs.Common.{◌≡◌, ℕ, zero, suc, ◌^◌, ◌<◌, Bool, true, false, ◌&&◌, leb, List, [], ◌∷◌, ◌++◌, length, replicate, refl, ap, ◌∙◌, append-nil, add-zero, arith, le-leb}
+use Rattle.std.proofs.Common.{◌≡◌, ℕ, zero, suc, ◌^◌, ◌<◌, Bool, true, false, ◌&&◌, leb, List, [], ◌∷◌, ◌++◌, length, replicate, refl, ap}
+use Rattle.std.proofs.Common.{◌∙◌, append-nil, add-zero, arith, le-leb}
 use Rattle.number.specs.Basics.{any_of, all_of}
 use Rattle.number.specs.Refusal.{unsound, bad_load_depth, bad_store_depth, bad_memory_length, group_too_large}
 use Rattle.table.specs.Group.{GroupPairs, empty_group}

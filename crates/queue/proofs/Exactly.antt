@@ -1,5 +1,6 @@
 -- The ready lists are exactly what serve and write would accept.
-use Rattle.std.proofs.Common.{◌≡◌, ℕ, zero, suc, ◌+◌, ◌^◌, ◌<◌, ◌≤◌, Bool, true, false, ◌&&◌, ◌||◌, eqb, ltb, List, [], ◌∷◌, sym, refl, ap, ◌∙◌, le_trans, arith, ltb-false, ltb-true, le-ltb, lt-ltb, eqb-true, leb-true}
+use Rattle.std.proofs.Common.{◌≡◌, ℕ, zero, suc, ◌+◌, ◌^◌, ◌<◌, ◌≤◌, Bool, true, false, ◌&&◌, ◌||◌, eqb, ltb, List, [], ◌∷◌, sym, refl, ap}
+use Rattle.std.proofs.Common.{◌∙◌, le_trans, arith, ltb-false, ltb-true, le-ltb, lt-ltb, eqb-true, leb-true}
 use borrow.Author.Tests.{eqb-false}
 use Rattle.number.specs.Basics.{pick, any_of, keep_where}
 use Rattle.number.specs.Reply.{Reply, refuse, accept, accepted}

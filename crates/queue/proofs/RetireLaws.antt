@@ -1,5 +1,7 @@
 -- Finished entries leave a side from its oldest end: how many they are, and what the side is without them.
-use Rattle.std.proofs.Common.{◌≡◌, ℕ, zero, suc, ◌+◌, ◌-◌, ◌<◌, ◌≤◌, Bool, true, false, List, [], ◌∷◌, ◌++◌, map, length, get_or, take, drop, set, sym, refl, ap, ◌∙◌, le_of_suc-le-suc, not-suc-le-zero, add_comm, add-one, arith, length-append, length-drop, length-take-le, get_or-drop, take_at, get_or-append-add}
+use Rattle.std.proofs.Common.{◌≡◌, ℕ, zero, suc, ◌+◌, ◌-◌, ◌<◌, ◌≤◌, Bool, true, false, List, [], ◌∷◌, ◌++◌, map, length, get_or, take}
+use Rattle.std.proofs.Common.{drop, set, sym, refl, ap, ◌∙◌, le_of_suc-le-suc, not-suc-le-zero, add_comm, add-one, arith, length-append}
+use Rattle.std.proofs.Common.{length-drop, length-take-le, get_or-drop, take_at, get_or-append-add}
 use native.Mathlib.Nat.{sub-zero, zero-sub, suc-sub-suc}
 use mathlib.Core.List.{map-map}
 use lib.ListN.{length-map}

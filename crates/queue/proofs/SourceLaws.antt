@@ -1,5 +1,6 @@
 -- Where a load's word comes from, by the stores before it. Whoever reasons about a source does so by these laws.
-use Rattle.std.proofs.Common.{◌≡◌, ℕ, Bool, true, false, not, eqb, List, [], ◌∷◌, ◌++◌, map, length, get_or, sym, refl, ap, ◌∙◌, eq-eqb, ne_eqb}
+use Rattle.std.proofs.Common.{◌≡◌, ℕ, Bool, true, false, not, eqb, List, [], ◌∷◌, ◌++◌, map, length, get_or}
+use Rattle.std.proofs.Common.{sym, refl, ap, ◌∙◌, eq-eqb, ne_eqb}
 use mathlib.Core.List.{reverse_aux, map-append}
 use mathlib.Core.Option.{Option, none, some}
 use borrow.Author.Tests.{not-true, not-false}
@@ -96,7 +97,8 @@ module _ {a : ℕ} {stores left : List ℕ} (w : WalkedBack a stores left) where
       pub back-passed : (e.address ≡ a → ⊥) → WalkedBack a stores farther
       back-passed k = record { is = rw (addressed, ne_eqb e.address a k) at step }
 
-pub back_end : {a : ℕ} {stores : List ℕ} (left : List ℕ) → WalkedBack a stores left → length left ≡ 0 → from_memory ≡ source a (entries_in stores)
+pub back_end : {a : ℕ} {stores : List ℕ} (left : List ℕ) → WalkedBack a stores left → length left ≡ 0
+    → from_memory ≡ source a (entries_in stores)
 unfolding source
 back_end [] w h = w.is
 back_end (n ∷ left) w h = cc
@@ -135,7 +137,8 @@ past_written a s done = go s.address
     go none h = false-true h
     go (some b) h = at (eqb b a)
 
-from_written : (a : ℕ) (past : List Entry) → all_of written past ≡ true → all_of has_address past ≡ true → source_from a from_memory past ≡ from_memory
+from_written : (a : ℕ) (past : List Entry) → all_of written past ≡ true → all_of has_address past ≡ true
+    → source_from a from_memory past ≡ from_memory
 from_written a [] h k = refl
 from_written a (s ∷ past) h k =
     rw (past_written a s (and_left (written s) (all_of written past) h) (and_left (has_address s) (all_of has_address past) k))
@@ -144,5 +147,6 @@ from_written a (s ∷ past) h k =
 pub source-memory : (a : ℕ) (ss : List Entry) → all_of written ss ≡ true → all_of has_address ss ≡ true → source a ss ≡ from_memory
 source-memory a ss h k = source_from_lem a ss ∙ from_written a ss h k
 
-pub source-written : (a : ℕ) (past ss : List Entry) → all_of written past ≡ true → all_of has_address past ≡ true → source a (past ++ ss) ≡ source a ss
+pub source-written : (a : ℕ) (past ss : List Entry) → all_of written past ≡ true → all_of has_address past ≡ true
+    → source a (past ++ ss) ≡ source a ss
 source-written a past ss h k = source_append a past ss ∙ rw (source-memory a past h k) (sym (source_from_lem a ss))

@@ -1,6 +1,7 @@
 -- Walks over a table's groups, from the first on: each invariant is a record, so that a law finds its arguments from it, and `here` says
 -- which group the walk has come to. Walks over a side's entries are std's, whose words come last.
-use Rattle.std.proofs.Common.{◌≡◌, ℕ, suc, ◌+◌, ◌≤◌, Bool, true, false, not, cond, ltb, Option, Some, None, List, [], ◌∷◌, map, length, drop, refl, ◌∙◌, one-add, arith, ltb-true, ltb-false}
+use Rattle.std.proofs.Common.{◌≡◌, ℕ, suc, ◌+◌, ◌≤◌, Bool, true, false, not, cond, ltb, Option, Some, None, List, [], ◌∷◌, map, length}
+use Rattle.std.proofs.Common.{drop, refl, ◌∙◌, one-add, arith, ltb-true, ltb-false}
 use Rattle.std.specs.List.{list_all, list_any, position_or_len, prefix_len}
 use lib.ListN.{length-map}
 use Rattle.number.specs.Basics.{pick, any_of, all_of, front_while}

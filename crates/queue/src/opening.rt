@@ -29,8 +29,7 @@ fn fresh_frame(
     };
     let stores = Side {
         depth: store_depth,
-        count: 0,
-        next: first,
+        ..loads
     };
     Frame {
         table,

@@ -23,7 +23,7 @@ pub(crate) struct Serials {
 }
 
 impl Serials {
-    // One more.
+    // One more. As `PairList::push` of `grouping`, whose places hold packed pairs: neither crate stands on the other.
     fn push(&mut self, serial: u32)
         requires { self.old.count < 64 }
         ensures { Noted self.old serial self.new }
@@ -125,7 +125,7 @@ impl Queue {
     }
 
     // The same, and the front part is handed back. No contract can speak of the rest of the run once a part is handed out;
-    // `ready_into` says that it keeps its contents.
+    // `ready_into` says that it keeps its contents, and that of a refused call the whole run does.
     pub fn ready<'a>(&self, kind: Kind, out: &'a mut [u32]) -> Result<&'a mut [u32], Refusal>
         ensures fronts { front_reply result ≡ ready kind (contents_of self.now) out.old }
         ensures begins { IfOk result (λ front. front.ref_ptr ≡ out.entry.ref_ptr) }

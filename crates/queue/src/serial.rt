@@ -1,4 +1,5 @@
-// Serials: "0 follows 4294967295, so age is judged by distance from the oldest entry". Comparing serials by size breaks at 0.
+// Serials: "0 follows 4294967295, so age is judged by distance from the oldest entry". Comparing serials by size breaks at 0. A side's next
+// serial and count come as two numbers, as `oldest` and `age` take them: its depth says nothing of age.
 ghost use Rattle.std.specs.Prelude.{◌≡◌};
 ghost use Rattle.queue.specs.Contents.{age, oldest};
 

@@ -16,7 +16,8 @@ use Rattle.queue.specs.Internal.{PairsFit}
 use Rattle.queue.proofs.PartsLaws.{full, unfit}
 use Rattle.queue.proofs.SoundLaws.{table-right, count_most}
 use Rattle.queue.proofs.GroupLaws.{groups-few, group-right}
-use Rattle.queue.proofs.ActivateLaws.{with_group_is, room-record, loads-size, stores-size, appended-both, loads-fit, stores-fit, activate-unsound, activate-no-group, activate-group}
+use Rattle.queue.proofs.ActivateLaws.{with_group_is, room-record, loads-size, stores-size, appended-both, loads-fit, stores-fit}
+use Rattle.queue.proofs.ActivateLaws.{activate-unsound, activate-no-group, activate-group}
 use Rattle.queue.proofs.activation.activate_in.Goals as goal
 use Rattle.queue.proofs.activation.activate_in.Goals.{After-has_room}
 
@@ -68,12 +69,14 @@ returns-then-not-has_room-clause-moves c =
 pub append-requires : goal.append-requires
 append-requires c =
     let p = (goal.at.append-requires c).After-has_room in
-    rw (c.among-new_loads.ensures.pairs (group-inside _ _ c.group-chosen.ensures).0) (loads_fit p c.if-not-has_room.false, count_most (queue p) (good p) Kind.Store, c.in_ok-check_parts.ensures.loads_whole)
+    rw (c.among-new_loads.ensures.pairs (group-inside _ _ c.group-chosen.ensures).0)
+    (loads_fit p c.if-not-has_room.false, count_most (queue p) (good p) Kind.Store, c.in_ok-check_parts.ensures.loads_whole)
 
 pub append-requires-2 : goal.append-requires-2
 append-requires-2 c =
     let p = (goal.at.append-requires-2 c).After-has_room in
-    rw (c.among-new_stores.ensures.pairs (group-inside _ _ c.group-chosen.ensures).1) (stores_fit p c.if-not-has_room.false, count_most (queue p) (good p) Kind.Load, c.in_ok-check_parts.ensures.stores_whole)
+    rw (c.among-new_stores.ensures.pairs (group-inside _ _ c.group-chosen.ensures).1)
+    (stores_fit p c.if-not-has_room.false, count_most (queue p) (good p) Kind.Load, c.in_ok-check_parts.ensures.stores_whole)
 
 pub lengthen-requires : goal.lengthen-requires
 lengthen-requires c =

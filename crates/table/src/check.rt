@@ -106,9 +106,9 @@ fn check_group(table: &Table, i: usize, seen: &mut Ports) -> Result<(), Refusal>
     if !counts_right(group.loads.count as u32, few) {
         return Err(Refusal::BadCounts);
     }
-    let loads = group.loads.among(&table.loads);
+    let loads = group.loads.within(&table.loads);
     check_pairs(Rule::Loads { stores: few }, loads, &mut seen.loads)?;
-    let stores = group.stores.among(&table.stores);
+    let stores = group.stores.within(&table.stores);
     check_pairs(Rule::Stores { loads }, stores, &mut seen.stores)
 }
 

@@ -107,4 +107,14 @@ impl Span {
         let end = first + self.count as usize;
         places.get(first..end.min(places.len())).unwrap_or(&[])
     }
+
+    // The same of a span that lies within the places. `among` has to find that out first, and the check of a table of 16 small groups,
+    // which is most of each call on a queue, took a quarter longer by it.
+    pub(crate) fn within<'a>(self, places: &'a [u16; 32]) -> &'a [u16]
+        requires { Inside self }
+        ensures { map pair_in result.now ≡ list_of places.now self }
+    {
+        let first = self.first as usize;
+        &places[first..first + self.count as usize]
+    }
 }

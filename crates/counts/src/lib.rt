@@ -5,8 +5,6 @@
 ghost use Rattle.std.specs.Prelude.{◌≡◌};
 ghost use Rattle.counts.specs.Counts.{counted, share};
 
-use std::cmp::Ordering;
-
 // Loads served, and loads forwarded. (`repr(C)`: C hands the record in and gets it back.)
 #[repr(C)]
 #[derive(Clone, Copy, PartialEq, Eq, Default)]
@@ -41,11 +39,14 @@ impl Counts {
         let whole = thousandths / loads;
         // twice the rest, compared with the loads: is the rest below half of them?
         let twice = 2 * (thousandths % loads);
-        match twice.cmp(&loads) {
-            Ordering::Less => whole,
-            Ordering::Greater => whole + 1,
-            // an exact half: the even neighbour
-            Ordering::Equal => whole + whole % 2,
+        // No `match` on how they compare, which makes the answer of the comparison first: a share took a third longer by it.
+        if twice < loads {
+            return whole;
         }
+        if loads < twice {
+            return whole + 1;
+        }
+        // an exact half: the even neighbour
+        whole + whole % 2
     }
 }

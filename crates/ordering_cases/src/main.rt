@@ -47,23 +47,24 @@ impl Obeys for Kept {
         match named(&COMMANDS, &line[..end])? {
             Command::Far => {
                 let numbers = numbers_as(b"pww.....", line, end)?;
-                let place = word(&numbers, 0) as usize;
-                pairs::set(kept, place, word(&numbers, 1), word(&numbers, 2));
+                let numbers = numbers.list();
+                let place = word(numbers, 0) as usize;
+                pairs::set(kept, place, word(numbers, 1), word(numbers, 2));
             }
-            Command::Count => kept.count = word(&numbers_as(b"w.......", line, end)?, 0),
+            Command::Count => kept.count = word(numbers_as(b"w.......", line, end)?.list(), 0),
             Command::Order => {
-                let accesses = word(&numbers_as(b"w.......", line, end)?, 0);
+                let accesses = word(numbers_as(b"w.......", line, end)?.list(), 0);
                 return Some(show::ordered(out, &order(accesses, kept)));
             }
             Command::Small => {
-                let bytes = bytes_of(line, end)?;
-                let (accesses, digits) = bytes.split_first()?;
+                let bytes = bytes_of(line, end).ok()?;
+                let (accesses, digits) = bytes.list().split_first()?;
                 let given = order(*accesses as u32, &pairs::of_digits(digits));
                 return Some(show::ordered(out, &given));
             }
-            Command::Pairs => pairs::replace(kept, &bytes_of(line, end)?)?,
-            Command::MorePairs => pairs::repeat(kept, &bytes_of(line, end)?)?,
-            Command::Chain => pairs::chain(kept, &bytes_of(line, end)?)?,
+            Command::Pairs => pairs::replace(kept, bytes_of(line, end).ok()?.list())?,
+            Command::MorePairs => pairs::repeat(kept, bytes_of(line, end).ok()?.list())?,
+            Command::Chain => pairs::chain(kept, bytes_of(line, end).ok()?.list())?,
         }
         Some(Ok(()))
     }

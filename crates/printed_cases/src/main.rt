@@ -57,8 +57,8 @@ impl Obeys for Files {
     fn obey<W: Write>(&mut self, out: &mut W, line: &[u8]) -> Option<io::Result<()>> {
         let end = next_byte(line, 0, b' ');
         let command = named(&COMMANDS, &line[..end])?;
-        let bytes = bytes_of(line, end)?;
-        Some(obey(out, self, command, &bytes))
+        let bytes = bytes_of(line, end).ok()?;
+        Some(obey(out, self, command, bytes.list()))
     }
 }
 

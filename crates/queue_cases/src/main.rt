@@ -58,11 +58,11 @@ impl Obeys for Run {
         let end = next_byte(line, 0, b' ');
         let name = &line[..end];
         if name == b"table".as_slice() {
-            return Some(self.read(out, &bytes_of(line, end)?));
+            return Some(self.read(out, bytes_of(line, end).ok()?.list()));
         }
         let command = named(&COMMANDS, name)?;
         let numbers = numbers_as(command.shape(), line, end)?;
-        obey(out, self, command, &numbers)
+        obey(out, self, command, numbers.list())
     }
 }
 

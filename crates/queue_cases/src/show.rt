@@ -22,8 +22,8 @@ pub(crate) fn answer(out: &mut impl Write, answer: Result<Option<u32>, Refusal>)
 
 // Words, and whether what they name came back as it was handed in.
 pub(crate) fn same(out: &mut impl Write, text: &str, is_same: bool) -> io::Result<()> {
-    let said = if is_same { "same" } else { "moved" };
-    write!(out, "{text} {said}")
+    let said = if is_same { " same" } else { " moved" };
+    write!(out, "{text}{said}")
 }
 
 // Words, and a number that is there or not.

@@ -1,24 +1,20 @@
 -- Laws of what is read of a line, byte by byte.
-use Rattle.std.proofs.Common.{◌≡◌, ℕ, suc, ◌+◌, ◌-◌, ◌*◌, ◌/◌, ◌<◌, ◌≤◌, Bool, true, false, cond, not, nat_eq, List, [], ◌∷◌, length, get_or, take, drop, refl, one-add, drop-cons, arith, Option, Some, None, slice_get}
+use Rattle.std.proofs.Common.{◌≡◌, ℕ, suc, ◌+◌, ◌-◌, ◌*◌, ◌/◌, ◌<◌, ◌≤◌, Bool, true, false, cond, not, nat_eq, List, [], ◌∷◌, length}
+use Rattle.std.proofs.Common.{get_or, take, drop, refl, one-add, drop-cons, arith, slice_get}
 use Rattle.std.proofs.Math.ListN.{drop_of_length-le}
 use borrow.Author.Tests.{lt-ltb}
 use Rattle.script.specs.Lines.{pick, read_all, until, begun_by, lines_in}
 use Rattle.script.specs.Shapes.{fits_of, fit_from, taken}
 
--- one byte more; no more bytes; nothing is read behind a step that gives nothing
-pub read_next : {A : Type 0} (step : A → ℕ → Option A) (a : A) (l : List ℕ) (i : ℕ) → i < length l
-    → read_all step (Some a) (drop i l) ≡ read_all step (step a (get_or l i 0)) (drop (suc i) l)
+-- one byte more, and no more bytes
+pub read_next : {A : Type 0} (step : A → ℕ → A) (r : A) (l : List ℕ) (i : ℕ) → i < length l
+    → read_all step r (drop i l) ≡ read_all step (step r (get_or l i 0)) (drop (suc i) l)
 unfolding read_all
-read_next step a l i h = rw (drop-cons l i 0)
+read_next step r l i h = rw (drop-cons l i 0)
 
-pub read_end : {A : Type 0} (step : A → ℕ → Option A) (r : Option A) (l : List ℕ) (i : ℕ) → length l ≤ i → read_all step r (drop i l) ≡ r
+pub read_end : {A : Type 0} (step : A → ℕ → A) (r : A) (l : List ℕ) (i : ℕ) → length l ≤ i → read_all step r (drop i l) ≡ r
 unfolding read_all
 read_end step r l i h = rw (drop_of_length-le l h)
-
-pub read_none : {A : Type 0} (step : A → ℕ → Option A) (l : List ℕ) → read_all step None l ≡ None
-unfolding read_all
-read_none step [] = refl
-read_none step (b ∷ s) = read_none step s
 
 -- does the ith number fit its letter
 abbrev pub fits_at : List ℕ → ℕ → List ℕ → ℕ → Bool

@@ -1,5 +1,5 @@
 -- Where a part of a line ends, and which lines are no commands.
-use Rattle.std.specs.Prelude.{ℕ, ◌+◌, ◌-◌, ◌≤◌, ◌≡◌, Bool, true, false, List, [], ◌∷◌, Option, Some, None, eqb, nat_eq, length, get_or, drop}
+use Rattle.std.specs.Prelude.{ℕ, ◌+◌, ◌-◌, ◌≤◌, ◌≡◌, Bool, true, false, List, [], ◌∷◌, eqb, nat_eq, length, get_or, drop}
 use Rattle.std.specs.List.{position_or_len}
 
 -- a where the test holds, else b
@@ -7,14 +7,10 @@ abbrev pub pick : {A : Type 0} → Bool → A → A → A
 pick true a b = a
 pick false a b = b
 
--- what is read of some bytes, one step for each; nothing from where a step gives nothing
-abbrev pub stepped : {A : Type 0} → (A → ℕ → Option A) → Option A → ℕ → Option A
-stepped step None b = None
-stepped step (Some a) b = step a b
-
-unfoldable pub read_all : {A : Type 0} → (A → ℕ → Option A) → Option A → List ℕ → Option A
+-- what is read of some bytes, one step for each
+unfoldable pub read_all : {A : Type 0} → (A → ℕ → A) → A → List ℕ → A
 read_all step r [] = r
-read_all step r (b ∷ s) = read_all step (stepped step r b) s
+read_all step r (b ∷ s) = read_all step (step r b) s
 
 -- how many bytes stand before the first such byte, or before the end
 abbrev pub until : ℕ → List ℕ → ℕ

@@ -1,6 +1,7 @@
 -- The numbers that a command takes.
-use Rattle.std.specs.Prelude.{ℕ, zero, suc, ◌+◌, ◌*◌, ◌/◌, Bool, true, false, List, Option, Some, None, eqb, ltb, leb, length, get_or, slice_get}
-use Rattle.arrayvec.specs.ArrayVec.{ArrayVec}
+use Rattle.std.specs.Prelude.{ℕ, zero, suc, ◌+◌, ◌*◌, ◌/◌, Bool, true, false, List, eqb, ltb, leb, length, take, get_or, slice_get}
+use Rattle.std.specs.Prelude.{Option, Some, None, Result, Ok, Err}
+use Rattle.script.specs.declared.Numbers.{Numbers}
 use Rattle.script.specs.Lines.{pick}
 use Rattle.script.specs.Decimal.{numbers_from}
 
@@ -26,10 +27,10 @@ fit_from shapes base numbers i (suc left) =
 abbrev pub taken : List ℕ → ℕ → List ℕ → Bool
 taken shapes command numbers = pick (ltb command (length shapes / 8)) (fit_from shapes (command * 8) numbers 0 8) false
 
--- the numbers of a line from a place on, if a command with these letters takes them
-abbrev pub if_taken : List ℕ → Option (ArrayVec ℕ) → Option (ArrayVec ℕ)
-if_taken shape None = None
-if_taken shape (Some numbers) = pick (taken shape 0 numbers.items) (Some numbers) None
+-- the numbers of a line from a place on, if the line has nothing else and a command with these letters takes them
+abbrev pub if_taken : List ℕ → Result Numbers Numbers → Option Numbers
+if_taken shape (Err numbers) = None
+if_taken shape (Ok numbers) = pick (taken shape 0 (take numbers.count numbers.values)) (Some numbers) None
 
-abbrev pub numbers_as : List ℕ → List ℕ → ℕ → Option (ArrayVec ℕ)
+abbrev pub numbers_as : List ℕ → List ℕ → ℕ → Option Numbers
 numbers_as shape line from = if_taken shape (numbers_from line from)

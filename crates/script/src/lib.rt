@@ -3,7 +3,7 @@
 
 #![tactic(auto)]
 
-ghost use Rattle.std.specs.Prelude.{◌≡◌, ◌%◌, ◌^◌, ◌++◌, ◌∷◌, [], true, drop, slice_get, OnOk, IfSome};
+ghost use Rattle.std.specs.Prelude.{◌≡◌, ◌%◌, ◌^◌, ◌++◌, ◌∷◌, [], true, take, drop, slice_get, OnOk, IfSome};
 ghost use Rattle.script.specs.Shapes.{most_of, fits_of, taken, numbers_as};
 ghost use Rattle.std.specs.Io.KnownBytes.{Appends};
 ghost use Rattle.script.specs.Printed.{all_spaced};
@@ -11,26 +11,51 @@ ghost use Rattle.std.specs.Option.{unwrap_or};
 ghost use Rattle.std.specs.Iterator.{YieldsFirstRef, item_count};
 ghost use Rattle.script.specs.Lines.{NextByte, until, is_text, lines_in};
 ghost use Rattle.script.specs.Names.{named_in};
-ghost use Rattle.script.specs.Decimal.{with_digit, spaced, digited, number_step, numbers_from};
-ghost use Rattle.script.specs.Hexadecimal.{hexadecimal, byte_step, bytes_from};
+ghost use Rattle.script.specs.Decimal.{with_digit, wrong_numbers, spaced, digited, number_step, numbers_from};
+ghost use Rattle.script.specs.Hexadecimal.{hexadecimal, wrong_bytes, second_digit, byte_step, bytes_from};
 
-use arrayvec::ArrayVec;
 use std::fmt::Display;
 use std::io;
 use std::io::Write;
 
-// The numbers of a line.
-pub type Numbers = ArrayVec<u64, 8>;
+// The numbers of a line, as many as `count`. An array with a count, and no `ArrayVec`, which is not `Copy`.
+#[derive(Clone, Copy)]
+pub struct Numbers {
+    pub count: usize,
+    pub values: [u64; 8],
+}
 
-// The bytes of a line.
-pub type Bytes = ArrayVec<u8, 128>;
+impl Numbers {
+    // Those that count, which are all where the count says more.
+    pub fn list(&self) -> &[u64]
+        ensures { result.now ≡ take self.now.count self.now.values }
+    {
+        &self.values[..self.count.min(8)]
+    }
+}
 
-// The numbers that are read so far. The last of them is `bare` where only its space is read, and no digit yet: a mark beside them, and
-// no `Option`, since there are numbers either way.
-#[derive(Drop)]
+// The bytes of a line, likewise.
+#[derive(Clone, Copy)]
+pub struct Bytes {
+    pub count: usize,
+    pub values: [u8; 128],
+}
+
+impl Bytes {
+    pub fn list(&self) -> &[u8]
+        ensures { result.now ≡ take self.now.count self.now.values }
+    {
+        &self.values[..self.count.min(128)]
+    }
+}
+
+// The numbers that are read so far, and whether there was nothing else. The last of them is `bare` where only its space is read, and no
+// digit yet: a mark beside them, and no `Option`, since there are numbers either way.
+#[derive(Clone, Copy)]
 struct NumbersRead {
     numbers: Numbers,
     bare: bool,
+    right: bool,
 }
 
 // What comes next among bytes: a space, a digit, or a second digit behind this one.
@@ -41,11 +66,12 @@ enum Next {
     Second(u8),
 }
 
-// The bytes that are read so far, and what comes next.
-#[derive(Drop)]
+// The bytes that are read so far, what comes next, and whether there was nothing else.
+#[derive(Clone, Copy)]
 struct BytesRead {
     bytes: Bytes,
     next: Next,
+    right: bool,
 }
 
 // What is left of a text, which its lines come from.
@@ -119,51 +145,72 @@ fn with_digit(value: u64, digit: u8) -> u64
     u64::MAX
 }
 
+// The line has something else. What was read before it is kept, and the rest of the line is read on.
+fn wrong_numbers(mut read: NumbersRead) -> NumbersRead
+    ensures { result ≡ wrong_numbers read }
+{
+    read.right = false;
+    read.bare = false;
+    read
+}
+
 // A space begins a number, if the one before has a digit and there is room.
-fn spaced(mut read: NumbersRead) -> Option<NumbersRead>
+fn spaced(mut read: NumbersRead) -> NumbersRead
     ensures { result ≡ spaced read }
 {
-    if read.bare {
-        return None;
+    if read.bare || 8 <= read.numbers.count {
+        return wrong_numbers(read);
     }
-    read.numbers.try_push(0).ok()?;
+    read.numbers.count += 1;
     read.bare = true;
-    Some(read)
+    read
 }
 
 // A digit belongs to the last number.
-fn digited(mut read: NumbersRead, digit: u8) -> Option<NumbersRead>
+fn digited(mut read: NumbersRead, digit: u8) -> NumbersRead
     ensures { result ≡ digited read digit }
 {
-    let last = read.numbers.pop()?;
-    read.numbers.push(with_digit(last, digit));
-    read.bare = false;
-    Some(read)
+    match read.numbers.count {
+        count @ 1..=8 => {
+            let last = read.numbers.values[count - 1];
+            read.numbers.values[count - 1] = with_digit(last, digit);
+            read.bare = false;
+            read
+        }
+        _ => wrong_numbers(read),
+    }
 }
 
-fn number_step(read: NumbersRead, byte: u8) -> Option<NumbersRead>
+fn number_step(read: NumbersRead, byte: u8) -> NumbersRead
     ensures { result ≡ number_step read byte }
 {
     match byte {
         b' ' => spaced(read),
         b'0'..=b'9' => digited(read, byte - b'0'),
-        _ => None,
+        _ => wrong_numbers(read),
     }
 }
 
-// The numbers of a line from a place on, each with one space before it, if there is nothing else and they are at most 8; one of
-// 18446744073709551610 or more counts as 18446744073709551615.
-pub fn numbers_of(line: &[u8], from: usize) -> Option<Numbers>
+// The numbers of a line from a place on, each with one space before it; one of 18446744073709551610 or more counts as
+// 18446744073709551615. Where there is something else, or they are more than 8, it is an `Err`, with those that were read all the same.
+pub fn numbers_of(line: &[u8], from: usize) -> Result<Numbers, Numbers>
     ensures { result ≡ numbers_from line.now from }
 {
     let mut read = NumbersRead {
-        numbers: Numbers::new(),
+        numbers: Numbers {
+            count: 0,
+            values: [0; 8],
+        },
         bare: false,
+        right: true,
     };
     for byte in behind(line, from) {
-        read = number_step(read, *byte)?;
+        read = number_step(read, *byte);
     }
-    if read.bare { None } else { Some(read.numbers) }
+    if read.right && !read.bare {
+        return Ok(read.numbers);
+    }
+    Err(read.numbers)
 }
 
 // A hexadecimal digit's value. It takes upper case alone, where `to_digit` takes both.
@@ -177,37 +224,61 @@ fn hexadecimal(byte: u8) -> Option<u8>
     }
 }
 
-fn byte_step(mut read: BytesRead, byte: u8) -> Option<BytesRead>
-    ensures { result ≡ byte_step read byte }
+fn wrong_bytes(mut read: BytesRead) -> BytesRead
+    ensures { result ≡ wrong_bytes read }
 {
-    read.next = match read.next {
-        Next::Space if byte == b' ' => Next::First,
-        Next::Space => return None,
-        Next::First => Next::Second(hexadecimal(byte)?),
-        Next::Second(high) => {
-            let low = hexadecimal(byte)?;
-            read.bytes.try_push(high % 16 * 16 + low % 16).ok()?;
-            Next::Space
-        }
-    };
-    Some(read)
+    read.right = false;
+    read.next = Next::Space;
+    read
 }
 
-// The bytes of a line from a place on, each two digits with one space before them, if there is nothing else and they are at most 128.
-// Not one function with `numbers_of`: what is read so far, the step and the end differ, which is all but the `for`.
-pub fn bytes_of(line: &[u8], from: usize) -> Option<Bytes>
+// A second digit makes a byte, if it is a digit and there is room.
+fn second_digit(mut read: BytesRead, high: u8, digit: Option<u8>) -> BytesRead
+    ensures { result ≡ second_digit read high digit }
+{
+    match digit {
+        Some(low) if read.bytes.count < 128 => {
+            read.bytes.values[read.bytes.count] = high % 16 * 16 + low % 16;
+            read.bytes.count += 1;
+            read.next = Next::Space;
+            read
+        }
+        _ => wrong_bytes(read),
+    }
+}
+
+fn byte_step(mut read: BytesRead, byte: u8) -> BytesRead
+    ensures { result ≡ byte_step read byte }
+{
+    read.next = match (read.next, hexadecimal(byte)) {
+        (Next::Space, _) if byte == b' ' => Next::First,
+        (Next::First, Some(high)) => Next::Second(high),
+        (Next::Second(high), low) => return second_digit(read, high, low),
+        _ => return wrong_bytes(read),
+    };
+    read
+}
+
+// The bytes of a line from a place on, each two digits with one space before them. Where there is something else, or they are more than
+// 128, it is an `Err`, with those that were read all the same. Not one function with `numbers_of`: what is read so far, the step and the
+// end differ, which is all but the `for`.
+pub fn bytes_of(line: &[u8], from: usize) -> Result<Bytes, Bytes>
     ensures { result ≡ bytes_from line.now from }
 {
     let mut read = BytesRead {
-        bytes: Bytes::new(),
+        bytes: Bytes {
+            count: 0,
+            values: [0; 128],
+        },
         next: Next::Space,
+        right: true,
     };
     for byte in behind(line, from) {
-        read = byte_step(read, *byte)?;
+        read = byte_step(read, *byte);
     }
     match read.next {
-        Next::Space => Some(read.bytes),
-        _ => None,
+        Next::Space if read.right => Ok(read.bytes),
+        _ => Err(read.bytes),
     }
 }
 
@@ -324,8 +395,8 @@ pub fn takes(shapes: &[u8], command: usize, numbers: &[u64]) -> bool
 pub fn numbers_as(shape: &[u8; 8], line: &[u8], from: usize) -> Option<Numbers>
     ensures { result ≡ numbers_as shape.now line.now from }
 {
-    let numbers = numbers_of(line, from)?;
-    if takes(shape, 0, &numbers) {
+    let numbers = numbers_of(line, from).ok()?;
+    if takes(shape, 0, numbers.list()) {
         return Some(numbers);
     }
     None

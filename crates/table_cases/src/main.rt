@@ -45,12 +45,12 @@ impl Obeys for Run {
         let end = next_byte(line, 0, b' ');
         let name = &line[..end];
         if name == b"bytes".as_slice() {
-            self.bytes = bytes_of(line, end)?;
+            self.bytes = bytes_of(line, end).ok()?;
             return Some(Ok(()));
         }
         let (shape, command) = named(&COMMANDS, name)?;
         let numbers = numbers_as(shape, line, end)?;
-        obey(out, self, command, &numbers)
+        obey(out, self, command, numbers.list())
     }
 }
 

@@ -20,7 +20,7 @@ fn event_at(out: &mut impl Write, bytes: &[u8], at: usize) -> io::Result<()> {
 
 // Reads a table, and keeps it where it is right.
 fn table_in(out: &mut impl Write, run: &mut Run) -> io::Result<()> {
-    match read_table(&run.bytes) {
+    match read_table(run.bytes.list()) {
         Ok(table) => {
             out.write_all(b": 0")?;
             show::groups(out, &table)?;
@@ -39,9 +39,9 @@ pub(crate) fn read(
 ) -> io::Result<()> {
     let at = numbers.first().copied().unwrap_or(0) as usize;
     match what {
-        Read::Number => show::number_read(out, read_number(&run.bytes, at)),
-        Read::Event => event_at(out, &run.bytes, at),
-        Read::Header => show::header_read(out, read_header(&run.bytes)),
+        Read::Number => show::number_read(out, read_number(run.bytes.list(), at)),
+        Read::Event => event_at(out, run.bytes.list(), at),
+        Read::Header => show::header_read(out, read_header(run.bytes.list())),
         Read::Table => table_in(out, run),
     }
 }

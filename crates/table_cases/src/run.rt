@@ -4,7 +4,7 @@ use table::parts::{pack_group, pack_pair};
 use table::{Group, Pair, Span, Table};
 
 // The bytes to read, the length of a buffer that is written to, whose bytes are EE before, and a table.
-#[derive(Drop)]
+#[derive(Clone, Copy)]
 pub(crate) struct Run {
     pub bytes: Bytes,
     pub length: usize,
@@ -15,7 +15,10 @@ impl Run {
     // No `Default`, since a table has none (`Table::none`).
     pub(crate) fn fresh() -> Run {
         Run {
-            bytes: Bytes::new(),
+            bytes: Bytes {
+                count: 0,
+                values: [0; 128],
+            },
             length: 0,
             table: Table::none(),
         }

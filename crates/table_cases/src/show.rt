@@ -31,10 +31,16 @@ pub(crate) fn number_read(
     }
 }
 
-// Bytes in hexadecimal, each with a space before it.
+// The digits of a byte in hexadecimal.
+const DIGITS: [u8; 16] = *b"0123456789ABCDEF";
+
+// Bytes in hexadecimal, each with a space before it. No `write!` with `{byte:02X}`: it writes each piece by itself, and standard output
+// keeps nothing back.
 fn bytes(out: &mut impl Write, values: &[u8]) -> io::Result<()> {
     for byte in values {
-        write!(out, " {byte:02X}")?;
+        let high = DIGITS[(*byte / 16) as usize];
+        let low = DIGITS[(*byte % 16) as usize];
+        out.write_all(&[b' ', high, low])?;
     }
     Ok(())
 }

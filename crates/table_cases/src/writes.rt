@@ -45,6 +45,9 @@ pub(crate) fn write(
     let room = word(numbers, 0) as usize;
     let answer = put(&run.table, what, numbers, buffer.get_mut(..room)?);
     let shown = show::written(out, answer, buffer);
-    run.bytes = Bytes::try_from(&*buffer).ok()?;
+    run.bytes = Bytes {
+        count: run.length,
+        values: bytes,
+    };
     Some(shown)
 }

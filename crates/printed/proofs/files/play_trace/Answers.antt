@@ -21,10 +21,8 @@ use Rattle.printed.proofs.files.play_trace.Goals.{In_ok-queue}
 opened : (c : In_ok-queue) → trace_files (groups_of c.args.table) c.args.trace.now ≡
     start_files (start_of (contents_of c.in_ok-queue.queue) (events_from c.args.trace.now c.open_trace-opened.result.at))
 opened c =
-    let gs = groups_of c.args.table in
-    let trace = c.args.trace.now in
-    trace-short gs trace c.if-trace-gt-MOST_BYTES.false
-    ∙ ap start_files (prepare-opened gs trace c.open_trace-opened.result c.open_trace-opened.ensures c.in_ok-queue.queue c.in_ok-queue.was)
+    trace-short (groups_of c.args.table) c.args.trace.now c.if-trace-gt-MOST_BYTES.false
+    ∙ ap start_files (prepare-opened c.open_trace-opened.ensures c.in_ok-queue.was)
 
 pub returns-then-trace-gt-MOST_BYTES : goal.returns-then-trace-gt-MOST_BYTES
 returns-then-trace-gt-MOST_BYTES c =
@@ -35,12 +33,11 @@ returns-then-trace-gt-MOST_BYTES c =
 pub returns-in_err-queue : goal.returns-in_err-queue
 returns-in_err-queue c =
     let a = c.args in
-    let gs = groups_of a.table in
     let e = c.in_err-queue.field-0.0 in
-    let refused = prepare-refused gs a.trace.now c.open_trace-opened.result c.open_trace-opened.ensures e c.in_err-queue.was in
     let is : c.from_residual.result ≡ Err e = search rules in
+    let short = trace-short (groups_of a.table) a.trace.now c.if-trace-gt-MOST_BYTES.false in
     rw is (told-trace a.memory.now (buffers a.answers.now a.given.now a.values.now) e
-    (trace-short gs a.trace.now c.if-trace-gt-MOST_BYTES.false ∙ ap start_files refused))
+    (short ∙ ap start_files (prepare-refused c.open_trace-opened.ensures c.in_err-queue.was)))
 
 pub returns-in_err-count_events : goal.returns-in_err-count_events
 returns-in_err-count_events c =
@@ -55,12 +52,10 @@ returns-in_err-count_events c =
 pub play_events-requires : goal.play_events-requires
 play_events-requires c =
     let a = c.args in
-    let gs = groups_of a.table in
-    let is = trace-opened gs a.trace.now c.open_trace-opened.result c.open_trace-opened.ensures c.in_ok-queue.queue c.in_ok-queue.was in
     record {
       cleared = cleared a.memory.now (buffers a.answers.now a.given.now a.values.now) c.requires (c.fill.ensures.after λ y same. same);
       short = c.if-trace-gt-MOST_BYTES.false;
-      memory_few = opened-words gs (read_header a.trace.now) is;
+      memory_few = opened-words (groups_of a.table) (read_header a.trace.now) (trace-opened c.open_trace-opened.ensures c.in_ok-queue.was);
     }
 
 -- all events are read: they are played on the memory, which is cleared by then

@@ -103,10 +103,11 @@ fn play_trace(
     if MOST_BYTES < trace.len() {
         return Err(Refusal::FileTooLong);
     }
-    let (queue, at) = open_trace(table, trace)?;
-    count_events(trace, at)?;
+    let opened = open_trace(table, trace);
+    let queue = opened.queue?;
+    count_events(trace, opened.at)?;
     memory.fill(0);
-    play_events(queue, trace, at, memory, answers, given, values)
+    play_events(queue, trace, opened.at, memory, answers, given, values)
 }
 
 // Plays both files' bytes. It is lent a memory of at least `MOST_WORDS` words and three buffers of at least `MOST_BYTES` places;

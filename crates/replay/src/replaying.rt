@@ -107,6 +107,9 @@ pub fn replay(
         (record { answers = answers.old; given = given.old; values = values.old }))
         (replayed_as result counts.new) memory.new (record { answers = answers.new; given = given.new; values = values.new }) }
 {
-    let (queue, at) = open_trace(table, trace)?;
-    replay_from(queue, trace, at, memory, counts, answers, given, values)
+    let opened = open_trace(table, trace);
+    let queue = opened.queue?;
+    replay_from(
+        queue, trace, opened.at, memory, counts, answers, given, values,
+    )
 }

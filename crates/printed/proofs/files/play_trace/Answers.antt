@@ -19,12 +19,10 @@ use Rattle.printed.proofs.files.play_trace.Goals.{In_ok-queue}
 
 -- the trace of which a queue was opened is the events behind its leading numbers
 opened : (c : In_ok-queue) → trace_files (groups_of c.args.table) c.args.trace.now ≡
-    start_files (start_of (contents_of c.in_ok-queue.queue) (events_from c.args.trace.now c.in_ok-queue.at))
+    start_files (start_of (contents_of c.in_ok-queue.queue) (events_from c.args.trace.now c.open_trace-opened.result.at))
 opened c =
-    let gs = groups_of c.args.table in
-    let trace = c.args.trace.now in
-    trace-short gs trace c.if-trace-gt-MOST_BYTES.false
-    ∙ ap start_files (prepare-opened gs trace c.in_ok-queue.queue c.in_ok-queue.at c.in_ok-queue.ensures)
+    trace-short (groups_of c.args.table) c.args.trace.now c.if-trace-gt-MOST_BYTES.false
+    ∙ ap start_files (prepare-opened c.open_trace-opened.ensures c.in_ok-queue.was)
 
 pub returns-then-trace-gt-MOST_BYTES : goal.returns-then-trace-gt-MOST_BYTES
 returns-then-trace-gt-MOST_BYTES c =
@@ -35,18 +33,17 @@ returns-then-trace-gt-MOST_BYTES c =
 pub returns-in_err-queue : goal.returns-in_err-queue
 returns-in_err-queue c =
     let a = c.args in
-    let gs = groups_of a.table in
     let e = c.in_err-queue.field-0.0 in
-    let refused = prepare-refused gs a.trace.now e c.in_err-queue.ensures in
     let is : c.from_residual.result ≡ Err e = search rules in
+    let short = trace-short (groups_of a.table) a.trace.now c.if-trace-gt-MOST_BYTES.false in
     rw is (told-trace a.memory.now (buffers a.answers.now a.given.now a.values.now) e
-    (trace-short gs a.trace.now c.if-trace-gt-MOST_BYTES.false ∙ ap start_files refused))
+    (short ∙ ap start_files (prepare-refused c.open_trace-opened.ensures c.in_err-queue.was)))
 
 pub returns-in_err-count_events : goal.returns-in_err-count_events
 returns-in_err-count_events c =
     let a = c.args in
     let e = c.in_err-count_events.field-0.0 in
-    let fault = not_read a.trace.now c.in_ok-queue.at c.in_err-count_events.ensures in
+    let fault = not_read a.trace.now c.open_trace-opened.result.at c.in_err-count_events.ensures in
     let is : c.from_residual-in_err-count_events.result ≡ Err e = search rules in
     rw is (told-trace a.memory.now (buffers a.answers.now a.given.now a.values.now) e
     (opened (goal.at.returns-in_err-count_events c).In_ok-queue ∙ ap
@@ -55,12 +52,10 @@ returns-in_err-count_events c =
 pub play_events-requires : goal.play_events-requires
 play_events-requires c =
     let a = c.args in
-    let gs = groups_of a.table in
-    let is = trace-opened gs a.trace.now c.in_ok-queue.queue c.in_ok-queue.at c.in_ok-queue.ensures in
     record {
       cleared = cleared a.memory.now (buffers a.answers.now a.given.now a.values.now) c.requires (c.fill.ensures.after λ y same. same);
       short = c.if-trace-gt-MOST_BYTES.false;
-      memory_few = opened-words gs (read_header a.trace.now) is;
+      memory_few = opened-words (groups_of a.table) (read_header a.trace.now) (trace-opened c.open_trace-opened.ensures c.in_ok-queue.was);
     }
 
 -- all events are read: they are played on the memory, which is cleared by then
@@ -68,7 +63,7 @@ pub returns : goal.returns
 returns c =
     let a = c.args in
     let b = buffers a.answers.now a.given.now a.values.now in
-    let read = all_read a.trace.now c.in_ok-queue.at c.in_ok-count_events.ensures in
+    let read = all_read a.trace.now c.open_trace-opened.result.at c.in_ok-count_events.ensures in
     told-as a.memory.now b (opened (goal.at.returns c).In_ok-queue)
     (told-cleared a.memory.now b (ap
     (λ (g : Reply (List Event)). start_files (start_of (contents_of c.in_ok-queue.queue) g)) read.is)

@@ -16,12 +16,8 @@ pub(crate) struct Files {
 // Puts bytes behind those of a file, as many as there is room for. (The pairs of `ordering_cases` go otherwise: two bytes to each, and
 // beyond the last place their count goes on.)
 fn append(file: &mut File, bytes: &[u8]) {
-    for byte in bytes {
-        if file.is_full() {
-            return;
-        }
-        file.push(*byte);
-    }
+    let count = bytes.len().min(file.remaining_capacity());
+    let _ = file.try_extend_from_slice(&bytes[..count]);
 }
 
 // Puts bytes in place of those of a file.
@@ -30,12 +26,15 @@ pub(crate) fn replace(file: &mut File, bytes: &[u8]) {
     append(file, bytes);
 }
 
-// Appends the bytes behind the first two as often as these two say, the higher one first.
+// Appends the bytes behind the first two as often as these two say, the higher one first; no more often than that changes the file.
 pub(crate) fn repeat(file: &mut File, bytes: &[u8]) {
     let [high, low, rest @ ..] = bytes else {
         return;
     };
     for _ in 0..*high as usize * 256 + *low as usize {
+        if file.is_full() || rest.is_empty() {
+            return;
+        }
         append(file, rest);
     }
 }

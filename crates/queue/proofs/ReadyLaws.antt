@@ -9,7 +9,6 @@ use lib.Seq.{take-append_seam}
 use Rattle.number.specs.Basics.{pick, keep_where}
 use Rattle.queue.specs.declared.Kind.{Kind}
 use Rattle.queue.specs.declared.Kind.TheVariants.{Load as load, Store as store}
-use Rattle.queue.specs.declared.ready.Serials.{Serials}
 use Rattle.queue.specs.declared.Queue.{Queue}
 use Rattle.number.specs.declared.refusal.Refusal.{Refusal}
 use Rattle.number.specs.Refusal.{too_short, unsound, no_serial, refusal_number}
@@ -20,7 +19,7 @@ use Rattle.queue.specs.Sound.{sound}
 use Rattle.queue.specs.Serve.{unsettled, Source, from_store, from_memory, source, loaded_from, may_serve, served_with, serve_at, serve}
 use Rattle.queue.specs.Write.{may_write, written_with, write_at, write}
 use Rattle.queue.specs.Ready.{serials, count_of, oldest_of, answer_to, any_memory, would, ready_serials, ready, Readied, readied, Readies}
-use Rattle.queue.specs.Internal.{may_write_at, load_ready, ready_at, InReach, serials_listed, Noted, Lists, HandedOut}
+use Rattle.queue.specs.Internal.{may_write_at, load_ready, ready_at, InReach, Serials, serials_listed, Noted, Lists, HandedOut}
 use Rattle.queue.proofs.ContentsLaws.{counts_of, side_next, side-count, side-get_elem?, side-take}
 use Rattle.number.proofs.AnswerLaws.{refusals_positive}
 use Rattle.number.proofs.ReplyLaws.{accepted_number, not_zero}
@@ -199,13 +198,13 @@ module _ (kind : Kind) (q : Contents) (run : List ℕ) where
   ready-sound right = rw right
 
 -- serials that were handed out are what the rule gives
-pub handed : (q : Queue) {found lent run : List ℕ} {s : Serials} {r : Result ℕ Refusal} → Lists found s → HandedOut s lent r run
+pub handed : (q : Queue) {found lent run : List ℕ} {r : Result ℕ Refusal} → HandedOut found lent r run
     → Readies q lent (need (leb (length found) (length lent)) too_short (accept found)) (readied r q) run
-handed q {found} {lent} {run} {s} {r} l h = rw (← l.size) (go (leb s.count (length lent)) h.gives h.leaves)
+handed q {found} {lent} {run} {r} h = go (leb (length found) (length lent)) h.gives h.leaves
   where
-    go : (room : Bool) → reply r ≡ need room too_short (accept s.count) → run ≡ pick room (serials_listed s ++ drop s.count lent) lent
+    go : (room : Bool) → reply r ≡ need room too_short (accept (length found)) → run ≡ pick room (found ++ drop (length found) lent) lent
         → Readies q lent (need room too_short (accept found)) (readied r q) run
-    go true e d = record { outcome = rw (e, l.size); run_is = d ∙ rw (l.are, l.size) }
+    go true e d = record { outcome = rw e; run_is = d }
     go false e d = record { outcome = rw e; run_is = d }
 
 not-zero : {B : Type 0} (n : ℕ) → n ≡ 0 → not_zero n ≡ true → B

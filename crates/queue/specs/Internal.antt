@@ -19,7 +19,6 @@ use Rattle.queue.specs.declared.arguments.Argument.{Argument}
 use Rattle.queue.specs.declared.arguments.Argument.TheVariants.{LoadAddress, StoreAddress, StoreData}
 use Rattle.queue.specs.declared.serving.Source as coded
 use Rattle.queue.specs.declared.serving.Source.TheVariants.{Unknown, NoData, Forwarded, Memory}
-use Rattle.queue.specs.declared.ready.Serials.{Serials}
 use Rattle.queue.specs.Entry.{entry_struct, of_port_without, Entry, new_entry, data_of, written, entry_in}
 use Rattle.queue.specs.Contents.{Contents, contents_of, entries_held, with_sides, after, first_place}
 use Rattle.queue.specs.Touch.{same}
@@ -200,7 +199,11 @@ abbrev pub InReach : Kind → List ℕ → List ℕ → ℕ → Type 0
 InReach load loads stores i = Reaches loads stores i
 InReach store loads stores i = Reaches stores loads i
 
--- serials in an array
+-- serials in an array: how many of its places hold one; the others mean nothing
+pub record Serials : Type 0 where
+  pub count : ℕ
+  pub numbers : List ℕ
+
 abbrev pub serials_listed : Serials → List ℕ
 serials_listed s = take s.count s.numbers
 
@@ -216,6 +219,6 @@ pub record Lists (l : List ℕ) (r : Serials) : Type 0 where
   pub are : serials_listed r ≡ l
 
 -- the serials stand at the front of a run that has room for them
-pub record HandedOut (s : Serials) (lent : List ℕ) (r : Result ℕ Refusal) (run : List ℕ) : Type 0 where
-  pub gives : reply r ≡ need (nat_le s.count (length lent)) too_short (accept s.count)
-  pub leaves : run ≡ pick (nat_le s.count (length lent)) (serials_listed s ++ drop s.count lent) lent
+pub record HandedOut (l lent : List ℕ) (r : Result ℕ Refusal) (run : List ℕ) : Type 0 where
+  pub gives : reply r ≡ need (nat_le (length l) (length lent)) too_short (accept (length l))
+  pub leaves : run ≡ pick (nat_le (length l) (length lent)) (l ++ drop (length l) lent) lent

@@ -14,23 +14,14 @@ use crate::writing::write_fault;
 use crate::{Entry, Frame, Kind, Queue};
 use number::refusal::Refusal;
 
-// Serials, as many as a side can hold. Places beyond the count mean nothing. No heap: what is ready is known only once it is gathered,
-// and nothing is written to the lent run before that. An array with a count, and no `ArrayVec`: the libraries stand on each other alone.
-#[derive(Clone, Copy)]
-pub(crate) struct Serials {
-    pub count: usize,
-    pub numbers: [u32; 64],
-}
-
-impl Serials {
-    // One more. As `PairList::push` of `grouping`, whose places hold packed pairs: neither crate stands on the other.
-    fn push(&mut self, serial: u32)
-        requires { self.old.count < 64 }
-        ensures { Noted self.old serial self.new }
-    {
-        self.numbers[self.count] = serial;
-        self.count += 1;
-    }
+// One more serial. What is gathered is a lent array and how many of its places hold a serial; the others mean nothing. As
+// `PairList::push` of `grouping`, whose places hold packed pairs: neither crate stands on the other.
+fn put(numbers: &mut [u32; 64], count: usize, serial: u32) -> usize
+    requires { count < 64 }
+    ensures { Noted (record { count = count; numbers = numbers.old }) serial (record { count = result; numbers = numbers.new }) }
+{
+    numbers[count] = serial;
+    count + 1
 }
 
 // Would the load be served now?
@@ -58,37 +49,40 @@ fn ready_at(kind: Kind, load_entries: &[u64], store_entries: &[u64], i: usize) -
     }
 }
 
-// The serials of the loads that would be served now, or of the stores that would be written. By places, since a store's test reads
-// the run up to it, too.
-fn ready_serials(frame: &Frame, kind: Kind, load_entries: &[u64], store_entries: &[u64]) -> Serials
+// Gathers the serials of the loads that would be served now, or of the stores that would be written, and says how many. By places,
+// since a store's test reads the run up to it, too.
+fn ready_serials(
+    frame: &Frame,
+    kind: Kind,
+    load_entries: &[u64],
+    store_entries: &[u64],
+    numbers: &mut [u32; 64],
+) -> usize
     requires { Checked frame.now load_entries.now store_entries.now }
-    ensures { Lists (ready_serials kind (contents_of (queue_of frame.now load_entries.now store_entries.now))) result }
+    ensures { Lists (ready_serials kind (contents_of (queue_of frame.now load_entries.now store_entries.now)))
+        (record { count = result; numbers = numbers.new }) }
 {
     let side = frame.side(kind);
-    let mut found = Serials {
-        count: 0,
-        numbers: [0; 64],
-    };
+    let mut count = 0;
     let mut serial = oldest_serial(side.next, side.count);
     for i in 0..side.count as usize {
         if ready_at(kind, load_entries, store_entries, i) {
-            found.push(serial);
+            count = put(numbers, count, serial);
         }
         serial = serial.wrapping_add(1);
     }
-    found
+    count
 }
 
 // Puts the serials at the front of the lent run, where it has room for them: 10 where not. The rest keeps its contents.
-fn hand_out(found: &Serials, out: &mut [u32]) -> Result<usize, Refusal>
-    requires { found.now.count ≤ 64 }
+fn hand_out(found: &[u32], out: &mut [u32]) -> Result<usize, Refusal>
     ensures { HandedOut found.now out.old result out.new }
 {
-    let count = found.count;
+    let count = found.len();
     if out.len() < count {
         return Err(Refusal::TooShort);
     }
-    out[..count].copy_from_slice(&found.numbers[..count]);
+    out[..count].copy_from_slice(found);
     Ok(count)
 }
 
@@ -105,8 +99,12 @@ pub fn ready_in(
         (readied result q) out.new }
 {
     check_parts(frame, load_entries, store_entries)?;
-    let found = ready_serials(frame, kind, load_entries, store_entries);
-    hand_out(&found, out)
+    // No heap: what is ready is known only once it is gathered, and nothing is written to the lent run before that. One array of 64
+    // numbers, of 256 bytes, which is cleared in place: with its count in one record it would be cleared by `memset`, a name that C
+    // would then have to bring. And no `ArrayVec`: the libraries stand on each other alone.
+    let mut numbers = [0; 64];
+    let count = ready_serials(frame, kind, load_entries, store_entries, &mut numbers);
+    hand_out(&numbers[..count], out)
 }
 
 impl Queue {

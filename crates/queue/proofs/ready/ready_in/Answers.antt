@@ -22,4 +22,4 @@ pub returns : goal.returns
 returns c =
     let fit = c.in_ok-check_parts.ensures in
     let q = queue (goal.at.returns c).After-check_parts in
-    rw (full fit, ready-sound c.args.kind (contents_of q) c.args.out.now fit.right) (handed q c.ready_serials-found.ensures c.hand_out.ensures)
+    rw (full fit, ready-sound c.args.kind (contents_of q) c.args.out.now fit.right) (rw c.ready_serials-count.ensures.are at (handed q c.hand_out.ensures))

@@ -18,9 +18,9 @@ ready_at-requires c =
     in_reach (whole p) c.requires.right c.requires.loads_whole c.requires.stores_whole c.args.kind c.loop-i.i
     (rw c.side-side.ensures at c.loop-i-test.true)
 
-pub push-requires : goal.push-requires
-push-requires c =
-    let p = (goal.at.push-requires c).After-side-side in
+pub put-count-requires : goal.put-count-requires
+put-count-requires c =
+    let p = (goal.at.put-count-requires c).After-side-side in
     let most : c.side-side.result.count ≤ 64 = rw c.side-side.ensures (count_most (whole p) c.requires.right c.args.kind) in
     omega (arith, c.loop-i.invariant.few, c.loop-i-test.true, most)
 
@@ -28,9 +28,9 @@ pub loop-i-preserved : goal.loop-i-preserved
 loop-i-preserved c =
     let k = rw c.side-side.ensures at c.loop-i-test.true in
     elim c.if-ready_at.branch [
-      | then-ready_at w ↦ rw w.found-is
-          (gathering-ready c.loop-i.invariant k (sym w.if-ready_at.true ∙ c.ready_at.ensures) w.push.ensures refl)
-      | else-ready_at w ↦ rw w.found-is (gathering-unready c.loop-i.invariant k (sym w.if-ready_at.false ∙ c.ready_at.ensures) refl)
+      | then-ready_at w ↦ rw (w.count-is, w.numbers-is)
+          (gathering-ready c.loop-i.invariant k (sym w.if-ready_at.true ∙ c.ready_at.ensures) w.put-count.ensures refl)
+      | else-ready_at w ↦ rw (w.count-is, w.numbers-is) (gathering-unready c.loop-i.invariant k (sym w.if-ready_at.false ∙ c.ready_at.ensures) refl)
     ]
 
 pub returns : goal.returns

@@ -1,5 +1,5 @@
 // Playing a table file and a trace file: which fault they have, or the run that they are. Both files and what is lent stay runs of their
-// own: `play_files` is public, and C lends `lsq_text` two files and a replay its buffers so. Who has room for every file plays in a `PlayRoom`.
+// own: `play_files` is public, and C lends `lsq_text` two files and a replay its buffers so. `print` plays in a `PlayRoom`.
 ghost use Rattle.std.specs.Prelude.{◌≡◌, ◌&&◌, leb, replicate};
 ghost use Rattle.table.specs.Table.{groups_of};
 ghost use Rattle.queue.specs.Contents.{contents_of};

@@ -192,7 +192,8 @@ fn number_step(read: NumbersRead, byte: u8) -> NumbersRead
 }
 
 // The numbers of a line from a place on, each with one space before it; one of 18446744073709551610 or more counts as
-// 18446744073709551615. Where there is something else, or they are more than 8, it is an `Err`, with those that were read all the same.
+// 18446744073709551615. Where there is something else, or they are more than 8, it is an `Err`, with what the same rules read
+// of the whole line: digits behind the fault go on with the last number.
 pub fn numbers_of(line: &[u8], from: usize) -> Result<Numbers, Numbers>
     ensures { result ≡ numbers_from line.now from }
 {
@@ -260,7 +261,7 @@ fn byte_step(mut read: BytesRead, byte: u8) -> BytesRead
 }
 
 // The bytes of a line from a place on, each two digits with one space before them. Where there is something else, or they are more than
-// 128, it is an `Err`, with those that were read all the same. Not one function with `numbers_of`: what is read so far, the step and the
+// 128, it is an `Err`, with what the same rules read of the whole line. Not one function with `numbers_of`: what is read so far, the step and the
 // end differ, which is all but the `for`.
 pub fn bytes_of(line: &[u8], from: usize) -> Result<Bytes, Bytes>
     ensures { result ≡ bytes_from line.now from }

@@ -8,7 +8,6 @@ mod replays;
 mod texts;
 
 use crate::files::{Files, repeat, replace};
-use printed::text::MOST_TEXT;
 use script::{Obeys, bytes_of, lines_of, named, next_byte, one_line};
 use std::io;
 use std::io::Write;
@@ -44,8 +43,8 @@ fn obey(out: &mut impl Write, files: &mut Files, command: Command, bytes: &[u8])
         Command::Trace => replace(&mut files.trace, bytes),
         Command::MoreTable => repeat(&mut files.table, bytes),
         Command::MoreTrace => repeat(&mut files.trace, bytes),
-        Command::Print => return texts::print(out, files, MOST_TEXT),
-        Command::PrintShort => return texts::print(out, files, MOST_TEXT - 1),
+        Command::Print => return texts::print(out, files),
+        Command::PrintShort => return texts::print_short(out, files),
         Command::Measure => return texts::measure(out, files),
         Command::Replay => return replays::replay(out, files, bytes),
     }

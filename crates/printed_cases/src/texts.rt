@@ -45,14 +45,26 @@ fn show_text(
     }
 }
 
-// The text in a buffer of so many bytes, which are no more than there is room for. It and `measure` stay functions of their own: where one is
-// inlined, its buffer of 1.2 MB lies in the frame of `main`, below that of the other.
-#[inline(never)]
-pub(crate) fn print(out: &mut impl Write, files: &Files, length: usize) -> io::Result<()> {
+// The text in a buffer of so many bytes, which are no more than there is room for. Inlined, so that each of the two below knows its length:
+// one that is too short plays nothing, and has no room for playing on the stack.
+#[inline(always)]
+fn print_in(out: &mut impl Write, files: &Files, length: usize) -> io::Result<()> {
     let mut room = text_buffer();
     let buffer = &mut room[..length.min(MOST_TEXT)];
     let written = text::print(&files.table, &files.trace, buffer);
     show_text(out, buffer, written)
+}
+
+// Both, and `measure`, stay functions of their own: where one is inlined, its buffer of 1.2 MB lies in the frame of `main`, below that of
+// another.
+#[inline(never)]
+pub(crate) fn print(out: &mut impl Write, files: &Files) -> io::Result<()> {
+    print_in(out, files, MOST_TEXT)
+}
+
+#[inline(never)]
+pub(crate) fn print_short(out: &mut impl Write, files: &Files) -> io::Result<()> {
+    print_in(out, files, MOST_TEXT - 1)
 }
 
 // Each byte in turn, added to 31 times what was there, modulo 2^32.

@@ -1,15 +1,15 @@
 -- Laws of what is read of a line, byte by byte.
 use Rattle.std.proofs.Common.{◌≡◌, ℕ, suc, ◌+◌, ◌-◌, ◌*◌, ◌/◌, ◌<◌, ◌≤◌, Bool, true, false, cond, not, nat_eq, List, [], ◌∷◌, length}
-use Rattle.std.proofs.Common.{get_or, take, drop, refl, one-add, drop-cons, arith, Option, Some, None, eqb, ltb, slice_get}
+use Rattle.std.proofs.Common.{get_or, take, drop, refl, one-add, drop-cons, arith, Option, Some, None, Err, eqb, ltb, slice_get}
 use Rattle.std.proofs.Math.ListN.{drop_of_length-le}
 use borrow.Author.Tests.{lt-ltb}
 use Rattle.script.specs.declared.NumbersRead.{NumbersRead}
 use Rattle.script.specs.declared.BytesRead.{BytesRead}
-use Rattle.script.specs.Lines.{pick, read_all, until, begun_by, lines_in}
-use Rattle.script.specs.Decimal.{number_step, number_steps}
 use Rattle.script.specs.declared.Next.{Next}
 use Rattle.script.specs.declared.Next.TheVariants.{Space, First, Second}
-use Rattle.script.specs.Hexadecimal.{hexadecimal, first_digit, second_digit, step_from, byte_step, byte_steps}
+use Rattle.script.specs.Lines.{pick, read_all, until, begun_by, lines_in}
+use Rattle.script.specs.Decimal.{number_step, number_steps, numbers_end, numbers_reply}
+use Rattle.script.specs.Hexadecimal.{hexadecimal, first_digit, second_digit, step_from, byte_step, byte_steps, whole, bytes_end, bytes_reply}
 use Rattle.script.specs.Shapes.{fits_of, fit_from, taken}
 
 -- one byte more, and no more bytes
@@ -34,7 +34,7 @@ picked : {A : Type 0} (P : A → Type 0) (test : Bool) {a b : A} → P a → P b
 picked P true h k = h
 picked P false h k = k
 
--- numbers that are wrong, since the line has something else, are wrong for good
+-- numbers that are wrong, since the line has something else, are wrong for good, and told by `Err`
 abbrev NumbersWrong : NumbersRead → Type 0
 NumbersWrong r = r.right ≡ false
 
@@ -44,6 +44,9 @@ numbers_stay_wrong = read_keeps number_step NumbersWrong λ r b h.
     (picked NumbersWrong r.bare refl (picked NumbersWrong (ltb r.numbers.count 8) h refl))
     (picked NumbersWrong (ltb b 48) refl (picked NumbersWrong (ltb 57 b) refl
     (picked NumbersWrong (eqb r.numbers.count 0) refl (picked NumbersWrong (ltb (r.numbers.count - 1) 8) h refl))))
+
+pub wrong_numbers_are_err : (r : NumbersRead) → r.right ≡ false → numbers_reply (numbers_end r) ≡ Err r.numbers
+wrong_numbers_are_err r h = picked (λ x. numbers_reply x ≡ Err r.numbers) r.bare refl (rw h refl)
 
 -- and so are bytes
 abbrev BytesWrong : BytesRead → Type 0
@@ -64,6 +67,14 @@ byte_stays (Second high) r b h = second_stays r high (hexadecimal b) h
 
 pub bytes_stay_wrong : (r : BytesRead) (l : List ℕ) → r.right ≡ false → (byte_steps r l).right ≡ false
 bytes_stay_wrong = read_keeps byte_step BytesWrong λ r b. byte_stays r.next r b
+
+wrong_whole : (next : Next) (r : BytesRead) → r.right ≡ false → bytes_reply (whole next r) ≡ Err r.bytes
+wrong_whole Space r h = rw h refl
+wrong_whole First r h = refl
+wrong_whole (Second high) r h = refl
+
+pub wrong_bytes_are_err : (r : BytesRead) → r.right ≡ false → bytes_reply (bytes_end r) ≡ Err r.bytes
+wrong_bytes_are_err r h = wrong_whole r.next r h
 
 -- does the ith number fit its letter
 abbrev pub fits_at : List ℕ → ℕ → List ℕ → ℕ → Bool
